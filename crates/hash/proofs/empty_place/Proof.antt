@@ -1,0 +1,19 @@
+-- `hash::empty_place` meets its contract.
+-- Assumes nothing.
+use Rattle.hash.specs.Hashes.{H32, emptyPlace}
+use borrow.Author.Needs.{needs}
+use Rattle.hash.proofs.empty_place.Statement.{statement}
+use Rattle.hash.proofs.empty_place.Tie as tie
+
+returns : tie.Need-returns
+unfolding emptyPlace H32
+returns c = cc
+
+pub empty-place-spec : {M : Type 1} → statement M
+empty-place-spec =
+    tie.close
+    (tie.spec
+    (λ c. search needs)
+    (λ c κs. search needs)
+    (λ c κs. search needs)
+    returns)

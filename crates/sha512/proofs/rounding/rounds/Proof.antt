@@ -1,0 +1,48 @@
+-- `sha512::rounding::rounds` meets its contract. The loop keeps: the working variables are those after t rounds.
+-- Assumes nothing.
+use mathlib.Core.Path.{_≡_, refl}
+use Prim.Native.Nat.{_≤_, _-_, _%_}
+use native.Mathlib.Omega.{arith}
+use Rattle.sha512.specs.Computation.{rounds}
+use Rattle.sha512.specs.Constants.{K}
+use Rattle.sha512.proofs.Turned.{rounds-steps}
+use borrow.Author.Needs.{needs}
+use Rattle.sha512.proofs.rounding.rounds.Statement.{statement}
+use Rattle.sha512.proofs.rounding.rounds.Tie as tie
+
+abbrev Inv-loop : tie.InvT-loop
+Inv-loop w k x₀ t₀ x t = (t ≤ 80) × (t % 8 ≡ 0) × (k ≡ K) × (x ≡ rounds w x₀ t)
+
+abbrev μ-loop : tie.MeasureT-loop
+μ-loop w k x₀ t₀ x t = 80 - t
+
+loop-holds : tie.Need-loop-holds Inv-loop μ-loop
+unfolding rounds
+loop-holds c = (omega arith, omega arith, search needs, refl)
+
+loop-again : tie.Need-loop-again Inv-loop μ-loop
+loop-again c =
+    let l = c .before .before .before in
+    let a = l .before .before .args in (
+      omega arith,
+      omega arith,
+      l .loop .inv .2,
+      rounds-steps _ (a .w .now) (a .s) (l .loop .x) _ (l .loop .t) 8 (l .loop .inv .2) (l .loop .inv .3) (c .eight-rounds .ensures),
+    )
+
+returns : tie.Need-returns Inv-loop μ-loop
+returns c = let all : c .before .loop .t ≡ 80 = omega arith in rw all at (c .before .loop .inv .3)
+
+pub rounds-spec : {M : Type 1} → statement M
+rounds-spec =
+    tie.close
+    (tie.spec
+    Inv-loop
+    μ-loop
+    (λ c κs. search needs)
+    loop-holds
+    (λ c κs. search needs)
+    (λ c. search needs)
+    (λ c. search needs)
+    loop-again
+    returns)
