@@ -1,0 +1,75 @@
+//! The proved Roughtime library, for Rust.
+//!
+//! Each function here calls the function of the proved library that has the same name after `tb_`, and adds nothing to it.
+//! The proofs speak of the library's own code; that these few lines declare and call it rightly is shown by the tests alone,
+//! which compare every function with an implementation that shares no code with the library.
+//!
+//! H, below, is Roughtime's hash: the first 32 bytes of SHA-512.
+//!
+//! ```
+//! let place = trawlbeacon::leaf(b"a request packet");
+//! let root = trawlbeacon::parent(&place, &trawlbeacon::empty_place());
+//! assert_eq!(root.len(), 32);
+//! ```
+
+#![warn(missing_docs)]
+
+mod raw;
+
+/// A SHA-512 digest.
+pub type Digest = [u8; 64];
+
+/// What H gives.
+pub type Hash = [u8; 32];
+
+// Why each call below is sound. The library only reads its inputs and only writes the whole of `out`, and keeps no pointer.
+// A Rust slice's pointer is never null, also where the slice is empty, which the library asks for. A new array is
+// `out`, so it overlaps no input, and it is filled with zeros first, since the library takes `out` for initialised memory.
+
+/// The SHA-512 digest of `message`.
+pub fn sha512(message: &[u8]) -> Digest {
+    let mut out = [0; 64];
+    // SAFETY: see above.
+    unsafe { raw::tb_sha512(message.as_ptr(), message.len(), &mut out) };
+    out
+}
+
+/// The leaf of a request packet in the Merkle tree: H(0x00, packet).
+pub fn leaf(packet: &[u8]) -> Hash {
+    let mut out = [0; 32];
+    // SAFETY: see above.
+    unsafe { raw::tb_leaf(packet.as_ptr(), packet.len(), &mut out) };
+    out
+}
+
+/// The node above two nodes of the tree: H(0x01, left, right).
+pub fn parent(left: &Hash, right: &Hash) -> Hash {
+    let mut out = [0; 32];
+    // SAFETY: see above.
+    unsafe { raw::tb_parent(left, right, &mut out) };
+    out
+}
+
+/// What stands at a leaf of the tree where there is no packet: H(0x00).
+pub fn empty_place() -> Hash {
+    let mut out = [0; 32];
+    // SAFETY: see above.
+    unsafe { raw::tb_empty_place(&mut out) };
+    out
+}
+
+/// The mark by which a request names the server it is meant for: H(0xff, key), of the server's long-term public key.
+pub fn server_mark(key: &[u8; 32]) -> Hash {
+    let mut out = [0; 32];
+    // SAFETY: see above.
+    unsafe { raw::tb_server_mark(key, &mut out) };
+    out
+}
+
+/// The nonce that ties the next request of a chain to `response`: H(response, rand).
+pub fn link(response: &[u8], rand: &[u8; 32]) -> Hash {
+    let mut out = [0; 32];
+    // SAFETY: see above.
+    unsafe { raw::tb_link(response.as_ptr(), response.len(), rand, &mut out) };
+    out
+}

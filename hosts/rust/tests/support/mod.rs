@@ -1,0 +1,80 @@
+//! What the tests share: bytes that are the same in every run, and NIST's files.
+
+// Each test file is a crate of its own that takes this module in, and none of them needs all of it.
+#![allow(dead_code)]
+
+use std::fs;
+use std::path::Path;
+
+/// Marsaglia's xorshift64: no good randomness, but bytes without a pattern that a hash could be right on by luck,
+/// and the same in every run, so that what fails once fails again.
+pub struct Xorshift(u64);
+
+impl Xorshift {
+    /// The seed must not be 0, which xorshift never leaves.
+    pub fn new(seed: u64) -> Self {
+        assert_ne!(seed, 0);
+        Xorshift(seed)
+    }
+
+    pub fn next(&mut self) -> u64 {
+        self.0 ^= self.0 << 13;
+        self.0 ^= self.0 >> 7;
+        self.0 ^= self.0 << 17;
+        self.0
+    }
+
+    pub fn bytes(&mut self, length: usize) -> Vec<u8> {
+        let mut bytes: Vec<u8> = (0..(length + 7) / 8).flat_map(|_| self.next().to_le_bytes()).collect();
+        bytes.truncate(length);
+        bytes
+    }
+
+    pub fn array(&mut self) -> [u8; 32] {
+        self.bytes(32).try_into().expect("32 bytes were asked for")
+    }
+}
+
+/// One entry of a file of NIST's.
+pub struct Entry {
+    pub message: Vec<u8>,
+    pub digest: Vec<u8>,
+}
+
+/// The bytes that `hex` spells, or nothing where it spells none.
+pub fn unhex(hex: &str) -> Option<Vec<u8>> {
+    if !hex.is_ascii() || hex.len() % 2 != 0 {
+        return None;
+    }
+    (0..hex.len()).step_by(2).map(|at| u8::from_str_radix(&hex[at..at + 2], 16).ok()).collect()
+}
+
+/// The entries of a file in vectors/. A line that is not understood stops the test, lest entries pass unread.
+pub fn nist(file: &str) -> Vec<Entry> {
+    let path = Path::new(env!("CARGO_MANIFEST_DIR")).join("../../vectors").join(file);
+    let text = fs::read_to_string(&path).unwrap_or_else(|error| panic!("{}: {error}", path.display()));
+    let (mut bits, mut message, mut entries) = (0, Vec::new(), Vec::new());
+    for line in text.lines().map(str::trim) {
+        if line.is_empty() || line.starts_with('#') || line == "[L = 64]" {
+            continue;
+        }
+        match line.split_once(" = ") {
+            Some(("Len", value)) => bits = value.parse().expect("Len is a number"),
+            Some(("Msg", value)) => message = message_of(bits, value),
+            Some(("MD", value)) => {
+                entries.push(Entry { message: message.clone(), digest: unhex(value).expect("MD is hex") });
+            }
+            _ => panic!("{file}: this line is not understood: {line}"),
+        }
+    }
+    entries
+}
+
+/// NIST writes the empty message as one byte 00, so the length decides.
+fn message_of(bits: usize, hex: &str) -> Vec<u8> {
+    let mut message = unhex(hex).expect("Msg is hex");
+    assert!(bits % 8 == 0 && message.len() >= bits / 8, "Msg has too few bytes for Len = {bits}");
+    assert!(message.len() == bits / 8 || bits == 0, "Msg has too many bytes for Len = {bits}");
+    message.truncate(bits / 8);
+    message
+}

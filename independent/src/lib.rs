@@ -1,0 +1,17 @@
+//! An implementation that shares no code with the proved library, and that the proved library is compared with.
+//!
+//! A proof says that code meets its specification; it cannot say that the specification is the right one. So the same
+//! functions stand here a second time, written from the standards alone in another language, and the tests hold one to the other:
+//! a misreading would have to be made twice, in the same way, to pass.
+//!
+//! Nothing here is proved. It has no dependency but the standard library, and it must never call the proved library
+//! or be derived from it, or the comparison would say nothing.
+//!
+//! Today it has SHA-512 and the hashes that Roughtime makes of it. A packet reader, the Merkle tree, a checker of responses
+//! and of piles of them are to stand beside them.
+
+#![forbid(unsafe_code)]
+#![warn(missing_docs)]
+
+pub mod hash;
+pub mod sha512;
