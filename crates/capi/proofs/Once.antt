@@ -1,19 +1,29 @@
--- Each export's contract settles what it leaves in the lent buffer.
+-- Each export's contract settles its result, and what it leaves in the lent buffer.
 -- Assumes nothing.
 use mathlib.Core.Path.{sym, _∙_}
-use Rattle.laws.proofs.Once.{SettlesExit}
-use Rattle.capi.proofs.tb_sha512.Kinds as tb-sha512-kinds
-use Rattle.capi.proofs.tb_sha512.Reads as tb-sha512-reads
-use Rattle.capi.proofs.tb_leaf.Kinds as tb-leaf-kinds
-use Rattle.capi.proofs.tb_leaf.Reads as tb-leaf-reads
-use Rattle.capi.proofs.tb_parent.Kinds as tb-parent-kinds
-use Rattle.capi.proofs.tb_parent.Reads as tb-parent-reads
-use Rattle.capi.proofs.tb_empty_place.Kinds as tb-empty-place-kinds
-use Rattle.capi.proofs.tb_empty_place.Reads as tb-empty-place-reads
-use Rattle.capi.proofs.tb_server_mark.Kinds as tb-server-mark-kinds
-use Rattle.capi.proofs.tb_server_mark.Reads as tb-server-mark-reads
-use Rattle.capi.proofs.tb_link.Kinds as tb-link-kinds
-use Rattle.capi.proofs.tb_link.Reads as tb-link-reads
+use Rattle.laws.proofs.Once.{Settles, SettlesExit}
+use Rattle.capi.proofs.hashing.tb_sha512.Kinds as tb-sha512-kinds
+use Rattle.capi.proofs.hashing.tb_sha512.Reads as tb-sha512-reads
+use Rattle.capi.proofs.hashing.tb_leaf.Kinds as tb-leaf-kinds
+use Rattle.capi.proofs.hashing.tb_leaf.Reads as tb-leaf-reads
+use Rattle.capi.proofs.hashing.tb_parent.Kinds as tb-parent-kinds
+use Rattle.capi.proofs.hashing.tb_parent.Reads as tb-parent-reads
+use Rattle.capi.proofs.hashing.tb_empty_place.Kinds as tb-empty-place-kinds
+use Rattle.capi.proofs.hashing.tb_empty_place.Reads as tb-empty-place-reads
+use Rattle.capi.proofs.hashing.tb_server_mark.Kinds as tb-server-mark-kinds
+use Rattle.capi.proofs.hashing.tb_server_mark.Reads as tb-server-mark-reads
+use Rattle.capi.proofs.hashing.tb_link.Kinds as tb-link-kinds
+use Rattle.capi.proofs.hashing.tb_link.Reads as tb-link-reads
+use Rattle.capi.proofs.reading.tb_read_request.Kinds as tb-read-request-kinds
+use Rattle.capi.proofs.reading.tb_read_request.Reads as tb-read-request-reads
+use Rattle.capi.proofs.reading.tb_read_response.Kinds as tb-read-response-kinds
+use Rattle.capi.proofs.reading.tb_read_response.Reads as tb-read-response-reads
+use Rattle.capi.proofs.writing.tb_write_request.Kinds as tb-write-request-kinds
+use Rattle.capi.proofs.writing.tb_write_request.Reads as tb-write-request-reads
+use Rattle.capi.proofs.writing.tb_delegation_text.Kinds as tb-delegation-text-kinds
+use Rattle.capi.proofs.writing.tb_delegation_text.Reads as tb-delegation-text-reads
+use Rattle.capi.proofs.writing.tb_response_text.Kinds as tb-response-text-kinds
+use Rattle.capi.proofs.writing.tb_response_text.Reads as tb-response-text-reads
 
 pub tb-sha512-once : SettlesExit 2 tb-sha512-kinds.ps tb-sha512-kinds.r tb-sha512-reads.Post (λ κs e. e .1 .0 .now)
 tb-sha512-once κs a x e y f p q = p ∙ sym q
@@ -32,3 +42,27 @@ tb-server-mark-once κs a x e y f p q = p ∙ sym q
 
 pub tb-link-once : SettlesExit 3 tb-link-kinds.ps tb-link-kinds.r tb-link-reads.Post (λ κs e. e .1 .1 .0 .now)
 tb-link-once κs a x e y f p q = p ∙ sym q
+
+pub tb-read-request-once : Settles 1 tb-read-request-kinds.ps tb-read-request-kinds.r tb-read-request-reads.Post
+tb-read-request-once κs a x e y f p q = p ∙ sym q
+
+pub tb-read-response-once : Settles 1 tb-read-response-kinds.ps tb-read-response-kinds.r tb-read-response-reads.Post
+tb-read-response-once κs a x e y f p q = p ∙ sym q
+
+pub tb-write-request-once : Settles 3 tb-write-request-kinds.ps tb-write-request-kinds.r tb-write-request-reads.Post
+tb-write-request-once κs a x e y f p q = p .0 ∙ sym (q .0)
+
+pub tb-write-request-leaves-once : SettlesExit 3 tb-write-request-kinds.ps tb-write-request-kinds.r tb-write-request-reads.Post (λ κs e. e .1 .1 .0 .now)
+tb-write-request-leaves-once κs a x e y f p q = p .1 ∙ sym (q .1)
+
+pub tb-delegation-text-once : Settles 2 tb-delegation-text-kinds.ps tb-delegation-text-kinds.r tb-delegation-text-reads.Post
+tb-delegation-text-once κs a x e y f p q = p .0 ∙ sym (q .0)
+
+pub tb-delegation-text-leaves-once : SettlesExit 2 tb-delegation-text-kinds.ps tb-delegation-text-kinds.r tb-delegation-text-reads.Post (λ κs e. e .1 .0 .now)
+tb-delegation-text-leaves-once κs a x e y f p q = p .1 ∙ sym (q .1)
+
+pub tb-response-text-once : Settles 2 tb-response-text-kinds.ps tb-response-text-kinds.r tb-response-text-reads.Post
+tb-response-text-once κs a x e y f p q = p .0 ∙ sym (q .0)
+
+pub tb-response-text-leaves-once : SettlesExit 2 tb-response-text-kinds.ps tb-response-text-kinds.r tb-response-text-reads.Post (λ κs e. e .1 .0 .now)
+tb-response-text-leaves-once κs a x e y f p q = p .1 ∙ sym (q .1)

@@ -1,59 +1,33 @@
-// The C boundary. Numbers pass as themselves, a slice as a pointer and a length, an array as a pointer.
+// The C boundary. Numbers pass as themselves, a slice as a pointer and a length, an array as a pointer, an answer as a struct by value.
 // No function asks anything of its caller but that its pointers are valid for their lengths, and not null.
-ghost use mathlib.Core.Path.{_≡_};
-ghost use Rattle.sha512.specs.Computation.{Sha512};
-ghost use Rattle.hash.specs.Hashes.{leafOf, parentOf, emptyPlace, markOf, linkOf};
+// A code is document 01's number, 0 where nothing was refused; what stands beside a refusal is zeros.
+mod hashing;
+mod reading;
+mod writing;
 
-// The SHA-512 digest of s.
-#[no_mangle]
-pub extern "C" fn tb_sha512(s: &[u8], out: &mut [u8; 64])
-    ensures { λ _. ⌜ now (out .exit) ≡ Sha512 (now (s .entry)) ⌝ }
-{
-    let d = sha512::sha512(s);
-    *out = d;
+// What `tb_read_request` answers.
+#[repr(C)]
+pub struct RequestRead {
+    pub code: u32,
+    pub with_srv: u32,
+    pub nonc: [u8; 32],
+    pub srv: [u8; 32],
 }
 
-// A leaf of a tree: H(0x00, packet).
-#[no_mangle]
-pub extern "C" fn tb_leaf(packet: &[u8], out: &mut [u8; 32])
-    ensures { λ _. ⌜ now (out .exit) ≡ leafOf (now (packet .entry)) ⌝ }
-{
-    let d = hash::leaf(packet);
-    *out = d;
+// What `tb_read_response` answers.
+#[repr(C)]
+pub struct ResponseRead {
+    pub midp: u64,
+    pub code: u32,
+    pub indx: u32,
+    pub radi: u32,
+    pub nonc: [u8; 32],
+    pub root: [u8; 32],
 }
 
-// A parent in a tree: H(0x01, left, right).
-#[no_mangle]
-pub extern "C" fn tb_parent(left: &[u8; 32], right: &[u8; 32], out: &mut [u8; 32])
-    ensures { λ _. ⌜ now (out .exit) ≡ parentOf (now (left .entry)) (now (right .entry)) ⌝ }
-{
-    let d = hash::parent(*left, *right);
-    *out = d;
-}
-
-// What an empty place of a tree holds: H(0x00).
-#[no_mangle]
-pub extern "C" fn tb_empty_place(out: &mut [u8; 32])
-    ensures { λ _. ⌜ now (out .exit) ≡ emptyPlace ⌝ }
-{
-    let d = hash::empty_place();
-    *out = d;
-}
-
-// The SRV value of the server with this long-term key: H(0xff, key).
-#[no_mangle]
-pub extern "C" fn tb_server_mark(key: &[u8; 32], out: &mut [u8; 32])
-    ensures { λ _. ⌜ now (out .exit) ≡ markOf (now (key .entry)) ⌝ }
-{
-    let d = hash::server_mark(*key);
-    *out = d;
-}
-
-// The nonce that links a request to the response before it: H(response, rand).
-#[no_mangle]
-pub extern "C" fn tb_link(response: &[u8], rand: &[u8; 32], out: &mut [u8; 32])
-    ensures { λ _. ⌜ now (out .exit) ≡ linkOf (now (response .entry)) (now (rand .entry)) ⌝ }
-{
-    let d = hash::link(response, *rand);
-    *out = d;
+// What the writers of the signed texts answer: the code, and how many bytes were written.
+#[repr(C)]
+pub struct TextWritten {
+    pub code: u64,
+    pub length: u64,
 }

@@ -1,14 +1,16 @@
 -- Laws of numbers in bytes, over the width.
 -- Assumes nothing.
 use mathlib.Core.Path.{_≡_, refl, sym, ap, ap₂, subst⁻¹, _∙_}
-use mathlib.Core.List.{List, _∷_, _++_}
-use Prim.Native.Nat.{ℕ, zero, suc, _+_, _*_, _/_, _%_, _^_, _<_, _∣_}
-use native.Mathlib.Nat.{add-zero, zero-add, add-suc, suc-add, add-assoc, mul-assoc, mul-comm, pow-suc, mod-lt, div-div-eq-div-mul, mod-mod-of-dvd, dvd-mul-left}
+use mathlib.Core.List.{List, [], _∷_, _++_}
+use Prim.Native.Nat.{ℕ, zero, suc, _+_, _*_, _/_, _%_, _^_, _≤_, _<_, _∣_}
+use native.Mathlib.Nat.{add-zero, zero-add, add-suc, suc-add, add-assoc, mul-assoc, mul-comm, pow-suc, mod-lt, div-div-eq-div-mul, mod-mod-of-dvd, dvd-mul-left, div-lt-iff-lt-mul, mul-le-mul-left, le-of-suc-le-suc}
+use native.Mathlib.Numerals.{add-one}
 use native.Mathlib.Omega.{arith}
 use lib.Arith.{digits-div, mod-mul}
 use lib.Pow.{pow-add}
-use lib.ListN.{length, getD}
-use Rattle.laws.specs.Numbers.{le, be, beBytes}
+use lib.ListN.{length, take, drop, getD}
+use lib.Seq.{getD-append-add, drop-cons}
+use Rattle.laws.specs.Numbers.{le, leBytes, be, beBytes}
 
 -- ---- least significant byte first
 
@@ -73,3 +75,57 @@ beBytes-mod i zero n = refl
 beBytes-mod i (suc j) n =
     let e : i + suc j ≡ suc i + j = omega arith in
     rw e (ap₂ (λ (x : ℕ) (l : List ℕ). x ∷ l) (low-digit n i j) (beBytes-mod (suc i) j n))
+
+-- ---- least significant byte first, written and read
+
+-- k bytes are written
+pub length-leBytes : (k n : ℕ) → length (leBytes k n) ≡ k
+unfolding leBytes
+length-leBytes zero n = refl
+length-leBytes (suc k) n = ap suc (length-leBytes k (n / 256))
+
+-- the number in what stands behind p
+pub le-behind : (k : ℕ) (p q : List ℕ) (at : ℕ) → le k (p ++ q) (length p + at) ≡ le k q at
+unfolding le
+le-behind zero p q at = refl
+le-behind (suc k) p q at = rw (le-behind k p q at, add-assoc (length p) at k, getD-append-add p q (at + k) 0)
+
+-- the first byte counts 1, and the k behind it 256
+pub le-cons : (k : ℕ) (s : List ℕ) (at : ℕ) → le (suc k) s at ≡ getD s at 0 + 256 * le k s (at + 1)
+unfolding le
+le-cons k s at =
+    let e : suc k ≡ 1 + k = omega arith in
+    ap (λ (j : ℕ). le j s at) e ∙ le-add 1 k s at ∙ omega (arith, ap (λ (j : ℕ). getD s j 0) (add-zero at))
+
+-- what is written is read, whatever stands behind
+pub le-leBytes : (k n : ℕ) (s : List ℕ) → n < 256 ^ k → le k (leBytes k n ++ s) 0 ≡ n
+unfolding leBytes le
+le-leBytes zero n s h = omega arith
+le-leBytes (suc k) n s h =
+    let q : n / 256 < 256 ^ k = div-lt-iff-lt-mul {k = 256} (omega arith) .1 (rw pow-suc at h) in
+    let b : List ℕ = leBytes k (n / 256) ++ s in
+    le-cons k (n % 256 ∷ b) 0
+    ∙ ap (λ (x : ℕ). n % 256 + 256 * x) (le-behind k (n % 256 ∷ []) b 0 ∙ le-leBytes k (n / 256) s q)
+    ∙ omega arith
+
+module _ (s : List ℕ) (bytes : (i : ℕ) → getD s i 0 < 256) where
+  -- k bytes hold a number below 256 ^ k
+  pub le-bound : (k at : ℕ) → le k s at < 256 ^ k
+  unfolding le
+  le-bound zero at = omega arith
+  le-bound (suc k) at =
+      let low : le k s at < 256 ^ k = le-bound k at in
+      let high : 256 ^ k * getD s (at + k) 0 ≤ 256 ^ k * 255 = mul-le-mul-left (256 ^ k) (le-of-suc-le-suc (bytes (at + k))) in
+      rw pow-suc (omega arith)
+
+  -- what is read, written again, is the bytes that it was read from
+  pub leBytes-le : (k at : ℕ) → at + k ≤ length s → leBytes k (le k s at) ≡ take k (drop at s)
+  unfolding leBytes
+  leBytes-le zero at h = refl
+  leBytes-le (suc k) at h =
+      let b : getD s at 0 < 256 = bytes at in
+      let x : ℕ = le k s (at + 1) in
+      let low : (getD s at 0 + 256 * x) % 256 ≡ getD s at 0 = omega arith in
+      let high : (getD s at 0 + 256 * x) / 256 ≡ x = omega arith in
+      rw (le-cons k s at, low, high, drop-cons s at 0 (omega arith))
+      (ap (λ (l : List ℕ). getD s at 0 ∷ l) (leBytes-le k (at + 1) (omega arith) ∙ rw add-one))

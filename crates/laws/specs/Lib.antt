@@ -1,5 +1,6 @@
 -- Definitions that several crates' contracts cite. The laws about them stand in proofs/, under the same names.
 pub mod Any
+pub mod Ascii
 pub mod First
 pub mod Least
 pub mod Numbers

@@ -1,0 +1,51 @@
+-- `message::frame::frame_code` meets its contract. Each return is the first refusal of its row.
+-- Assumes nothing.
+use Rattle.laws.proofs.First.{chain}
+use Rattle.message.proofs.Framed.{sized, headed}
+use Rattle.message.specs.Frame.{frameCode}
+use borrow.Author.Needs.{needs}
+use Rattle.message.proofs.frame.frame_code.Statement.{statement}
+use Rattle.message.proofs.frame.frame_code.Tie as tie
+
+returns : tie.Need-returns
+unfolding frameCode
+returns c = search chain depth 9
+
+count-bad-requires : tie.Need-count-bad-requires
+count-bad-requires c κs = search (sized, needs)
+
+returns-2 : tie.Need-returns-2
+unfolding frameCode
+returns-2 c = search chain depth 9
+
+offsets-bad-requires : tie.Need-offsets-bad-requires
+offsets-bad-requires c κs = (search (sized, needs), search (headed, needs))
+
+returns-3 : tie.Need-returns-3
+unfolding frameCode
+returns-3 c = search chain depth 9
+
+tags-bad-requires : tie.Need-tags-bad-requires
+tags-bad-requires c κs = (search (sized, needs), search (headed, needs))
+
+returns-4 : tie.Need-returns-4
+unfolding frameCode
+returns-4 c = search chain depth 9
+
+returns-5 : tie.Need-returns-5
+unfolding frameCode
+returns-5 c = search chain depth 9
+
+pub frame-code-spec : {M : Type 1} → statement M
+frame-code-spec =
+    tie.close
+    (tie.spec
+    (λ c κs. search needs)
+    returns
+    count-bad-requires
+    returns-2
+    offsets-bad-requires
+    returns-3
+    tags-bad-requires
+    returns-4
+    returns-5)

@@ -1,0 +1,109 @@
+// The frame of a message: its length, N, the offsets and the tags. Scans answer the place where they stop.
+ghost use mathlib.Core.Path.{_≡_};
+ghost use Prim.Native.Nat.{_+_, _*_, _-_, _<_, _≤_};
+ghost use lib.ListN.{length};
+ghost use Rattle.message.specs.Frame.{count, firstFall, firstBadOffset, lengthBad, countBad, offsetsBad, tagsBad, frameCode};
+ghost use Rattle.message.specs.Facts.{Sized, Headed};
+use octets::le32;
+
+// Codes 4 and 5 of a message, 0 where its frame is good.
+pub fn frame_code(m: &[u8]) -> u8
+    ensures { λ r. ⌜ r ≡ frameCode (now (m .entry)) ⌝ }
+{
+    if length_bad(m) {
+        return 4;
+    }
+    if count_bad(m) {
+        return 4;
+    }
+    if offsets_bad(m) {
+        return 4;
+    }
+    if tags_bad(m) {
+        return 5;
+    }
+    0
+}
+
+// The length is under 4 bytes or no multiple of 4.
+fn length_bad(m: &[u8]) -> bool
+    ensures { λ r. ⌜ r ≡ lengthBad (now (m .entry)) ⌝ }
+{
+    if m.len() < 4 {
+        return true;
+    }
+    m.len() % 4 != 0
+}
+
+// N isn't 1 to 32, or the header is too long.
+fn count_bad(m: &[u8]) -> bool
+    requires { ⌜ Sized (now m) ⌝ }
+    ensures { λ r. ⌜ r ≡ countBad (now (m .entry)) ⌝ }
+{
+    let n = le32(m, 0) as usize;
+    if n == 0 {
+        return true;
+    }
+    if 32 < n {
+        return true;
+    }
+    m.len() < 8 * n
+}
+
+// Some offset is wrong.
+fn offsets_bad(m: &[u8]) -> bool
+    requires { ⌜ Sized (now m) × Headed (now m) ⌝ }
+    ensures { λ r. ⌜ r ≡ offsetsBad (now (m .entry)) ⌝ }
+{
+    let n = le32(m, 0) as usize;
+    first_bad_offset(m, n) < n - 1
+}
+
+// Some tag isn't above the one before it.
+fn tags_bad(m: &[u8]) -> bool
+    requires { ⌜ Sized (now m) × Headed (now m) ⌝ }
+    ensures { λ r. ⌜ r ≡ tagsBad (now (m .entry)) ⌝ }
+{
+    let n = le32(m, 0) as usize;
+    first_fall(m, 4 * n, n) < n - 1
+}
+
+// The first k below n - 1 at which offset k + 1 is wrong; n - 1 where there is none.
+fn first_bad_offset(m: &[u8], n: usize) -> usize
+    requires { ⌜ (n ≡ count (now m)) × (0 < n) × (8 * n ≤ length (now m)) ⌝ }
+    ensures { λ r. ⌜ r ≡ firstBadOffset (now (m .entry)) ⌝ }
+{
+    let section = m.len() - 8 * n;
+    let mut last = 0;
+    let mut k = 0;
+    while k < n - 1 {
+        let o = le32(m, 4 * (k + 1)) as usize;
+        if o % 4 != 0 {
+            return k;
+        }
+        if o < last {
+            return k;
+        }
+        if section < o {
+            return k;
+        }
+        last = o;
+        k += 1;
+    }
+    k
+}
+
+// The first k below n - 1 at which word k + 1 of those from `at` isn't above word k; n - 1 where they all rise.
+pub fn first_fall(s: &[u8], at: usize, n: usize) -> usize
+    requires { ⌜ (0 < n) × (at + 4 * n ≤ length (now s)) ⌝ }
+    ensures { λ r. ⌜ r ≡ firstFall (now (s .entry)) at n ⌝ }
+{
+    let mut k = 0;
+    while k < n - 1 {
+        if le32(s, at + 4 * (k + 1)) <= le32(s, at + 4 * k) {
+            return k;
+        }
+        k += 1;
+    }
+    k
+}

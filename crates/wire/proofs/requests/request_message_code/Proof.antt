@@ -1,0 +1,49 @@
+-- `wire::requests::request_message_code` meets its contract. Each return is the first refusal of the row.
+-- Assumes nothing.
+use native.Mathlib.Omega.{arith}
+use mathlib.Core.Path.{sym, _∙_}
+use Rattle.laws.proofs.First.{chain, last}
+use Rattle.message.proofs.Kept.{message-good, kept-length}
+use Rattle.wire.specs.Request.{requestMessageCode}
+use Rattle.wire.specs.Tables.{requestTable}
+use borrow.Author.Needs.{needs}
+use Rattle.wire.proofs.requests.request_message_code.Statement.{statement}
+use Rattle.wire.proofs.requests.request_message_code.Tie as tie
+
+number32-requires : tie.Need-number32-requires
+number32-requires c κs = (
+  search (message-good, needs),
+  omega (arith, kept-length _ requestTable 3 (sym (c .before .message-code .ensures) ∙ c .if1 .left) tt tt tt),
+)
+
+lacks-version-requires : tie.Need-lacks-version-requires
+lacks-version-requires c κs = search (message-good, needs)
+
+returns : tie.Need-returns
+unfolding requestMessageCode
+returns c = search (chain, last) depth 9
+
+returns-2 : tie.Need-returns-2
+unfolding requestMessageCode
+returns-2 c = search (chain, last) depth 9
+
+returns-3 : tie.Need-returns-3
+unfolding requestMessageCode
+returns-3 c = search (chain, last) depth 9
+
+returns-4 : tie.Need-returns-4
+unfolding requestMessageCode
+returns-4 c = search (chain, last) depth 9
+
+pub request-message-code-spec : {M : Type 1} → statement M
+request-message-code-spec =
+    tie.close
+    (tie.spec
+    (λ c. search needs)
+    (λ c κs. search needs)
+    returns
+    number32-requires
+    returns-2
+    lacks-version-requires
+    returns-3
+    returns-4)

@@ -1,0 +1,71 @@
+-- Reading a response (draft 19, 5.2): codes 1 to 8 in order, and what a good one says.
+use Prim.Native.Nat.{ℕ}
+use mathlib.Core.List.{List, [], _∷_}
+use mathlib.Core.Bool.{not, cond}
+use lib.Dec.{eqb}
+use Rattle.laws.specs.First.{first, when}
+use Rattle.laws.specs.Numbers.{le}
+use Rattle.message.specs.Rules.{messageCode}
+use Rattle.message.specs.Tags.{VER, NONC, DELE, TYPE, RADI, MIDP, SREP, ROOT, CERT, INDX}
+use Rattle.message.specs.Values.{valueOf}
+use Rattle.wire.specs.Packet.{packetCode, body}
+use Rattle.wire.specs.Request.{noBytes}
+use Rattle.wire.specs.Tables.{rootTable, srepTable, certTable, deleTable}
+use Rattle.wire.specs.declared.Answer.the-variants.{Passed, Refused}
+use Rattle.wire.specs.declared.Response.{Response}
+
+-- the messages within a response's
+abbrev pub srep : List ℕ → List ℕ
+srep m = valueOf m SREP
+
+abbrev pub cert : List ℕ → List ℕ
+cert m = valueOf m CERT
+
+abbrev pub dele : List ℕ → List ℕ
+dele m = valueOf (cert m) DELE
+
+-- codes 4 to 7 of the message m: the root's, then SREP's, CERT's, DELE's
+unfoldable pub shapeCode : List ℕ → ℕ
+shapeCode m =
+    first
+    (messageCode m rootTable
+    ∷ messageCode (srep m) srepTable
+    ∷ messageCode (cert m) certTable
+    ∷ messageCode (dele m) deleTable
+    ∷ [])
+
+-- codes 1 to 7 of a response packet: what the signed texts ask
+unfoldable pub signedCode : List ℕ → ℕ
+signedCode p = first (packetCode p ∷ shapeCode (body p) ∷ [])
+
+-- codes 4 to 8: the shape, then that TYPE is 1 and SREP's VER is 1
+unfoldable pub responseMessageCode : List ℕ → ℕ
+responseMessageCode m =
+    first
+    (shapeCode m
+    ∷ when (not (eqb (le 4 (valueOf m TYPE) 0) 1)) 8
+    ∷ when (not (eqb (le 4 (valueOf (srep m) VER) 0) 1)) 8
+    ∷ [])
+
+-- codes 1 to 8 of a response packet
+unfoldable pub responseCode : List ℕ → ℕ
+responseCode p = first (packetCode p ∷ responseMessageCode (body p) ∷ [])
+
+-- the answer to a refused response
+abbrev pub noResponse : ℕ → Response
+noResponse code = record { answer = Refused code; nonc = noBytes; indx = 0; midp = 0; radi = 0; root = noBytes }
+
+-- the answer to a good one, of its message
+unfoldable pub responseIn : List ℕ → Response
+responseIn m =
+    record {
+      answer = Passed;
+      nonc = valueOf m NONC;
+      indx = le 4 (valueOf m INDX) 0;
+      midp = le 8 (valueOf (srep m) MIDP) 0;
+      radi = le 4 (valueOf (srep m) RADI) 0;
+      root = valueOf (srep m) ROOT;
+    }
+
+unfoldable pub responseOf : List ℕ → Response
+responseOf p = cond (eqb (responseCode p) 0) (responseIn (body p)) (noResponse (responseCode p))

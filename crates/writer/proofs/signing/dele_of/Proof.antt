@@ -1,0 +1,19 @@
+-- `writer::signing::dele_of` meets its contract.
+-- Assumes nothing.
+use borrow.Author.Needs.{needs}
+use Rattle.writer.proofs.signing.dele_of.Statement.{statement}
+use Rattle.writer.proofs.signing.dele_of.Tie as tie
+
+value-of-requires-2 : tie.Need-value-of-requires-2
+value-of-requires-2 c κs = rw (c .value-of .ensures) (search needs)
+
+returns : tie.Need-returns
+returns c = cc
+
+pub dele-of-spec : {M : Type 1} → statement M
+dele-of-spec =
+    tie.close
+    (tie.spec
+    (λ c κs. search needs)
+    value-of-requires-2
+    returns)

@@ -1,0 +1,3 @@
+-- What we write: what a reader must believe is Asking and Signing.
+pub mod Asking
+pub mod Signing

@@ -1,0 +1,64 @@
+// The two texts of a response that are signed, for the caller to verify: a context string, and then the value of DELE or of SREP.
+ghost use mathlib.Core.Path.{_≡_};
+ghost use mathlib.Core.List.{_++_};
+ghost use Rattle.message.specs.Facts.{Good};
+ghost use Rattle.wire.specs.Response.{cert, dele, signedCode};
+ghost use Rattle.writer.specs.Signing.{delegationText, responseText, textAnswer, textLeft};
+use super::Text;
+use message::tags::CERT;
+use message::tags::DELE;
+use message::tags::SREP;
+use message::value_of;
+use octets::put;
+use wire::packet::body_of;
+use wire::signed_code;
+
+pub const DELEGATION: [u8; 34] = *b"RoughTime v1 delegation signature\0";
+
+pub const RESPONSE: [u8; 32] = *b"RoughTime v1 response signature\0";
+
+// The delegation text of a response packet, at the front of out.
+pub fn delegation_text(p: &[u8], out: &mut [u8]) -> Text
+    ensures { λ r. ⌜ r ≡ textAnswer (signedCode (now (p .entry))) (delegationText (now (p .entry))) (now (out .entry)) ⌝ }
+    ensures { λ r. ⌜ now (out .exit) ≡ textLeft r (delegationText (now (p .entry))) (now (out .entry)) ⌝ }
+{
+    let c = signed_code(p);
+    if c != 0 {
+        return Text::Refused(c);
+    }
+    write_text(&DELEGATION, dele_of(body_of(p)), out)
+}
+
+// The response text of a response packet, at the front of out.
+pub fn response_text(p: &[u8], out: &mut [u8]) -> Text
+    ensures { λ r. ⌜ r ≡ textAnswer (signedCode (now (p .entry))) (responseText (now (p .entry))) (now (out .entry)) ⌝ }
+    ensures { λ r. ⌜ now (out .exit) ≡ textLeft r (responseText (now (p .entry))) (now (out .entry)) ⌝ }
+{
+    let c = signed_code(p);
+    if c != 0 {
+        return Text::Refused(c);
+    }
+    write_text(&RESPONSE, value_of(body_of(p), SREP), out)
+}
+
+// The value of DELE, which stands in CERT.
+fn dele_of(m: &[u8]) -> &[u8]
+    requires { ⌜ Good (now m) × Good (cert (now m)) ⌝ }
+    ensures { λ r. ⌜ now r ≡ dele (now (m .entry)) ⌝ }
+{
+    value_of(value_of(m, CERT), DELE)
+}
+
+// The two after each other, at the front of out.
+fn write_text(context: &[u8], value: &[u8], out: &mut [u8]) -> Text
+    ensures { λ r. ⌜ r ≡ textAnswer 0 (now (context .entry) ++ now (value .entry)) (now (out .entry)) ⌝ }
+    ensures { λ r. ⌜ now (out .exit) ≡ textLeft r (now (context .entry) ++ now (value .entry)) (now (out .entry)) ⌝ }
+{
+    let n = context.len() + value.len();
+    if out.len() < n {
+        return Text::Refused(19);
+    }
+    put(out, 0, context);
+    put(out, context.len(), value);
+    Text::Wrote(n)
+}
