@@ -1,8 +1,10 @@
 /* Calls the proved library from C, and so shows that the header declares it as it was compiled.
  *
  * It hashes "abc" and the empty message and compares the digests with NIST's, then holds each other function to what the header
- * says of it, by the digest of its parts joined. Whether the digests are right at every length is for the tests of hosts/rust.
+ * says of it: a hash by the digest of its parts joined, a reader by a request of ours and by a response that draft 19 prints, a
+ * writer by what it leaves in a buffer. Whether all of that is right on every input is for the tests of hosts/rust.
  */
+#include "response.h"
 #include "trawlbeacon.h"
 
 #include <stdio.h>
@@ -15,7 +17,12 @@ static const char ABC[] = "ddaf35a193617abacc417349ae20413112e6fa4e89a97ea20a9ee
 static const char EMPTY[] = "cf83e1357eefb8bdf1542850d66d8007d620e4050b5715dc83f4a921d36ce9ce"
                             "47d0d13c5d85f2b0ff8318d2877eec2f63b931bd47417a81a538327af927da3e";
 
-static int differing;
+enum { RESPONSE_LENGTH = (sizeof RESPONSE - 1) / 2 };
+
+/* Where things stand in that response. */
+enum { NONC_AT = 132, SREP_AT = 168, SREP_LENGTH = 92, ROOT_AT = 228, DELE_AT = 340, DELE_LENGTH = 72 };
+
+static int compared, differing;
 
 /* Writes n bytes as hex, which takes 2n characters and the end of a string. */
 static void to_hex(const uint8_t *bytes, size_t n, char *text) {
@@ -23,27 +30,53 @@ static void to_hex(const uint8_t *bytes, size_t n, char *text) {
     for (size_t i = 0; i < n; i++) sprintf(text + 2 * i, "%02x", bytes[i]);
 }
 
+/* Reads 2n characters of hex. */
+static void from_hex(const char *text, uint8_t *bytes, size_t n) {
+    for (size_t i = 0; i < n; i++) {
+        unsigned byte = 0;
+        sscanf(text + 2 * i, "%2x", &byte);
+        bytes[i] = (uint8_t)byte;
+    }
+}
+
+static void expect_number(const char *what, uint64_t is, uint64_t should) {
+    compared++;
+    if (is == should) return;
+    printf("%s differs: it is %llu, and it should be %llu\n", what, (unsigned long long)is, (unsigned long long)should);
+    differing++;
+}
+
+/* Compares n bytes, of which it shows the first 64. */
+static void expect_bytes(const char *what, const uint8_t *is, const uint8_t *should, size_t n) {
+    char is_text[2 * 64 + 1], should_text[2 * 64 + 1];
+    compared++;
+    if (memcmp(is, should, n) == 0) return;
+    to_hex(is, n < 64 ? n : 64, is_text);
+    to_hex(should, n < 64 ? n : 64, should_text);
+    printf("%s differs:\n  it is        %s\n  it should be %s\n", what, is_text, should_text);
+    differing++;
+}
+
+/* Compares every one of n bytes with one byte. */
+static void expect_all(const char *what, const uint8_t *is, uint8_t should, size_t n) {
+    size_t same = 0;
+    while (same < n && is[same] == should) same++;
+    expect_number(what, same, n);
+}
+
 /* Compares a digest of 64 bytes with the hex that it should be. */
 static void expect_digest(const char *what, const uint8_t *message, size_t n, const char *expected) {
-    uint8_t out[64] = {0};
-    char text[2 * 64 + 1];
+    uint8_t out[64] = {0}, should[64];
     tb_sha512(message, n, out);
-    to_hex(out, sizeof out, text);
-    if (strcmp(text, expected) == 0) return;
-    printf("%s differs:\n  it is        %s\n  it should be %s\n", what, text, expected);
-    differing++;
+    from_hex(expected, should, sizeof should);
+    expect_bytes(what, out, should, sizeof out);
 }
 
 /* Compares a hash of 32 bytes with the start of the digest of the message that it should be the hash of. */
 static void expect_hash(const char *what, const uint8_t hash[32], const uint8_t *message, size_t n) {
     uint8_t digest[64] = {0};
-    char is[2 * 32 + 1], should[2 * 32 + 1];
     tb_sha512(message, n, digest);
-    if (memcmp(hash, digest, 32) == 0) return;
-    to_hex(hash, 32, is);
-    to_hex(digest, 32, should);
-    printf("%s differs:\n  it is        %s\n  it should be %s\n", what, is, should);
-    differing++;
+    expect_bytes(what, hash, digest, 32);
 }
 
 /* Each function over parts that stand one after the other in one array, beside the hash of that array. */
@@ -69,15 +102,101 @@ static void expect_hashes(void) {
     expect_hash("tb_link", out, joined, 65);
 }
 
+/* Writes a request, where there is room and where there is none, and reads it back. */
+static void expect_request(void) {
+    uint8_t key[32], nonce[32], mark[32] = {0}, out[TB_REQUEST_LENGTH + 8];
+    memset(key, 0x11, sizeof key);
+    memset(nonce, 0x22, sizeof nonce);
+    memset(out, 0xee, sizeof out);
+    tb_server_mark(key, mark);
+
+    expect_number("tb_write_request without room", tb_write_request(key, nonce, out, TB_REQUEST_LENGTH - 1), 19);
+    expect_all("a buffer without room", out, 0xee, sizeof out);
+    expect_number("tb_write_request", tb_write_request(key, nonce, out, sizeof out), 0);
+    expect_all("what follows the request", out + TB_REQUEST_LENGTH, 0xee, 8);
+
+    struct tb_request read = tb_read_request(out, TB_REQUEST_LENGTH);
+    expect_number("code of the request", read.code, 0);
+    expect_number("with_srv of the request", read.with_srv, 1);
+    expect_bytes("nonc of the request", read.nonc, nonce, sizeof nonce);
+    expect_bytes("srv of the request", read.srv, mark, sizeof mark);
+}
+
+static void expect_refused_request(const uint8_t *packet, size_t n, uint32_t code) {
+    struct tb_request read = tb_read_request(packet, n);
+    expect_number("code of a refused request", read.code, code);
+    expect_number("with_srv of a refused request", read.with_srv, 0);
+    expect_all("nonc of a refused request", read.nonc, 0, sizeof read.nonc);
+    expect_all("srv of a refused request", read.srv, 0, sizeof read.srv);
+}
+
+static void expect_refused_response(const uint8_t *packet, size_t n, uint32_t code) {
+    struct tb_response read = tb_read_response(packet, n);
+    expect_number("code of a refused response", read.code, code);
+    expect_number("midp of a refused response", read.midp, 0);
+    expect_number("indx of a refused response", read.indx, 0);
+    expect_number("radi of a refused response", read.radi, 0);
+    expect_all("nonc of a refused response", read.nonc, 0, sizeof read.nonc);
+    expect_all("root of a refused response", read.root, 0, sizeof read.root);
+}
+
+static void expect_response(const uint8_t *packet) {
+    struct tb_response read = tb_read_response(packet, RESPONSE_LENGTH);
+    expect_number("code of the response", read.code, 0);
+    expect_number("midp of the response", read.midp, 1773685571);
+    expect_number("indx of the response", read.indx, 0);
+    expect_number("radi of the response", read.radi, 3);
+    expect_bytes("nonc of the response", read.nonc, packet + NONC_AT, sizeof read.nonc);
+    expect_bytes("root of the response", read.root, packet + ROOT_AT, sizeof read.root);
+
+    /* It has no VER, which a request needs. Cut short it is neither. */
+    expect_refused_request(packet, RESPONSE_LENGTH, 6);
+    expect_refused_request(packet, 11, 1);
+    expect_refused_response(packet, RESPONSE_LENGTH - 4, 3);
+    expect_refused_response(packet, 0, 1);
+}
+
+typedef struct tb_text writer(const uint8_t *packet, size_t n, uint8_t *out, size_t m);
+
+/* Writes a text, where there is room and where there is none: the context with its zero byte, then the value. */
+static void expect_text(writer *write, const uint8_t *packet, const char *context, const uint8_t *value, size_t n) {
+    uint8_t out[200];
+    size_t front = strlen(context) + 1;
+    memset(out, 0xee, sizeof out);
+    struct tb_text text = write(packet, RESPONSE_LENGTH, out, front + n - 1);
+    expect_number("code of a text without room", text.code, 19);
+    expect_number("length of a text without room", text.length, 0);
+    text = write(packet, 12, out, sizeof out);
+    expect_number("code of a text of a packet cut short", text.code, 3);
+    expect_number("length of a text of a packet cut short", text.length, 0);
+    expect_all("the buffer of a refused text", out, 0xee, sizeof out);
+
+    text = write(packet, RESPONSE_LENGTH, out, sizeof out);
+    expect_number("code of a text", text.code, 0);
+    expect_number("length of a text", text.length, front + n);
+    expect_bytes("context of a text", out, (const uint8_t *)context, front);
+    expect_bytes("value of a text", out + front, value, n);
+    expect_all("what follows a text", out + front + n, 0xee, sizeof out - front - n);
+}
+
 int main(void) {
     const uint8_t *abc = (const uint8_t *)"abc";
+    uint8_t packet[RESPONSE_LENGTH], kept[RESPONSE_LENGTH];
+    from_hex(RESPONSE, packet, sizeof packet);
+    memcpy(kept, packet, sizeof packet);
+
     expect_digest("the digest of \"abc\"", abc, 3, ABC);
     expect_digest("the digest of the empty message", abc, 0, EMPTY);
     expect_hashes();
+    expect_request();
+    expect_response(packet);
+    expect_text(tb_delegation_text, packet, "RoughTime v1 delegation signature", packet + DELE_AT, DELE_LENGTH);
+    expect_text(tb_response_text, packet, "RoughTime v1 response signature", packet + SREP_AT, SREP_LENGTH);
+    expect_bytes("the packet after all calls", packet, kept, sizeof packet);
     if (differing > 0) {
-        printf("the C host: %d of 8 comparisons differ\n", differing);
+        printf("the C host: %d of %d comparisons differ\n", differing, compared);
         return 1;
     }
-    printf("the C host: 8 comparisons agree\n");
+    printf("the C host: %d comparisons agree\n", compared);
     return 0;
 }

@@ -7,11 +7,23 @@
 //! Nothing here is proved. It has no dependency but the standard library, and it must never call the proved library
 //! or be derived from it, or the comparison would say nothing.
 //!
-//! Today it has SHA-512 and the hashes that Roughtime makes of it. A packet reader, the Merkle tree, a checker of responses
-//! and of piles of them are to stand beside them.
+//! Today it has SHA-512, the hashes that Roughtime makes of it, a reader of packets, requests and responses, the writer of a request,
+//! and the texts that are signed. The Merkle tree, a checker of responses and of piles of them are to stand beside them.
 
 #![forbid(unsafe_code)]
 #![warn(missing_docs)]
 
 pub mod hash;
+pub mod message;
+pub mod packet;
+pub mod refusal;
+pub mod request;
+pub mod response;
 pub mod sha512;
+pub mod tag;
+pub mod text;
+pub mod value;
+pub mod write;
+
+/// The version of Roughtime that draft 19 describes, and the only one that is known here.
+pub const VERSION: u32 = 1;

@@ -7,14 +7,29 @@
 //! H, below, is Roughtime's hash: the first 32 bytes of SHA-512.
 //!
 //! ```
-//! let place = trawlbeacon::leaf(b"a request packet");
-//! let root = trawlbeacon::parent(&place, &trawlbeacon::empty_place());
-//! assert_eq!(root.len(), 32);
+//! let (key, nonce) = ([1; 32], [2; 32]);
+//! let mut packet = [0; trawlbeacon::REQUEST_LENGTH];
+//! trawlbeacon::write_request(&key, &nonce, &mut packet)?;
+//!
+//! let request = trawlbeacon::read_request(&packet)?;
+//! assert_eq!(request.nonc, nonce);
+//! assert_eq!(request.srv, Some(trawlbeacon::server_mark(&key)));
+//!
+//! // A request is no response: it has no SIG, which is a refusal with the code 6.
+//! assert_eq!(trawlbeacon::read_response(&packet).unwrap_err().code(), 6);
+//! # Ok::<(), trawlbeacon::Refusal>(())
 //! ```
 
 #![warn(missing_docs)]
 
-mod raw;
+mod packets;
+pub mod raw;
+mod refusal;
+
+pub use packets::{
+    delegation_text, read_request, read_response, response_text, write_request, Request, Response, REQUEST_LENGTH,
+};
+pub use refusal::Refusal;
 
 /// A SHA-512 digest.
 pub type Digest = [u8; 64];

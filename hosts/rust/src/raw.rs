@@ -1,13 +1,73 @@
-//! The C functions of the proved library, as `hosts/c/trawlbeacon.h` declares them.
+//! The C functions of the proved library, and the structs that they answer with, as `hosts/c/trawlbeacon.h` declares them.
 //!
 //! A slice is passed as a pointer and then a length. The pointer must not be null, whatever the length.
 //! A reference to an array is a plain pointer to C, and says here how many bytes it must lead to.
+//! What is written to must be initialised, and must overlap nothing that is read.
+
+/// What [`tb_read_request`] answers.
+#[repr(C)]
+#[derive(Clone, Copy, Debug, PartialEq, Eq)]
+pub struct Request {
+    /// 0, or a refusal; then all else is 0.
+    pub code: u32,
+    /// 1 where the request has an SRV, else 0; then `srv` is all 0.
+    pub with_srv: u32,
+    /// NONC.
+    pub nonc: [u8; 32],
+    /// SRV.
+    pub srv: [u8; 32],
+}
+
+/// What [`tb_read_response`] answers.
+#[repr(C)]
+#[derive(Clone, Copy, Debug, PartialEq, Eq)]
+pub struct Response {
+    /// MIDP.
+    pub midp: u64,
+    /// 0, or a refusal; then all else is 0.
+    pub code: u32,
+    /// INDX.
+    pub indx: u32,
+    /// RADI.
+    pub radi: u32,
+    /// NONC.
+    pub nonc: [u8; 32],
+    /// ROOT.
+    pub root: [u8; 32],
+}
+
+/// What a function answers that writes a text.
+#[repr(C)]
+#[derive(Clone, Copy, Debug, PartialEq, Eq)]
+pub struct Text {
+    /// 0, or a refusal.
+    pub code: u64,
+    /// How many bytes were written: 0 on a refusal.
+    pub length: u64,
+}
 
 extern "C" {
+    /// SHA-512.
     pub fn tb_sha512(s: *const u8, n: usize, out: &mut [u8; 64]);
+    /// The leaf of a request packet.
     pub fn tb_leaf(packet: *const u8, n: usize, out: &mut [u8; 32]);
+    /// The node above two nodes.
     pub fn tb_parent(left: &[u8; 32], right: &[u8; 32], out: &mut [u8; 32]);
+    /// A leaf without a packet.
     pub fn tb_empty_place(out: &mut [u8; 32]);
+    /// The mark of a server's key.
     pub fn tb_server_mark(key: &[u8; 32], out: &mut [u8; 32]);
+    /// The nonce of the next request of a chain.
     pub fn tb_link(response: *const u8, n: usize, rand: &[u8; 32], out: &mut [u8; 32]);
+
+    /// Reads a request.
+    pub fn tb_read_request(packet: *const u8, n: usize) -> Request;
+    /// Reads a response.
+    pub fn tb_read_response(packet: *const u8, n: usize) -> Response;
+    /// Writes a request; answers 0 or 19.
+    pub fn tb_write_request(key: &[u8; 32], nonce: &[u8; 32], out: *mut u8, n: usize) -> u32;
+    /// Writes what the signature in CERT was made of.
+    pub fn tb_delegation_text(packet: *const u8, n: usize, out: *mut u8, m: usize) -> Text;
+    /// Writes what the signature of SREP was made of.
+    pub fn tb_response_text(packet: *const u8, n: usize, out: *mut u8, m: usize) -> Text;
 }

@@ -1,7 +1,15 @@
-//! What the tests share: bytes that are the same in every run, and NIST's files.
+//! What the tests share: bytes that are the same in every run, the files in vectors/, packets right and wrong, and the comparison of
+//! the two sides.
 
 // Each test file is a crate of its own that takes this module in, and none of them needs all of it.
 #![allow(dead_code)]
+
+pub mod answers;
+pub mod base64;
+pub mod damage;
+pub mod packets;
+pub mod report;
+pub mod tally;
 
 use std::fs;
 use std::path::Path;
@@ -33,6 +41,30 @@ impl Xorshift {
     pub fn array(&mut self) -> [u8; 32] {
         self.bytes(32).try_into().expect("32 bytes were asked for")
     }
+
+    /// A number from 0 to `end - 1`.
+    pub fn below(&mut self, end: usize) -> usize {
+        (self.next() % end as u64) as usize
+    }
+
+    /// True once in `times`.
+    pub fn once_in(&mut self, times: usize) -> bool {
+        self.below(times) == 0
+    }
+
+    pub fn pick<T: Copy>(&mut self, from: &[T]) -> T {
+        from[self.below(from.len())]
+    }
+}
+
+/// The text of a file in vectors/.
+pub fn vectors(file: &str) -> String {
+    let path = Path::new(env!("CARGO_MANIFEST_DIR")).join("../../vectors").join(file);
+    fs::read_to_string(&path).unwrap_or_else(|error| panic!("{}: {error}", path.display()))
+}
+
+pub fn hex(bytes: &[u8]) -> String {
+    bytes.iter().map(|byte| format!("{byte:02x}")).collect()
 }
 
 /// One entry of a file of NIST's.
@@ -51,8 +83,7 @@ pub fn unhex(hex: &str) -> Option<Vec<u8>> {
 
 /// The entries of a file in vectors/. A line that is not understood stops the test, lest entries pass unread.
 pub fn nist(file: &str) -> Vec<Entry> {
-    let path = Path::new(env!("CARGO_MANIFEST_DIR")).join("../../vectors").join(file);
-    let text = fs::read_to_string(&path).unwrap_or_else(|error| panic!("{}: {error}", path.display()));
+    let text = vectors(file);
     let (mut bits, mut message, mut entries) = (0, Vec::new(), Vec::new());
     for line in text.lines().map(str::trim) {
         if line.is_empty() || line.starts_with('#') || line == "[L = 64]" {

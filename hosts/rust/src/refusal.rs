@@ -1,0 +1,46 @@
+//! Why a call was refused.
+
+use std::fmt;
+
+/// A refusal. Its number says why, and is the same in every language.
+///
+/// | Code | Given when |
+/// |---|---|
+/// | 1 | the packet has under 12 or over 2,000 bytes |
+/// | 2 | its first eight bytes are wrong |
+/// | 3 | its length field differs from the rest |
+/// | 4 | a message's length, its number of pairs, the length of its header, or an offset is wrong |
+/// | 5 | the tags of a message do not rise |
+/// | 6 | a needed tag is absent |
+/// | 7 | a value's length is wrong, or a version list does not rise |
+/// | 8 | TYPE or the version is wrong |
+/// | 19 | the buffer to be written into is too short |
+///
+/// Where several apply, the first of them is given; a response's messages are judged one after the other, the outermost first,
+/// then SREP, CERT and DELE, each by 4 to 7, and 8 comes after them all.
+#[derive(Clone, Copy, Debug, PartialEq, Eq)]
+pub struct Refusal(u32);
+
+impl Refusal {
+    /// The number of this refusal, which is never 0.
+    pub fn code(self) -> u32 {
+        self.0
+    }
+
+    /// Nothing where the library answered 0, which is how it says that a call passed, or else the refusal.
+    pub(crate) fn check(code: u32) -> Result<(), Refusal> {
+        if code == 0 {
+            Ok(())
+        } else {
+            Err(Refusal(code))
+        }
+    }
+}
+
+impl fmt::Display for Refusal {
+    fn fmt(&self, f: &mut fmt::Formatter) -> fmt::Result {
+        write!(f, "refused with code {}", self.0)
+    }
+}
+
+impl std::error::Error for Refusal {}

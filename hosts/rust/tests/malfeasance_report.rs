@@ -1,0 +1,90 @@
+//! The malfeasance report of draft 19, appendix B: packets that neither side made. Both must read all six and say the same.
+
+mod support;
+
+use independent::response;
+use support::report::{self, Entry};
+use support::{answers, base64, hex};
+use trawlbeacon::{Request, Response};
+
+/// Both sides' answer where they agree and none refuses.
+fn agreed<T: std::fmt::Debug>(both: answers::Both<Result<T, u32>>, what: &str) -> T
+where
+    Result<T, u32>: answers::Answer,
+{
+    assert!(both.ours == both.independent, "{what}: ours {:?}, independent {:?}", both.ours, both.independent);
+    both.ours.unwrap_or_else(|code| panic!("{what}: refused with code {code}"))
+}
+
+fn show(index: usize, entry: &Entry, request: &Request, response: &Response) {
+    println!("entry {index}: key {}", hex(&entry.key));
+    println!("  rand         {}", entry.rand.map_or("none".to_string(), |rand| hex(&rand)));
+    println!("  request NONC {}", hex(&request.nonc));
+    println!("          SRV  {}", request.srv.map_or("none".to_string(), |srv| hex(&srv)));
+    println!("  response INDX {} MIDP {} RADI {}", response.indx, response.midp, response.radi);
+    println!("          NONC {}", hex(&response.nonc));
+    println!("          ROOT {}", hex(&response.root));
+}
+
+/// The texts that were signed end with the value that the signature stands beside.
+fn compare_texts(index: usize, entry: &Entry) {
+    let shaped = response::shaped(&entry.response).expect("it was read before");
+    let (dele, srep) = (shaped.dele.bytes, shaped.srep.bytes);
+    let mut out = [0; 2000];
+    let length = trawlbeacon::delegation_text(&entry.response, &mut out).expect("there is room");
+    assert_eq!(out[..length], [b"RoughTime v1 delegation signature\0", dele].concat(), "entry {index}");
+    let length = trawlbeacon::response_text(&entry.response, &mut out).expect("there is room");
+    assert_eq!(out[..length], [b"RoughTime v1 response signature\0", srep].concat(), "entry {index}");
+}
+
+#[test]
+fn both_sides_read_all_six_packets() {
+    let entries = report::entries();
+    assert_eq!(entries.len(), 3);
+    for (index, entry) in entries.iter().enumerate() {
+        let request = agreed(answers::read_request(&entry.request), "request");
+        let response = agreed(answers::read_response(&entry.response), "response");
+        show(index, entry, &request, &response);
+        compare_texts(index, entry);
+        assert_eq!(request.srv, Some(trawlbeacon::server_mark(&entry.key)), "entry {index}: SRV is the key's mark");
+        assert_eq!(response.nonc, request.nonc, "entry {index}: the response answers the request");
+        // With no siblings the leaf is the root.
+        assert_eq!(response.root, trawlbeacon::leaf(&entry.request), "entry {index}: ROOT is the request's leaf");
+        // The draft's client writes the request that we write.
+        let mut ours = [0; trawlbeacon::REQUEST_LENGTH];
+        trawlbeacon::write_request(&entry.key, &request.nonc, &mut ours).expect("there is room");
+        assert_eq!(ours[..], entry.request, "entry {index}: the request, written by us");
+    }
+    println!("draft 19, appendix B: 3 requests and 3 responses, all fields of ours compared with independent");
+}
+
+#[test]
+fn each_request_is_linked_to_the_response_before_it() {
+    let entries = report::entries();
+    assert!(entries[0].rand.is_none(), "nothing comes before the first request");
+    for pair in entries.windows(2) {
+        let rand = pair[1].rand.expect("every later request has a rand");
+        let nonc = trawlbeacon::read_request(&pair[1].request).expect("it is a request").nonc;
+        assert_eq!(nonc, trawlbeacon::link(&pair[0].response, &rand));
+    }
+    println!("draft 19, appendix B: 2 links, the nonces of the draft compared with ours");
+}
+
+#[test]
+fn base64_is_decoded_as_its_standard_says() {
+    // RFC 4648, section 10.
+    for (text, bytes) in [
+        ("", ""),
+        ("Zg==", "f"),
+        ("Zm8=", "fo"),
+        ("Zm9v", "foo"),
+        ("Zm9vYg==", "foob"),
+        ("Zm9vYmE=", "fooba"),
+        ("Zm9vYmFy", "foobar"),
+    ] {
+        assert_eq!(base64::decode(text).as_deref(), Some(bytes.as_bytes()), "{text}");
+    }
+    for text in ["Zg", "Zg=", "Zg===", "====", "Z===", "Zh==", "Zm9=", "Zg==Zg==", "Zm9!", "Zm 9", "Zm9v\n"] {
+        assert_eq!(base64::decode(text), None, "{text}");
+    }
+}

@@ -1,0 +1,159 @@
+//! The same question put to both sides: the proved library, and the independent implementation.
+//!
+//! Both answer in one type here, so that they can be compared as they are. A refusal is its code.
+
+use super::hex;
+use independent::refusal::Refusal;
+use independent::{request, response, text, write};
+use trawlbeacon::{raw, Request, Response};
+
+/// What each side answered.
+pub struct Both<T> {
+    pub ours: T,
+    pub independent: T,
+}
+
+/// An answer that can be compared, counted by its code, and shown where it is wrong.
+pub trait Answer: PartialEq {
+    /// The code of a refusal, or 0.
+    fn code(&self) -> u32;
+    fn show(&self) -> String;
+}
+
+impl Answer for Result<Request, u32> {
+    fn code(&self) -> u32 {
+        *self.as_ref().err().unwrap_or(&0)
+    }
+
+    fn show(&self) -> String {
+        match self {
+            Ok(read) => format!("NONC {} SRV {:?}", hex(&read.nonc), read.srv.map(|srv| hex(&srv))),
+            Err(code) => format!("code {code}"),
+        }
+    }
+}
+
+impl Answer for Result<Response, u32> {
+    fn code(&self) -> u32 {
+        *self.as_ref().err().unwrap_or(&0)
+    }
+
+    fn show(&self) -> String {
+        match self {
+            Ok(read) => {
+                let numbers = format!("INDX {} MIDP {} RADI {}", read.indx, read.midp, read.radi);
+                format!("NONC {} {numbers} ROOT {}", hex(&read.nonc), hex(&read.root))
+            }
+            Err(code) => format!("code {code}"),
+        }
+    }
+}
+
+/// What a writer answered, with all of the buffer that it was lent.
+#[derive(PartialEq)]
+pub struct Written {
+    pub length: Result<usize, u32>,
+    pub buffer: Vec<u8>,
+}
+
+impl Answer for Written {
+    fn code(&self) -> u32 {
+        *self.length.as_ref().err().unwrap_or(&0)
+    }
+
+    fn show(&self) -> String {
+        let answer = self.length.map_or_else(|code| format!("code {code}"), |length| format!("{length} bytes written"));
+        format!("{answer}, and the buffer is {}", hex(&self.buffer))
+    }
+}
+
+pub fn read_request(packet: &[u8]) -> Both<Result<Request, u32>> {
+    let independent = request::read(packet).map(|read| Request { nonc: read.nonc, srv: read.srv });
+    Both {
+        ours: trawlbeacon::read_request(packet).map_err(trawlbeacon::Refusal::code),
+        independent: independent.map_err(Refusal::code),
+    }
+}
+
+pub fn read_response(packet: &[u8]) -> Both<Result<Response, u32>> {
+    let independent = response::read(packet).map(|read| Response {
+        nonc: read.outer.nonc,
+        indx: read.outer.indx,
+        midp: read.srep.midp,
+        radi: read.srep.radi,
+        root: read.srep.root,
+    });
+    Both {
+        ours: trawlbeacon::read_response(packet).map_err(trawlbeacon::Refusal::code),
+        independent: independent.map_err(Refusal::code),
+    }
+}
+
+/// Lends each side a copy of `buffer` of its own.
+fn write_both(
+    buffer: &[u8],
+    ours: impl FnOnce(&mut [u8]) -> Result<usize, trawlbeacon::Refusal>,
+    independent: impl FnOnce(&mut [u8]) -> Result<usize, Refusal>,
+) -> Both<Written> {
+    let (mut lent, mut lent_too) = (buffer.to_vec(), buffer.to_vec());
+    let length = ours(&mut lent).map_err(trawlbeacon::Refusal::code);
+    let length_too = independent(&mut lent_too).map_err(Refusal::code);
+    Both { ours: Written { length, buffer: lent }, independent: Written { length: length_too, buffer: lent_too } }
+}
+
+pub fn write_request(key: &[u8; 32], nonce: &[u8; 32], buffer: &[u8]) -> Both<Written> {
+    write_both(
+        buffer,
+        |out| trawlbeacon::write_request(key, nonce, out).map(|()| trawlbeacon::REQUEST_LENGTH),
+        |out| write::put(&write::request(key, nonce), out),
+    )
+}
+
+pub fn delegation_text(packet: &[u8], buffer: &[u8]) -> Both<Written> {
+    write_both(
+        buffer,
+        |out| trawlbeacon::delegation_text(packet, out),
+        |out| text::delegation(packet).and_then(|text| write::put(&text, out)),
+    )
+}
+
+pub fn response_text(packet: &[u8], buffer: &[u8]) -> Both<Written> {
+    write_both(
+        buffer,
+        |out| trawlbeacon::response_text(packet, out),
+        |out| text::response(packet).and_then(|text| write::put(&text, out)),
+    )
+}
+
+/// What is wrong with the fields that the functions of hosts/rust never show: those of a refused call, and SRV where there is
+/// none.
+pub fn unseen_fields(packet: &[u8]) -> Option<String> {
+    let (start, n) = (packet.as_ptr(), packet.len());
+    // SAFETY: the library only reads, and only the packet.
+    let (request, response) = unsafe { (raw::tb_read_request(start, n), raw::tb_read_response(start, n)) };
+    if request != without_unseen(request) {
+        return Some(format!("tb_read_request answered {request:?}"));
+    }
+    let refused = raw::Response { midp: 0, code: response.code, indx: 0, radi: 0, nonc: [0; 32], root: [0; 32] };
+    if response.code != 0 && response != refused {
+        return Some(format!("tb_read_response answered {response:?}"));
+    }
+    // No text is as short as this buffer, so that either is refused.
+    let mut out = [0; 32];
+    let (to, m) = (out.as_mut_ptr(), out.len());
+    // SAFETY: the library only reads the packet, and only writes `out`.
+    let texts = unsafe { [raw::tb_delegation_text(start, n, to, m), raw::tb_response_text(start, n, to, m)] };
+    let wrong = texts.iter().any(|text| text.length != 0 || !(1..=19).contains(&text.code));
+    wrong.then(|| format!("tb_delegation_text and tb_response_text answered {texts:?}"))
+}
+
+/// What a request's answer must be where the parts of it that mean something are these.
+fn without_unseen(request: raw::Request) -> raw::Request {
+    let with_srv = request.code == 0 && request.with_srv == 1;
+    raw::Request {
+        code: request.code,
+        with_srv: u32::from(with_srv),
+        nonc: if request.code == 0 { request.nonc } else { [0; 32] },
+        srv: if with_srv { request.srv } else { [0; 32] },
+    }
+}

@@ -1,0 +1,44 @@
+//! Why a call was refused. Every refusal has a fixed number, and where several apply, the first in the order of the document
+//! counts.
+
+use std::fmt;
+
+/// A refusal. Its number is the code that callers see.
+#[derive(Clone, Copy, Debug, PartialEq, Eq)]
+#[repr(u32)]
+pub enum Refusal {
+    /// The packet has fewer than 12 or more than 2,000 bytes.
+    PacketSize = 1,
+    /// The first eight bytes are not `ROUGHTIM`.
+    Mark = 2,
+    /// The length field differs from the number of bytes that follow it.
+    PacketLength = 3,
+    /// The message has under 4 bytes or no multiple of 4, its number of pairs is wrong, its header is too long, or an offset is
+    /// wrong.
+    Frame = 4,
+    /// The tags do not rise.
+    TagOrder = 5,
+    /// A needed tag is absent.
+    TagAbsent = 6,
+    /// A value has a wrong length, or a list of versions does not rise.
+    Value = 7,
+    /// TYPE or the version is wrong.
+    Kind = 8,
+    /// The buffer to be written into is too short.
+    BufferTooShort = 19,
+}
+
+impl Refusal {
+    /// The number of this refusal.
+    pub fn code(self) -> u32 {
+        self as u32
+    }
+}
+
+impl fmt::Display for Refusal {
+    fn fmt(&self, f: &mut fmt::Formatter) -> fmt::Result {
+        write!(f, "refused with code {}", self.code())
+    }
+}
+
+impl std::error::Error for Refusal {}
