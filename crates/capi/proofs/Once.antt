@@ -24,6 +24,20 @@ use Rattle.capi.proofs.writing.tb_delegation_text.Kinds as tb-delegatio
 use Rattle.capi.proofs.writing.tb_delegation_text.Reads as tb-delegation-text-reads
 use Rattle.capi.proofs.writing.tb_response_text.Kinds as tb-response-text-kinds
 use Rattle.capi.proofs.writing.tb_response_text.Reads as tb-response-text-reads
+use Rattle.capi.proofs.building.tb_leads.Kinds as tb-leads-kinds
+use Rattle.capi.proofs.building.tb_leads.Reads as tb-leads-reads
+use Rattle.capi.proofs.building.tb_root.Kinds as tb-root-kinds
+use Rattle.capi.proofs.building.tb_root.Reads as tb-root-reads
+use Rattle.capi.proofs.building.tb_path.Kinds as tb-path-kinds
+use Rattle.capi.proofs.building.tb_path.Reads as tb-path-reads
+use Rattle.capi.proofs.building.tb_rows.Kinds as tb-rows-kinds
+use Rattle.capi.proofs.building.tb_rows.Reads as tb-rows-reads
+use Rattle.capi.proofs.building.tb_path_from.Kinds as tb-path-from-kinds
+use Rattle.capi.proofs.building.tb_path_from.Reads as tb-path-from-reads
+use Rattle.capi.proofs.judging.tb_check_response.Kinds as tb-check-response-kinds
+use Rattle.capi.proofs.judging.tb_check_response.Reads as tb-check-response-reads
+use Rattle.capi.proofs.finding.tb_find_server.Kinds as tb-find-server-kinds
+use Rattle.capi.proofs.finding.tb_find_server.Reads as tb-find-server-reads
 
 pub tb-sha512-once : SettlesExit 2 tb-sha512-kinds.ps tb-sha512-kinds.r tb-sha512-reads.Post (λ κs e. e .1 .0 .now)
 tb-sha512-once κs a x e y f p q = p ∙ sym q
@@ -66,3 +80,33 @@ tb-response-text-once κs a x e y f p q = p .0 ∙ sym (q .0)
 
 pub tb-response-text-leaves-once : SettlesExit 2 tb-response-text-kinds.ps tb-response-text-kinds.r tb-response-text-reads.Post (λ κs e. e .1 .0 .now)
 tb-response-text-leaves-once κs a x e y f p q = p .1 ∙ sym (q .1)
+
+pub tb-leads-once : Settles 3 tb-leads-kinds.ps tb-leads-kinds.r tb-leads-reads.Post
+tb-leads-once κs a x e y f p q = p ∙ sym q
+
+pub tb-root-once : Settles 1 tb-root-kinds.ps tb-root-kinds.r tb-root-reads.Post
+tb-root-once κs a x e y f p q = p ∙ sym q
+
+pub tb-path-once : Settles 2 tb-path-kinds.ps tb-path-kinds.r tb-path-reads.Post
+tb-path-once κs a x e y f p q = p .0 ∙ sym (q .0)
+
+pub tb-path-leaves-once : SettlesExit 2 tb-path-kinds.ps tb-path-kinds.r tb-path-reads.Post (λ κs e. e .1 .1 .0 .now)
+tb-path-leaves-once κs a x e y f p q = p .1 ∙ sym (q .1)
+
+pub tb-rows-once : Settles 2 tb-rows-kinds.ps tb-rows-kinds.r tb-rows-reads.Post
+tb-rows-once κs a x e y f p q = p .0 ∙ sym (q .0)
+
+pub tb-rows-leaves-once : SettlesExit 2 tb-rows-kinds.ps tb-rows-kinds.r tb-rows-reads.Post (λ κs e. e .1 .0 .now)
+tb-rows-leaves-once κs a x e y f p q = p .1 ∙ sym (q .1)
+
+pub tb-path-from-once : Settles 2 tb-path-from-kinds.ps tb-path-from-kinds.r tb-path-from-reads.Post
+tb-path-from-once κs a x e y f p q = p .0 ∙ sym (q .0)
+
+pub tb-path-from-leaves-once : SettlesExit 2 tb-path-from-kinds.ps tb-path-from-kinds.r tb-path-from-reads.Post (λ κs e. e .1 .1 .1 .0 .now)
+tb-path-from-leaves-once κs a x e y f p q = p .1 ∙ sym (q .1)
+
+pub tb-check-response-once : Settles 1 tb-check-response-kinds.ps tb-check-response-kinds.r tb-check-response-reads.Post
+tb-check-response-once κs a x e y f p q = p ∙ sym q
+
+pub tb-find-server-once : Settles 2 tb-find-server-kinds.ps tb-find-server-kinds.r tb-find-server-reads.Post
+tb-find-server-once κs a x e y f p q = p ∙ sym q

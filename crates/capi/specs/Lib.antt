@@ -1,3 +1,6 @@
 -- What the answers of the library are at the C boundary.
+pub mod Building
+pub mod Finding
+pub mod Judging
 pub mod Reading
 pub mod Writing

@@ -1,7 +1,10 @@
 // The C boundary. Numbers pass as themselves, a slice as a pointer and a length, an array as a pointer, an answer as a struct by value.
 // No function asks anything of its caller but that its pointers are valid for their lengths, and not null.
 // A code is document 01's number, 0 where nothing was refused; what stands beside a refusal is zeros.
+mod building;
+mod finding;
 mod hashing;
+mod judging;
 mod reading;
 mod writing;
 
@@ -30,4 +33,45 @@ pub struct ResponseRead {
 pub struct TextWritten {
     pub code: u64,
     pub length: u64,
+}
+
+// What `tb_root` answers.
+#[repr(C)]
+pub struct RootBuilt {
+    pub code: u64,
+    pub depth: u64,
+    pub root: [u8; 32],
+}
+
+// What `tb_path` and `tb_path_from` answer.
+#[repr(C)]
+pub struct PathBuilt {
+    pub code: u64,
+    pub indx: u64,
+    pub depth: u64,
+}
+
+// What `tb_rows` answers.
+#[repr(C)]
+pub struct RowsBuilt {
+    pub code: u64,
+    pub depth: u64,
+}
+
+// What `tb_check_response` answers.
+#[repr(C)]
+pub struct Judged {
+    pub code: u64,
+    pub midp: u64,
+    pub radi: u64,
+    pub low: u64,
+    pub high: u64,
+}
+
+// What `tb_find_server` answers: the list, 0 for the owner's and 1 for the shipped, and where the record begins in it.
+#[repr(C)]
+pub struct ServerFound {
+    pub code: u64,
+    pub list: u64,
+    pub offset: u64,
 }

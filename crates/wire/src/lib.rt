@@ -8,9 +8,11 @@ mod responses;
 
 pub use requests::read_request;
 pub use requests::request_code;
+pub use responses::dele_of;
 pub use responses::read_response;
 pub use responses::response_code;
 pub use responses::signed_code;
+pub use responses::srep_version;
 
 // What reading answers: that the packet passed, or the code of its refusal.
 pub enum Answer {

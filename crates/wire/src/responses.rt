@@ -169,8 +169,16 @@ fn dele_code(m: &[u8]) -> u8
     part_code(value_of(m, CERT), DELE, &DELE_TABLE)
 }
 
+// The value of DELE, which stands in CERT.
+pub fn dele_of(m: &[u8]) -> &[u8]
+    requires { ⌜ Good (now m) × Good (cert (now m)) ⌝ }
+    ensures { λ r. ⌜ now r ≡ dele (now (m .entry)) ⌝ }
+{
+    value_of(value_of(m, CERT), DELE)
+}
+
 // SREP's version.
-fn srep_version(m: &[u8]) -> u32
+pub fn srep_version(m: &[u8]) -> u32
     requires { ⌜ Shaped (now m) ⌝ }
     ensures { λ r. ⌜ r ≡ le 4 (valueOf (srep (now (m .entry))) VER) 0 ⌝ }
 {

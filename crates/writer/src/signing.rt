@@ -1,15 +1,13 @@
 // The two texts of a response that are signed, for the caller to verify: a context string, and then the value of DELE or of SREP.
 ghost use mathlib.Core.Path.{_≡_};
 ghost use mathlib.Core.List.{_++_};
-ghost use Rattle.message.specs.Facts.{Good};
-ghost use Rattle.wire.specs.Response.{cert, dele, signedCode};
+ghost use Rattle.wire.specs.Response.{signedCode};
 ghost use Rattle.writer.specs.Signing.{delegationText, responseText, textAnswer, textLeft};
 use super::Text;
-use message::tags::CERT;
-use message::tags::DELE;
 use message::tags::SREP;
 use message::value_of;
 use octets::put;
+use wire::dele_of;
 use wire::packet::body_of;
 use wire::signed_code;
 
@@ -39,14 +37,6 @@ pub fn response_text(p: &[u8], out: &mut [u8]) -> Text
         return Text::Refused(c);
     }
     write_text(&RESPONSE, value_of(body_of(p), SREP), out)
-}
-
-// The value of DELE, which stands in CERT.
-fn dele_of(m: &[u8]) -> &[u8]
-    requires { ⌜ Good (now m) × Good (cert (now m)) ⌝ }
-    ensures { λ r. ⌜ now r ≡ dele (now (m .entry)) ⌝ }
-{
-    value_of(value_of(m, CERT), DELE)
 }
 
 // The two after each other, at the front of out.

@@ -1,0 +1,17 @@
+-- `capi::building::tb_root` meets its contract.
+-- Assumes nothing.
+use borrow.Author.Needs.{needs}
+use Rattle.capi.proofs.building.tb_root.Statement.{statement}
+use Rattle.capi.proofs.building.tb_root.Tie as tie
+
+returns : tie.Need-returns
+returns c = cc
+
+pub tb-root-spec : {M : Type 1} → statement M
+tb-root-spec =
+    tie.close
+    (tie.spec
+    (λ c κs. search needs)
+    (λ c. search needs)
+    (λ c. search needs)
+    returns)

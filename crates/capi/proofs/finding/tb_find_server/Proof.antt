@@ -1,0 +1,43 @@
+-- `capi::finding::tb_find_server` meets its contract.
+-- Assumes nothing.
+use mathlib.Core.Path.{sym, ap, _∙_}
+use native.Mathlib.Omega.{arith}
+use Rattle.servers.proofs.Matching.{within-at}
+use Rattle.capi.specs.Finding.{serverFound}
+use borrow.Author.Needs.{needs}
+use Rattle.capi.proofs.finding.tb_find_server.Statement.{statement}
+use Rattle.capi.proofs.finding.tb_find_server.Tie as tie
+
+mul-t9 : tie.Need-mul-t9
+mul-t9 c = omega (arith, within-at _ _ _ (sym (c .before .before .before .search .ensures) ∙ c .before .found .given .1))
+
+mul-t11 : tie.Need-mul-t11
+mul-t11 c = omega (arith, within-at _ _ _ (sym (c .before .before .before .search .ensures) ∙ c .before .found2 .given .1))
+
+returns : tie.Need-returns
+returns c = sym (ap serverFound (sym (c .before .before .before .search .ensures) ∙ c .before .found .given .1))
+
+returns-2 : tie.Need-returns-2
+returns-2 c = sym (ap serverFound (sym (c .before .before .before .search .ensures) ∙ c .before .found2 .given .1))
+
+returns-3 : tie.Need-returns-3
+returns-3 c = sym (ap serverFound (sym (c .before .before .search .ensures) ∙ c .enum-told .given .1))
+
+returns-4 : tie.Need-returns-4
+returns-4 c = sym (ap serverFound (sym (c .before .before .search .ensures) ∙ c .enum-told2 .given .1))
+
+pub tb-find-server-spec : {M : Type 1} → statement M
+tb-find-server-spec =
+    tie.close
+    (tie.spec
+    (λ c κs. search needs)
+    (λ c. search needs)
+    mul-t9
+    (λ c. search needs)
+    mul-t11
+    (λ c. search needs)
+    (λ c. search needs)
+    returns
+    returns-2
+    returns-3
+    returns-4)

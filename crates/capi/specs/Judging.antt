@@ -1,0 +1,8 @@
+-- A verdict, as a struct for C.
+use Rattle.verdict.specs.declared.Verdict.{Verdict}
+use Rattle.verdict.specs.declared.Verdict.the-variants.{Valid, Refused}
+use Rattle.capi.specs.declared.Judged.{Judged}
+
+abbrev pub judged : Verdict → Judged
+judged (Valid w) = record { code = 0; midp = w .midp; radi = w .radi; low = w .low; high = w .high }
+judged (Refused code) = record { code = code; midp = 0; radi = 0; low = 0; high = 0 }

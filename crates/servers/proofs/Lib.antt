@@ -1,0 +1,4 @@
+-- Laws that belong to no one function.
+pub mod Matching
+pub mod Once
+pub mod Seeking

@@ -1,0 +1,2 @@
+-- Server lists: what a reader must believe is Lists.
+pub mod Lists

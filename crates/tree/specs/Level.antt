@@ -1,0 +1,27 @@
+-- What private functions promise and ask of a level that is kept as an array of nodes. Nothing public is stated by it.
+use mathlib.Core.Path.{_≡_}
+use mathlib.Core.List.{List, []}
+use Prim.Native.Nat.{ℕ, _+_, _*_, _≤_, _<_, _^_}
+use lib.ListN.{length, getD}
+use Rattle.laws.specs.Upto.{upto}
+use Rattle.hash.specs.Hashes.{parentOf}
+use Rattle.tree.specs.Tree.{nodeAt, flat}
+use Rattle.tree.specs.Answers.{most}
+
+-- the first n places of row are the first n nodes of a level
+abbrev pub Level : List (List ℕ) → ℕ → ℕ → List (List ℕ) → Type 0
+Level xs level n row = (j : ℕ) → j < n → getD row j [] ≡ nodeAt xs level j
+
+-- the first n places of up are the parents of the first 2n of row
+abbrev pub Parents : List (List ℕ) → ℕ → List (List ℕ) → Type 0
+Parents row n up = (j : ℕ) → j < n → getD up j [] ≡ parentOf (getD row (2 * j) []) (getD row (2 * j + 1) [])
+
+-- the bytes of the first n places of row
+abbrev pub bytesOf : List (List ℕ) → ℕ → List ℕ
+bytesOf row n = flat (upto (λ j. getD row j []) n)
+
+-- count leaves are there, and a tree of depth d over them is not too large
+pub record Batch (s : List ℕ) (count d : ℕ) : Type 0 where
+  pub few : count ≤ most
+  pub whole : 32 * count ≤ length s
+  pub deep : 2 ^ d ≤ most

@@ -1,0 +1,4 @@
+-- Laws that belong to no one function.
+pub mod Lent
+pub mod Exactly
+pub mod Once

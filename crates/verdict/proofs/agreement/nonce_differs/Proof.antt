@@ -1,0 +1,19 @@
+-- `verdict::agreement::nonce_differs` meets its contract.
+-- Assumes nothing.
+use Rattle.verdict.specs.Check.{nonceDiffers}
+use borrow.Author.Needs.{needs}
+use Rattle.verdict.proofs.agreement.nonce_differs.Statement.{statement}
+use Rattle.verdict.proofs.agreement.nonce_differs.Tie as tie
+
+returns : tie.Need-returns
+unfolding nonceDiffers
+returns c = cc
+
+pub nonce-differs-spec : {M : Type 1} → statement M
+nonce-differs-spec =
+    tie.close
+    (tie.spec
+    (λ c κs. search needs)
+    (λ c κs. search needs)
+    (λ c κs. search needs)
+    returns)

@@ -1,0 +1,27 @@
+-- `verdict::agreement::path_misses` meets its contract.
+-- Assumes nothing.
+use Rattle.verdict.specs.Check.{pathMisses}
+use borrow.Author.Needs.{needs}
+use Rattle.verdict.proofs.agreement.path_misses.Statement.{statement}
+use Rattle.verdict.proofs.agreement.path_misses.Tie as tie
+
+value32-requires : tie.Need-value32-requires
+value32-requires c κs =
+    let s = c .before .before .before .pre in
+    rw (c .value-of .ensures) (s .srep-frame, s .rootv-long)
+
+returns : tie.Need-returns
+unfolding pathMisses
+returns c = cc
+
+pub path-misses-spec : {M : Type 1} → statement M
+path-misses-spec =
+    tie.close
+    (tie.spec
+    (λ c κs. search needs)
+    value32-requires
+    (λ c κs. search needs)
+    (λ c κs. search needs)
+    (λ c κs. search needs)
+    (λ c κs. search needs)
+    returns)

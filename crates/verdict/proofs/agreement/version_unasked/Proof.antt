@@ -1,0 +1,18 @@
+-- `verdict::agreement::version_unasked` meets its contract.
+-- Assumes nothing.
+use Rattle.verdict.specs.Check.{versionUnasked}
+use borrow.Author.Needs.{needs}
+use Rattle.verdict.proofs.agreement.version_unasked.Statement.{statement}
+use Rattle.verdict.proofs.agreement.version_unasked.Tie as tie
+
+returns : tie.Need-returns
+unfolding versionUnasked
+returns c = cc
+
+pub version-unasked-spec : {M : Type 1} → statement M
+version-unasked-spec =
+    tie.close
+    (tie.spec
+    (λ c κs. search needs)
+    (λ c κs. search needs)
+    returns)

@@ -1,0 +1,16 @@
+-- `verdict::windows::window_at` meets its contract.
+-- Assumes nothing.
+use borrow.Author.Needs.{needs}
+use Rattle.verdict.proofs.windows.window_at.Statement.{statement}
+use Rattle.verdict.proofs.windows.window_at.Tie as tie
+
+returns : tie.Need-returns
+returns c = cc
+
+pub window-at-spec : {M : Type 1} → statement M
+window-at-spec =
+    tie.close
+    (tie.spec
+    (λ c κs. search needs)
+    (λ c κs. search needs)
+    returns)

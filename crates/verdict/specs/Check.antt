@@ -1,0 +1,96 @@
+-- The response check as a row of checks, in document 01's order: 14, then 1 to 13.
+use Prim.Native.Nat.{ℕ}
+use mathlib.Core.List.{List, [], _∷_}
+use mathlib.Core.Bool.{Bool, not, cond}
+use lib.Dec.{eqb, ltb}
+use Rattle.hash.specs.Hashes.{leafOf}
+use Rattle.laws.specs.Any.{any}
+use Rattle.laws.specs.First.{first, when}
+use Rattle.laws.specs.Numbers.{le}
+use Rattle.laws.specs.Same.{same}
+use Rattle.message.specs.Tags.{VER, NONC, PATH, RADI, MIDP, MINT, ROOT, MAXT, INDX}
+use Rattle.message.specs.Values.{valueOf}
+use Rattle.tree.specs.Check.{leadsOf}
+use Rattle.wire.specs.Packet.{body}
+use Rattle.wire.specs.Request.{requestCode}
+use Rattle.wire.specs.Response.{srep, dele, responseCode}
+use Rattle.wire.specs.Versions.{lacksVersion}
+use Rattle.verdict.specs.Window.{windowOf}
+use Rattle.verdict.specs.declared.Verdict.{Verdict}
+use Rattle.verdict.specs.declared.Verdict.the-variants.{Valid, Refused}
+use Rattle.verdict.specs.declared.Window.{Window}
+
+-- ---- what a request's message a and a response's message b say
+
+abbrev pub midpIn : List ℕ → ℕ
+midpIn b = le 8 (valueOf (srep b) MIDP) 0
+
+abbrev pub radiIn : List ℕ → ℕ
+radiIn b = le 4 (valueOf (srep b) RADI) 0
+
+abbrev pub mintIn : List ℕ → ℕ
+mintIn b = le 8 (valueOf (dele b) MINT) 0
+
+abbrev pub maxtIn : List ℕ → ℕ
+maxtIn b = le 8 (valueOf (dele b) MAXT) 0
+
+abbrev pub verIn : List ℕ → ℕ
+verIn b = le 4 (valueOf (srep b) VER) 0
+
+-- PATH leads from the leaf of the whole request packet q to ROOT, and INDX needs no more bits than it has siblings
+abbrev pub pathLeads : List ℕ → List ℕ → Bool
+pathLeads q b = leadsOf (leafOf q) (le 4 (valueOf b INDX) 0) (valueOf b PATH) (valueOf (srep b) ROOT)
+
+-- ---- the checks
+
+-- 14: the request lent with a response is bad
+unfoldable pub requestBad : List ℕ → Bool
+requestBad q = not (eqb (requestCode q) 0)
+
+-- 8: SREP's VER does not stand in the request's VER
+unfoldable pub versionUnasked : List ℕ → List ℕ → Bool
+versionUnasked a b = lacksVersion (valueOf a VER) (verIn b)
+
+-- 9: NONC differs
+unfoldable pub nonceDiffers : List ℕ → List ℕ → Bool
+nonceDiffers a b = not (same (valueOf a NONC) (valueOf b NONC))
+
+-- 10: INDX too large or root not reached
+unfoldable pub pathMisses : List ℕ → List ℕ → Bool
+pathMisses q b = not (pathLeads q b)
+
+-- 11: MIDP outside MINT..MAXT
+unfoldable pub timeOutside : List ℕ → Bool
+timeOutside b = any (ltb (midpIn b) (mintIn b) ∷ ltb (maxtIn b) (midpIn b) ∷ [])
+
+-- 12 and 13: a signature answer is no
+unfoldable pub answersCode : Bool → Bool → ℕ
+answersCode d s = first (when (not d) 12 ∷ when (not s) 13 ∷ [])
+
+-- codes 8 to 13: the response's message b to the packet q, whose message is a; d and s are the signature answers
+unfoldable pub agreementCode : List ℕ → List ℕ → List ℕ → Bool → Bool → ℕ
+agreementCode q a b d s =
+    first
+    (when (versionUnasked a b) 8
+    ∷ when (nonceDiffers a b) 9
+    ∷ when (pathMisses q b) 10
+    ∷ when (timeOutside b) 11
+    ∷ answersCode d s
+    ∷ [])
+
+-- 14, then 1 to 8 of the response alone, then its agreement with the request
+unfoldable pub checkCode : List ℕ → List ℕ → Bool → Bool → ℕ
+checkCode q p d s = first (when (requestBad q) 14 ∷ responseCode p ∷ agreementCode q (body q) (body p) d s ∷ [])
+
+-- ---- the answer
+
+unfoldable pub windowIn : List ℕ → Window
+windowIn b = windowOf (midpIn b) (radiIn b)
+
+unfoldable pub verdictOf : List ℕ → List ℕ → Bool → Bool → Verdict
+verdictOf q p d s = cond (eqb (checkCode q p d s) 0) (Valid (windowIn (body p))) (Refused (checkCode q p d s))
+
+-- document 01's number of an answer, 0 where nothing was refused
+abbrev pub verdictCode : Verdict → ℕ
+verdictCode (Valid w) = 0
+verdictCode (Refused code) = code

@@ -1,0 +1,14 @@
+-- The window of a valid response (document 01, "When a response is valid").
+use Prim.Native.Nat.{ℕ, _+_, _-_, _^_, min}
+use Rattle.verdict.specs.declared.Window.{Window}
+
+-- max(0, MIDP - RADI): a difference of natural numbers stops at 0
+abbrev pub lowOf : ℕ → ℕ → ℕ
+lowOf midp radi = midp - radi
+
+-- min(2^64 - 1, MIDP + RADI)
+abbrev pub highOf : ℕ → ℕ → ℕ
+highOf midp radi = min (2 ^ 64 - 1) (midp + radi)
+
+abbrev pub windowOf : ℕ → ℕ → Window
+windowOf midp radi = record { midp = midp; radi = radi; low = lowOf midp radi; high = highOf midp radi }

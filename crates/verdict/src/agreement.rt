@@ -1,0 +1,108 @@
+// Whether a response agrees with the request that it answers: codes 8 to 13, on messages of the right shape.
+ghost use mathlib.Core.Path.{_≡_};
+ghost use mathlib.Core.Bool.{not};
+ghost use Rattle.wire.specs.Facts.{Asks, Shaped};
+ghost use Rattle.verdict.specs.Check.{versionUnasked, nonceDiffers, pathMisses, timeOutside, answersCode, agreementCode};
+use hash::leaf;
+use message::tags::INDX;
+use message::tags::MAXT;
+use message::tags::MIDP;
+use message::tags::MINT;
+use message::tags::NONC;
+use message::tags::PATH;
+use message::tags::ROOT;
+use message::tags::SREP;
+use message::tags::VER;
+use message::value_of;
+use octets::equal;
+use tree::leads;
+use wire::dele_of;
+use wire::fields::lacks_version;
+use wire::fields::number32;
+use wire::fields::number64;
+use wire::fields::value32;
+use wire::srep_version;
+
+// Codes 8 to 13 of the response's message b, to the packet q whose message is a, with the two signature answers.
+pub fn agreement_code<'a>(
+    q: &'a [u8],
+    a: &'a [u8],
+    b: &'a [u8],
+    delegation: bool,
+    signature: bool,
+) -> u8
+    requires { ⌜ Asks (now a) × Shaped (now b) ⌝ }
+    ensures { λ r. ⌜ r ≡ agreementCode (now (q .entry)) (now (a .entry)) (now (b .entry)) delegation signature ⌝ }
+{
+    if version_unasked(a, b) {
+        return 8;
+    }
+    if nonce_differs(a, b) {
+        return 9;
+    }
+    if path_misses(q, b) {
+        return 10;
+    }
+    if time_outside(b) {
+        return 11;
+    }
+    answers_code(delegation, signature)
+}
+
+// Codes 12 and 13 of the two signature answers.
+fn answers_code(delegation: bool, signature: bool) -> u8
+    ensures { λ r. ⌜ r ≡ answersCode delegation signature ⌝ }
+{
+    if said_no(delegation) {
+        return 12;
+    }
+    if said_no(signature) {
+        return 13;
+    }
+    0
+}
+
+// SREP's version does not stand in the request's VER.
+fn version_unasked<'a>(a: &'a [u8], b: &'a [u8]) -> bool
+    requires { ⌜ Asks (now a) × Shaped (now b) ⌝ }
+    ensures { λ r. ⌜ r ≡ versionUnasked (now (a .entry)) (now (b .entry)) ⌝ }
+{
+    lacks_version(a, VER, srep_version(b))
+}
+
+// NONC is not the request's.
+fn nonce_differs<'a>(a: &'a [u8], b: &'a [u8]) -> bool
+    requires { ⌜ Asks (now a) × Shaped (now b) ⌝ }
+    ensures { λ r. ⌜ r ≡ nonceDiffers (now (a .entry)) (now (b .entry)) ⌝ }
+{
+    !equal(value_of(a, NONC), value_of(b, NONC))
+}
+
+// INDX is too large, or PATH does not lead from the leaf of the whole request packet to ROOT.
+fn path_misses<'a>(q: &'a [u8], b: &'a [u8]) -> bool
+    requires { ⌜ Shaped (now b) ⌝ }
+    ensures { λ r. ⌜ r ≡ pathMisses (now (q .entry)) (now (b .entry)) ⌝ }
+{
+    let root = value32(value_of(b, SREP), ROOT);
+    !leads(leaf(q), number32(b, INDX), value_of(b, PATH), root)
+}
+
+// MIDP is outside MINT..MAXT.
+fn time_outside(b: &[u8]) -> bool
+    requires { ⌜ Shaped (now b) ⌝ }
+    ensures { λ r. ⌜ r ≡ timeOutside (now (b .entry)) ⌝ }
+{
+    let midp = number64(value_of(b, SREP), MIDP);
+    let dele = dele_of(b);
+    if midp < number64(dele, MINT) {
+        return true;
+    }
+    number64(dele, MAXT) < midp
+}
+
+// The answer was no.
+fn said_no(answer: bool) -> bool
+    ensures { λ r. ⌜ r ≡ not answer ⌝ }
+{
+    !answer
+}

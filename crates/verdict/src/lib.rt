@@ -1,0 +1,21 @@
+// The response check (draft 19, section 5.4): a response passes exactly when every check holds, and then its window comes out.
+mod agreement;
+mod checking;
+mod windows;
+
+pub use checking::check_response;
+pub use windows::window_at;
+
+// What a valid response says of the time: MIDP and RADI, and the ends of its window, which stop at 0 and at 2^64 - 1.
+pub struct Window {
+    pub midp: u64,
+    pub radi: u32,
+    pub low: u64,
+    pub high: u64,
+}
+
+// The window of a response that passes, or the code of its refusal.
+pub enum Verdict {
+    Valid(Window),
+    Refused(u8),
+}
