@@ -1,8 +1,9 @@
 /* Calls the proved library from C, and so shows that the header declares it as it was compiled.
  *
  * It hashes "abc" and the empty message and compares the digests with NIST's, then holds each other function to what the header
- * says of it: a hash by the digest of its parts joined, a reader by a request of ours and by a response that draft 19 prints, a
- * writer by what it leaves in a buffer. Whether all of that is right on every input is for the tests of hosts/rust.
+ * says of it: a hash by the digest of its parts joined, a tree of three leaves by its nodes, a reader and the check by a request of
+ * ours and by a response that draft 19 prints, a lookup by the place of the record, a writer by what it leaves in a buffer. Whether
+ * all of that is right on every input is for the tests of hosts/rust.
  */
 #include "response.h"
 #include "trawlbeacon.h"
@@ -16,6 +17,9 @@ static const char ABC[] = "ddaf35a193617abacc417349ae20413112e6fa4e89a97ea20a9ee
 /* The digest of no bytes: Len = 0 in vectors/SHA512ShortMsg.rsp. */
 static const char EMPTY[] = "cf83e1357eefb8bdf1542850d66d8007d620e4050b5715dc83f4a921d36ce9ce"
                             "47d0d13c5d85f2b0ff8318d2877eec2f63b931bd47417a81a538327af927da3e";
+
+/* The long-term key of the server that sent the response. */
+static const char KEY[] = "1670f22d5ffaf1ea6184b74525b74418276456fa570da55ee4f62f44376538e6";
 
 enum { RESPONSE_LENGTH = (sizeof RESPONSE - 1) / 2 };
 
@@ -179,6 +183,119 @@ static void expect_text(writer *write, const uint8_t *packet, const char *contex
     expect_all("what follows a text", out + front + n, 0xee, sizeof out - front - n);
 }
 
+/* The nodes of the tree of three leaves, in the order of its rows: four leaves, of which the last is an empty place, their two parents and
+ * the root. */
+static void lay_three(uint8_t nodes[7][32]) {
+    for (uint8_t i = 0; i < 3; i++) memset(nodes[i], 0x31 + i, 32);
+    tb_empty_place(nodes[3]);
+    tb_parent(nodes[0], nodes[1], nodes[4]);
+    tb_parent(nodes[2], nodes[3], nodes[5]);
+    tb_parent(nodes[4], nodes[5], nodes[6]);
+}
+
+static void expect_placed(const char *what, struct tb_placed is, uint64_t code, uint64_t indx, uint64_t depth) {
+    expect_number(what, is.code, code);
+    expect_number(what, is.indx, indx);
+    expect_number(what, is.depth, depth);
+}
+
+/* A path that was written: the two siblings, and nothing behind them. */
+static void expect_siblings(const uint8_t *out, const uint8_t *first, const uint8_t *second) {
+    expect_bytes("the first sibling", out, first, 32);
+    expect_bytes("the second sibling", out + 32, second, 32);
+    expect_all("what follows a path", out + 64, 0xee, 8);
+}
+
+static void expect_paths(uint8_t nodes[7][32]) {
+    const uint8_t *leaves = nodes[0];
+    uint8_t out[72];
+    memset(out, 0xee, sizeof out);
+    expect_placed("tb_path without room", tb_path(leaves, 96, 0, out, 63), 19, 0, 0);
+    expect_placed("tb_path past the last leaf", tb_path(leaves, 96, 3, out, sizeof out), 20, 0, 0);
+    expect_placed("tb_path of no whole leaves", tb_path(leaves, 95, 0, out, sizeof out), 20, 0, 0);
+    expect_placed("tb_path_from of short rows", tb_path_from(leaves, 223, 3, 0, out, sizeof out), 20, 0, 0);
+    expect_placed("tb_path_from without room", tb_path_from(leaves, 224, 3, 0, out, 63), 19, 0, 0);
+    expect_all("the buffer of a refused path", out, 0xee, sizeof out);
+    expect_placed("tb_path", tb_path(leaves, 96, 0, out, sizeof out), 0, 3, 2);
+    expect_siblings(out, nodes[1], nodes[5]);
+    expect_number("tb_leads", tb_leads(nodes[0], 3, out, 64, nodes[6]), 1);
+    expect_number("tb_leads with another number", tb_leads(nodes[0], 2, out, 64, nodes[6]), 0);
+    expect_number("tb_leads with too long a number", tb_leads(nodes[0], 7, out, 64, nodes[6]), 0);
+    expect_placed("tb_path_from", tb_path_from(leaves, 224, 3, 2, out, sizeof out), 0, 1, 2);
+    expect_siblings(out, nodes[3], nodes[4]);
+    expect_number("tb_leads from the last leaf", tb_leads(nodes[2], 1, out, 64, nodes[6]), 1);
+}
+
+static void expect_tree(void) {
+    uint8_t nodes[7][32] = {{0}}, out[7 * 32 + 8];
+    lay_three(nodes);
+    struct tb_rooted rooted = tb_root(nodes[0], 96);
+    expect_number("code of a root", rooted.code, 0);
+    expect_number("depth of a root", rooted.depth, 2);
+    expect_bytes("a root", rooted.root, nodes[6], 32);
+    rooted = tb_root(nodes[0], 0);
+    expect_number("code of a root of no leaves", rooted.code, 20);
+    expect_number("depth of a root of no leaves", rooted.depth, 0);
+    expect_all("a root of no leaves", rooted.root, 0, 32);
+
+    memset(out, 0xee, sizeof out);
+    struct tb_laid laid = tb_rows(nodes[0], 96, out, 7 * 32 - 1);
+    expect_number("code of rows without room", laid.code, 19);
+    expect_number("depth of rows without room", laid.depth, 0);
+    expect_all("a buffer without room for rows", out, 0xee, sizeof out);
+    laid = tb_rows(nodes[0], 96, out, sizeof out);
+    expect_number("code of rows", laid.code, 0);
+    expect_number("depth of rows", laid.depth, 2);
+    expect_bytes("the rows", out, nodes[0], sizeof nodes);
+    expect_all("what follows the rows", out + sizeof nodes, 0xee, 8);
+    expect_paths(nodes);
+}
+
+static void expect_verdict(const char *what, struct tb_verdict is, struct tb_verdict should) {
+    expect_number(what, is.code, should.code);
+    expect_number(what, is.midp, should.midp);
+    expect_number(what, is.radi, should.radi);
+    expect_number(what, is.low, should.low);
+    expect_number(what, is.high, should.high);
+}
+
+/* The request that the response answers is the one that we write with its nonce. */
+static void expect_checks(const uint8_t *packet) {
+    uint8_t key[32], request[TB_REQUEST_LENGTH] = {0};
+    size_t n = sizeof request, m = RESPONSE_LENGTH;
+    from_hex(KEY, key, sizeof key);
+    tb_write_request(key, packet + NONC_AT, request, n);
+    struct tb_verdict valid = {0, 1773685571, 3, 1773685568, 1773685574};
+    expect_verdict("a valid response", tb_check_response(request, n, packet, m, true, true), valid);
+    struct tb_verdict delegation = {.code = 12}, signature = {.code = 13}, bad = {.code = 14}, cut = {.code = 3}, other = {.code = 9};
+    expect_verdict("no delegation", tb_check_response(request, n, packet, m, false, true), delegation);
+    expect_verdict("no signature", tb_check_response(request, n, packet, m, true, false), signature);
+    expect_verdict("a bad request", tb_check_response(request, n - 1, packet, m - 1, false, false), bad);
+    expect_verdict("a response cut short", tb_check_response(request, n, packet, m - 1, false, false), cut);
+    tb_write_request(key, key, request, n);
+    expect_verdict("another request", tb_check_response(request, n, packet, m, true, true), other);
+}
+
+static void expect_found(const char *what, struct tb_found is, uint64_t code, uint64_t list, uint64_t offset) {
+    expect_number(what, is.code, code);
+    expect_number(what, is.list, list);
+    expect_number(what, is.offset, offset);
+}
+
+/* Two lists of two records; the second mark of the owner's list is the first of the shipped one. */
+static void expect_lookups(void) {
+    uint8_t owner[128], shipped[128];
+    for (size_t i = 0; i < 4; i++) memset(owner + 32 * i, (int)i, 32);
+    for (size_t i = 0; i < 4; i++) memset(shipped + 32 * i, (int)i + 2, 32);
+    const uint8_t *first = owner + 32, *second = owner + 96, *last = shipped + 96, *key = shipped;
+    expect_found("the first of the owner's", tb_find_server(owner, 128, shipped, 128, first), 0, 0, 0);
+    expect_found("one in both lists", tb_find_server(owner, 128, shipped, 128, second), 0, 0, 64);
+    expect_found("one in both lists, without the owner's", tb_find_server(owner, 0, shipped, 128, second), 0, 1, 0);
+    expect_found("the last of the shipped", tb_find_server(owner, 128, shipped, 128, last), 0, 1, 64);
+    expect_found("a key", tb_find_server(owner, 128, shipped, 128, key), 22, 0, 0);
+    expect_found("a broken list", tb_find_server(owner, 128, shipped, 127, first), 21, 0, 0);
+}
+
 int main(void) {
     const uint8_t *abc = (const uint8_t *)"abc";
     uint8_t packet[RESPONSE_LENGTH], kept[RESPONSE_LENGTH];
@@ -190,6 +307,9 @@ int main(void) {
     expect_hashes();
     expect_request();
     expect_response(packet);
+    expect_tree();
+    expect_checks(packet);
+    expect_lookups();
     expect_text(tb_delegation_text, packet, "RoughTime v1 delegation signature", packet + DELE_AT, DELE_LENGTH);
     expect_text(tb_response_text, packet, "RoughTime v1 response signature", packet + SREP_AT, SREP_LENGTH);
     expect_bytes("the packet after all calls", packet, kept, sizeof packet);

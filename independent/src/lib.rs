@@ -7,21 +7,25 @@
 //! Nothing here is proved. It has no dependency but the standard library, and it must never call the proved library
 //! or be derived from it, or the comparison would say nothing.
 //!
-//! Today it has SHA-512, the hashes that Roughtime makes of it, a reader of packets, requests and responses, the writer of a request,
-//! and the texts that are signed. The Merkle tree, a checker of responses and of piles of them are to stand beside them.
+//! Today it has SHA-512, the hashes that Roughtime makes of it and the Merkle tree, a reader of packets, requests and responses, the
+//! check of a response, the writer of a request, the texts that are signed, and the lookup of a server. Piles of responses, and the
+//! reports that are made of them, are to stand beside them.
 
 #![forbid(unsafe_code)]
 #![warn(missing_docs)]
 
+pub mod check;
 pub mod hash;
 pub mod message;
 pub mod packet;
 pub mod refusal;
 pub mod request;
 pub mod response;
+pub mod servers;
 pub mod sha512;
 pub mod tag;
 pub mod text;
+pub mod tree;
 pub mod value;
 pub mod write;
 

@@ -24,8 +24,26 @@ pub enum Refusal {
     Value = 7,
     /// TYPE or the version is wrong.
     Kind = 8,
+    /// NONC of the response differs from that of the request.
+    Nonce = 9,
+    /// INDX has too many bits, or the path does not lead to ROOT.
+    Path = 10,
+    /// MIDP is below MINT or above MAXT.
+    Time = 11,
+    /// The delegation's signature is not the long-term key's.
+    Delegation = 12,
+    /// The response's signature is not the delegated key's.
+    Signature = 13,
+    /// The request lent with a response is bad.
+    Request = 14,
     /// The buffer to be written into is too short.
     BufferTooShort = 19,
+    /// The leaves are not 1 to 64 whole ones, or a place is past the last.
+    Leaves = 20,
+    /// A list of servers is not whole records.
+    List = 21,
+    /// No list has the server.
+    ServerUnknown = 22,
 }
 
 impl Refusal {

@@ -93,3 +93,11 @@ last {x} {c} e = e ∙ by (eqb c 0) refl
     by : (t : Bool) → eqb c 0 ≡ t → c ≡ cond t 0 c
     by true q = eqb-true c 0 q
     by false q = refl
+
+-- an answer that is good where the code is 0, and else says the code, says the code
+pub answer-says : {A : Type 0} (says : A → ℕ) (good bad : A) (c : ℕ) → says good ≡ 0 → says bad ≡ c → says (cond (eqb c 0) good bad) ≡ c
+answer-says says good bad c g b = by (eqb c 0) refl
+  where
+    by : (t : Bool) → eqb c 0 ≡ t → says (cond t good bad) ≡ c
+    by true q = g ∙ sym (eqb-true c 0 q)
+    by false q = b

@@ -1,25 +1,23 @@
 -- A response passes exactly when document 01's sentence holds of it, and its window is then its own: the row of checks and the sentence are one.
 -- Assumes nothing.
-use Prim.Native.Nat.{ℕ, _≤_}
-use mathlib.Core.Path.{_≡_, refl, sym, ap, _∙_}
+use Prim.Native.Nat.{ℕ}
+use mathlib.Core.Path.{_≡_, refl, sym, ap}
 use mathlib.Core.Bool.{Bool, true, false, not, cond}
-use mathlib.Core.List.{List, [], _∷_}
+use mathlib.Core.List.{List}
 use mathlib.Core.Logic.{_↔_}
 use native.Mathlib.Omega.{arith}
 use borrow.Author.Tests.{eq-eqb, eqb-true, le-ltb, ltb-false, not-false}
 use lib.Dec.{eqb}
 use Rattle.laws.specs.First.{code}
-use Rattle.laws.specs.Same.{same}
 use Rattle.laws.proofs.Any.{any-not, any-none, any-parts}
-use Rattle.laws.proofs.First.{pass, skip, done, head-passes, untrue}
+use Rattle.laws.proofs.First.{pass, skip, done, head-passes, untrue, answer-says}
 use Rattle.laws.proofs.Same.{same-refl, same-true}
 use Rattle.message.specs.Tags.{NONC}
 use Rattle.message.specs.Values.{valueOf}
 use Rattle.wire.specs.Packet.{body}
 use Rattle.wire.specs.Request.{requestCode}
-use Rattle.verdict.specs.Check.{midpIn, mintIn, maxtIn, pathLeads, requestBad, versionUnasked, nonceDiffers, pathMisses, timeOutside, answersCode, agreementCode, checkCode, windowIn, verdictOf}
+use Rattle.verdict.specs.Check.{midpIn, mintIn, maxtIn, requestBad, versionUnasked, nonceDiffers, pathMisses, timeOutside, answersCode, agreementCode, checkCode, windowIn, verdictOf, verdictCode}
 use Rattle.verdict.specs.Passes.{Passes}
-use Rattle.verdict.specs.declared.Verdict.{Verdict}
 use Rattle.verdict.specs.declared.Verdict.the-variants.{Valid, Refused}
 use Rattle.verdict.specs.declared.Window.{Window}
 use Rattle.verdict.proofs.Lent.{lent-good}
@@ -107,3 +105,8 @@ module _ (q p : List ℕ) (d s : Bool) where
   -- and no other window comes out than its own
   pub window-own : (w : Window) → verdictOf q p d s ≡ Valid w → w ≡ windowIn (body p)
   window-own w e = passed w e .1
+
+  -- the answer says the code, in document 01's numbers: a refusal is the first in its order
+  pub verdict-says : verdictCode (verdictOf q p d s) ≡ checkCode q p d s
+  unfolding verdictOf
+  verdict-says = answer-says verdictCode (Valid (windowIn (body p))) (Refused (checkCode q p d s)) (checkCode q p d s) refl refl

@@ -3,17 +3,16 @@
 use Prim.Native.Nat.{ℕ, _≤_}
 use mathlib.Core.Path.{_≡_, refl, sym, _∙_}
 use mathlib.Core.List.{List}
-use mathlib.Core.Bool.{Bool, true, false, cond}
 use lib.ListN.{length}
-use lib.Dec.{eqb}
-use borrow.Author.Tests.{eqb-true, ltb-false}
+use borrow.Author.Tests.{ltb-false}
 use Rattle.laws.specs.First.{code}
-use Rattle.laws.proofs.First.{head-passes, untrue}
+use Rattle.laws.proofs.First.{head-passes, untrue, answer-says}
 use Rattle.message.proofs.Kept.{message-good, kept-length, kept-length-if}
 use Rattle.wire.specs.Facts.{Asks}
 use Rattle.wire.specs.Packet.{packetCode, body}
 use Rattle.wire.specs.Request.{requestMessageCode, requestCode, codeOf, noRequest, requestIn, requestOf}
 use Rattle.wire.specs.Tables.{requestTable}
+use Rattle.wire.specs.declared.Request.{Request}
 
 -- a packet has at least its header
 pub packet-long : (p : List ℕ) (x : ℕ) → x ≡ packetCode p → x ≡ 0 → 12 ≤ length p
@@ -41,8 +40,4 @@ request-body p e =
 -- the answer says the packet's code, in document 01's numbers
 pub request-says : (p : List ℕ) → codeOf (requestOf p .answer) ≡ requestCode p
 unfolding requestOf requestIn
-request-says p = by (eqb (requestCode p) 0) refl
-  where
-    by : (t : Bool) → eqb (requestCode p) 0 ≡ t → codeOf (cond t (requestIn (body p)) (noRequest (requestCode p)) .answer) ≡ requestCode p
-    by true e = sym (eqb-true _ _ e)
-    by false e = refl
+request-says p = answer-says (λ (r : Request). codeOf (r .answer)) (requestIn (body p)) (noRequest (requestCode p)) (requestCode p) refl refl

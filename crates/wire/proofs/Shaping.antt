@@ -5,12 +5,14 @@ use mathlib.Core.Path.{_≡_, refl, sym, _∙_}
 use mathlib.Core.List.{List}
 use lib.ListN.{length}
 use Rattle.laws.specs.First.{code}
-use Rattle.laws.proofs.First.{head-passes}
+use Rattle.laws.proofs.First.{head-passes, answer-says}
 use Rattle.message.proofs.Kept.{message-good, kept-length}
 use Rattle.wire.specs.Facts.{Shaped}
 use Rattle.wire.specs.Packet.{body}
-use Rattle.wire.specs.Response.{srep, cert, dele, shapeCode, signedCode, responseMessageCode, responseCode}
+use Rattle.wire.specs.Request.{codeOf}
+use Rattle.wire.specs.Response.{srep, cert, dele, shapeCode, signedCode, responseMessageCode, responseCode, noResponse, responseIn, responseOf}
 use Rattle.wire.specs.Tables.{rootTable, srepTable, certTable, deleTable}
+use Rattle.wire.specs.declared.Response.{Response}
 use Rattle.wire.proofs.Asking.{packet-long}
 
 pub shaped : (m : List ℕ) (x : ℕ) → x ≡ shapeCode m → x ≡ 0 → Shaped m
@@ -50,3 +52,8 @@ unfolding signedCode
 signed-body p x e z =
     let a = head-passes code _ _ (sym e ∙ z) in
     (packet-long p _ refl (a .0), shaped (body p) _ refl (head-passes code _ _ (a .1) .0))
+
+-- the answer says the packet's code, in document 01's numbers
+pub response-says : (p : List ℕ) → codeOf (responseOf p .answer) ≡ responseCode p
+unfolding responseOf responseIn
+response-says p = answer-says (λ (r : Response). codeOf (r .answer)) (responseIn (body p)) (noResponse (responseCode p)) (responseCode p) refl refl

@@ -22,14 +22,20 @@
 
 #![warn(missing_docs)]
 
+mod check;
 mod packets;
 pub mod raw;
 mod refusal;
+mod servers;
+mod trees;
 
+pub use check::{check_response, Window};
 pub use packets::{
     delegation_text, read_request, read_response, response_text, write_request, Request, Response, REQUEST_LENGTH,
 };
 pub use refusal::Refusal;
+pub use servers::{find_server, Found, List};
+pub use trees::{leads, path, path_from, root, rows, Placed, Rooted, MOST_LEAVES, MOST_ROWS_LENGTH};
 
 /// A SHA-512 digest.
 pub type Digest = [u8; 64];

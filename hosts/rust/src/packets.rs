@@ -70,8 +70,8 @@ pub fn response_text(packet: &[u8], out: &mut [u8]) -> Result<usize, Refusal> {
     written(unsafe { raw::tb_response_text(packet.as_ptr(), packet.len(), out.as_mut_ptr(), out.len()) })
 }
 
-/// The length of a text, or why there is none. A code is small and a length that of a slice, so neither loses anything here.
+/// The length of a text, or why there is none. It is the length of a part of a slice, so nothing is lost here.
 fn written(text: raw::Text) -> Result<usize, Refusal> {
-    Refusal::check(text.code as u32)?;
+    Refusal::check_wide(text.code)?;
     Ok(text.length as usize)
 }

@@ -46,6 +46,68 @@ pub struct Text {
     pub length: u64,
 }
 
+/// What [`tb_root`] answers.
+#[repr(C)]
+#[derive(Clone, Copy, Debug, PartialEq, Eq)]
+pub struct Rooted {
+    /// 0, or a refusal; then all else is 0.
+    pub code: u64,
+    /// How many steps lead from a leaf to the root.
+    pub depth: u64,
+    /// The root.
+    pub root: [u8; 32],
+}
+
+/// What a function answers that writes a path.
+#[repr(C)]
+#[derive(Clone, Copy, Debug, PartialEq, Eq)]
+pub struct Placed {
+    /// 0, or a refusal; then all else is 0.
+    pub code: u64,
+    /// INDX.
+    pub indx: u64,
+    /// How many siblings were written.
+    pub depth: u64,
+}
+
+/// What [`tb_rows`] answers.
+#[repr(C)]
+#[derive(Clone, Copy, Debug, PartialEq, Eq)]
+pub struct Laid {
+    /// 0, or a refusal.
+    pub code: u64,
+    /// How many steps lead from a leaf to the root: 0 on a refusal.
+    pub depth: u64,
+}
+
+/// What [`tb_check_response`] answers.
+#[repr(C)]
+#[derive(Clone, Copy, Debug, PartialEq, Eq)]
+pub struct Verdict {
+    /// 0, or a refusal; then all else is 0.
+    pub code: u64,
+    /// MIDP.
+    pub midp: u64,
+    /// RADI.
+    pub radi: u64,
+    /// The low end of the window.
+    pub low: u64,
+    /// The high end of the window.
+    pub high: u64,
+}
+
+/// What [`tb_find_server`] answers.
+#[repr(C)]
+#[derive(Clone, Copy, Debug, PartialEq, Eq)]
+pub struct Found {
+    /// 0, or a refusal; then all else is 0.
+    pub code: u64,
+    /// 0 where the record is in the owner's list, 1 where it is in the shipped one.
+    pub list: u64,
+    /// Where in that list the record starts.
+    pub offset: u64,
+}
+
 extern "C" {
     /// SHA-512.
     pub fn tb_sha512(s: *const u8, n: usize, out: &mut [u8; 64]);
@@ -70,4 +132,27 @@ extern "C" {
     pub fn tb_delegation_text(packet: *const u8, n: usize, out: *mut u8, m: usize) -> Text;
     /// Writes what the signature of SREP was made of.
     pub fn tb_response_text(packet: *const u8, n: usize, out: *mut u8, m: usize) -> Text;
+
+    /// Whether a path leads from a leaf to a root.
+    pub fn tb_leads(leaf: &[u8; 32], indx: u32, path: *const u8, n: usize, root: &[u8; 32]) -> bool;
+    /// The root of a tree.
+    pub fn tb_root(leaves: *const u8, n: usize) -> Rooted;
+    /// Writes the path of a leaf.
+    pub fn tb_path(leaves: *const u8, n: usize, place: usize, out: *mut u8, m: usize) -> Placed;
+    /// Writes all rows of a tree.
+    pub fn tb_rows(leaves: *const u8, n: usize, out: *mut u8, m: usize) -> Laid;
+    /// Writes the path of a leaf as it stands in rows.
+    pub fn tb_path_from(rows: *const u8, n: usize, count: usize, place: usize, out: *mut u8, m: usize) -> Placed;
+
+    /// Checks a response.
+    pub fn tb_check_response(
+        request: *const u8,
+        n: usize,
+        response: *const u8,
+        m: usize,
+        delegation: bool,
+        signature: bool,
+    ) -> Verdict;
+    /// Looks a server up.
+    pub fn tb_find_server(owner: *const u8, n: usize, shipped: *const u8, m: usize, srv: &[u8; 32]) -> Found;
 }

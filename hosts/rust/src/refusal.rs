@@ -14,10 +14,19 @@ use std::fmt;
 /// | 6 | a needed tag is absent |
 /// | 7 | a value's length is wrong, or a version list does not rise |
 /// | 8 | TYPE or the version is wrong |
+/// | 9 | NONC differs from that of the request |
+/// | 10 | INDX is too large, or the path does not lead to ROOT |
+/// | 11 | MIDP is below MINT or above MAXT |
+/// | 12 | the delegation's signature was answered no |
+/// | 13 | the response's signature was answered no |
+/// | 14 | the request lent with a response is bad |
 /// | 19 | the buffer to be written into is too short |
+/// | 20 | the leaves are not 1 to 64 whole ones, or the place is past the last |
+/// | 21 | a list of servers is not whole records |
+/// | 22 | no list has the server |
 ///
 /// Where several apply, the first of them is given; a response's messages are judged one after the other, the outermost first,
-/// then SREP, CERT and DELE, each by 4 to 7, and 8 comes after them all.
+/// then SREP, CERT and DELE, each by 4 to 7, and 8 comes after them all. Before all others comes 14, and 20 before 19.
 #[derive(Clone, Copy, Debug, PartialEq, Eq)]
 pub struct Refusal(u32);
 
@@ -34,6 +43,11 @@ impl Refusal {
         } else {
             Err(Refusal(code))
         }
+    }
+
+    /// The same, where the library answers in 64 bits. A code is small, so nothing is lost.
+    pub(crate) fn check_wide(code: u64) -> Result<(), Refusal> {
+        Refusal::check(code as u32)
     }
 }
 

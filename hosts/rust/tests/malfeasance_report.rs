@@ -1,11 +1,16 @@
-//! The malfeasance report of draft 19, appendix B: packets that neither side made. Both must read all six and say the same.
+//! The malfeasance report of draft 19, appendix B: packets that neither side made. Both must read all six, find each response valid,
+//! and say the same.
 
 mod support;
 
 use independent::response;
+use support::pairs::Question;
 use support::report::{self, Entry};
 use support::{answers, base64, hex};
-use trawlbeacon::{Request, Response};
+use trawlbeacon::{Request, Response, Window};
+
+/// MIDP and RADI of each response.
+const WINDOWS: [(u64, u32); 3] = [(1_773_685_571, 3), (1_773_599_171, 3), (1_773_599_171, 3)];
 
 /// Both sides' answer where they agree and none refuses.
 fn agreed<T: std::fmt::Debug>(both: answers::Both<Result<T, u32>>, what: &str) -> T
@@ -56,6 +61,32 @@ fn both_sides_read_all_six_packets() {
         assert_eq!(ours[..], entry.request, "entry {index}: the request, written by us");
     }
     println!("draft 19, appendix B: 3 requests and 3 responses, all fields of ours compared with independent");
+}
+
+/// What a check is asked about the request of one entry and the response of another.
+fn question(request: &Entry, response: &Entry, delegation: bool, signature: bool) -> Question {
+    Question { request: request.request.clone(), response: response.response.clone(), delegation, signature }
+}
+
+/// The paths are empty, so that nothing here tells which of two hashes goes first.
+#[test]
+fn both_sides_find_each_response_valid() {
+    let entries = report::entries();
+    for (index, entry) in entries.iter().enumerate() {
+        let window = agreed(question(entry, entry, true, true).ask(), "both signatures right");
+        let (midp, radi) = WINDOWS[index];
+        assert_eq!(window, Window { midp, radi, low: midp - u64::from(radi), high: midp + u64::from(radi) });
+        println!("entry {index}: valid, from {} to {}", window.low, window.high);
+        for (delegation, signature, due) in [(false, true, 12), (true, false, 13), (false, false, 12)] {
+            let both = question(entry, entry, delegation, signature).ask();
+            assert_eq!((both.ours, both.independent), (Err(due), Err(due)), "entry {index}");
+        }
+        for (other_index, other) in entries.iter().enumerate().filter(|other| other.0 != index) {
+            let both = question(entry, other, true, true).ask();
+            assert_eq!((both.ours, both.independent), (Err(9), Err(9)), "request {index}, response {other_index}");
+        }
+    }
+    println!("draft 19, appendix B: 3 responses, the windows that both sides tell compared with their MIDP and RADI");
 }
 
 #[test]

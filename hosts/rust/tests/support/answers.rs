@@ -20,50 +20,58 @@ pub trait Answer: PartialEq {
     fn show(&self) -> String;
 }
 
-impl Answer for Result<Request, u32> {
+/// What a call that passed says.
+pub trait Said: PartialEq {
+    fn say(&self) -> String;
+}
+
+impl<T: Said> Answer for Result<T, u32> {
     fn code(&self) -> u32 {
         *self.as_ref().err().unwrap_or(&0)
     }
 
     fn show(&self) -> String {
         match self {
-            Ok(read) => format!("NONC {} SRV {:?}", hex(&read.nonc), read.srv.map(|srv| hex(&srv))),
+            Ok(said) => said.say(),
             Err(code) => format!("code {code}"),
         }
     }
 }
 
-impl Answer for Result<Response, u32> {
-    fn code(&self) -> u32 {
-        *self.as_ref().err().unwrap_or(&0)
+impl Said for Request {
+    fn say(&self) -> String {
+        format!("NONC {} SRV {:?}", hex(&self.nonc), self.srv.map(|srv| hex(&srv)))
     }
+}
 
-    fn show(&self) -> String {
-        match self {
-            Ok(read) => {
-                let numbers = format!("INDX {} MIDP {} RADI {}", read.indx, read.midp, read.radi);
-                format!("NONC {} {numbers} ROOT {}", hex(&read.nonc), hex(&read.root))
-            }
-            Err(code) => format!("code {code}"),
-        }
+impl Said for Response {
+    fn say(&self) -> String {
+        let numbers = format!("INDX {} MIDP {} RADI {}", self.indx, self.midp, self.radi);
+        format!("NONC {} {numbers} ROOT {}", hex(&self.nonc), hex(&self.root))
+    }
+}
+
+/// How many bytes were written.
+impl Said for usize {
+    fn say(&self) -> String {
+        format!("{self} bytes written")
     }
 }
 
 /// What a writer answered, with all of the buffer that it was lent.
 #[derive(PartialEq)]
-pub struct Written {
-    pub length: Result<usize, u32>,
+pub struct Written<T = usize> {
+    pub answer: Result<T, u32>,
     pub buffer: Vec<u8>,
 }
 
-impl Answer for Written {
+impl<T: Said> Answer for Written<T> {
     fn code(&self) -> u32 {
-        *self.length.as_ref().err().unwrap_or(&0)
+        self.answer.code()
     }
 
     fn show(&self) -> String {
-        let answer = self.length.map_or_else(|code| format!("code {code}"), |length| format!("{length} bytes written"));
-        format!("{answer}, and the buffer is {}", hex(&self.buffer))
+        format!("{}, and the buffer is {}", self.answer.show(), hex(&self.buffer))
     }
 }
 
@@ -90,15 +98,15 @@ pub fn read_response(packet: &[u8]) -> Both<Result<Response, u32>> {
 }
 
 /// Lends each side a copy of `buffer` of its own.
-fn write_both(
+pub fn write_both<T>(
     buffer: &[u8],
-    ours: impl FnOnce(&mut [u8]) -> Result<usize, trawlbeacon::Refusal>,
-    independent: impl FnOnce(&mut [u8]) -> Result<usize, Refusal>,
-) -> Both<Written> {
+    ours: impl FnOnce(&mut [u8]) -> Result<T, trawlbeacon::Refusal>,
+    independent: impl FnOnce(&mut [u8]) -> Result<T, Refusal>,
+) -> Both<Written<T>> {
     let (mut lent, mut lent_too) = (buffer.to_vec(), buffer.to_vec());
-    let length = ours(&mut lent).map_err(trawlbeacon::Refusal::code);
-    let length_too = independent(&mut lent_too).map_err(Refusal::code);
-    Both { ours: Written { length, buffer: lent }, independent: Written { length: length_too, buffer: lent_too } }
+    let answer = ours(&mut lent).map_err(trawlbeacon::Refusal::code);
+    let answer_too = independent(&mut lent_too).map_err(Refusal::code);
+    Both { ours: Written { answer, buffer: lent }, independent: Written { answer: answer_too, buffer: lent_too } }
 }
 
 pub fn write_request(key: &[u8; 32], nonce: &[u8; 32], buffer: &[u8]) -> Both<Written> {

@@ -8,8 +8,10 @@ pub mod answers;
 pub mod base64;
 pub mod damage;
 pub mod packets;
+pub mod pairs;
 pub mod report;
 pub mod tally;
+pub mod trees;
 
 use std::fs;
 use std::path::Path;

@@ -225,11 +225,16 @@ impl ResponseFields {
                 others(random, known, room)
             }),
         };
-        while response.packet().len() > packet::MOST {
-            let longest = response.others.iter_mut().max_by_key(|pairs| pairs.len()).expect("there are four");
+        response.trim();
+        response
+    }
+
+    /// Drops other tags until the packet is no longer than it may be.
+    pub fn trim(&mut self) {
+        while self.packet().len() > packet::MOST {
+            let longest = self.others.iter_mut().max_by_key(|pairs| pairs.len()).expect("there are four");
             longest.pop();
         }
-        response
     }
 
     pub fn plan(&self) -> Plan {
@@ -258,7 +263,7 @@ pub fn samples(random: &mut Xorshift, each: usize) -> Vec<Plan> {
 }
 
 /// A number of any size: small ones, the largest and all in between are equally likely to be met.
-fn number(random: &mut Xorshift) -> u64 {
+pub fn number(random: &mut Xorshift) -> u64 {
     let bits = random.below(65) as u32;
     random.next().checked_shr(bits).unwrap_or(0)
 }

@@ -38,6 +38,11 @@ impl Tally {
         self.differs(format!("{column}: {}\n  ours        {ours}\n  independent {independent}{due}", input()));
     }
 
+    /// How many were counted, in all columns.
+    pub fn answers(&self) -> usize {
+        self.columns.iter().flat_map(|named| named.1.values()).sum()
+    }
+
     pub fn differs(&mut self, how: String) {
         self.differing += 1;
         if self.shown.len() < SHOWN {

@@ -1,0 +1,38 @@
+//! Lists of servers: records of 64 bytes, a long-term key and then its mark, with nothing around them.
+
+use crate::{raw, Hash, Refusal};
+
+/// Bytes of a record.
+const RECORD: usize = 64;
+
+/// The list that a server was found in.
+#[derive(Clone, Copy, Debug, PartialEq, Eq)]
+pub enum List {
+    /// The owner's, which is searched first.
+    Owner,
+    /// The shipped one.
+    Shipped,
+}
+
+/// A server that was found.
+#[derive(Clone, Copy, Debug, PartialEq, Eq)]
+pub struct Found<'a> {
+    /// Where it was found.
+    pub list: List,
+    /// How many bytes of that list stand before its record.
+    pub offset: usize,
+    /// Its record, which is a part of that list: the key, then its mark.
+    pub record: &'a [u8],
+}
+
+/// The first record with the mark `srv`, in the owner's list or else in the shipped one. The refusals are 21 and then 22.
+pub fn find_server<'a>(owner: &'a [u8], shipped: &'a [u8], srv: &Hash) -> Result<Found<'a>, Refusal> {
+    let ((start, n), (start_too, m)) = ((owner.as_ptr(), owner.len()), (shipped.as_ptr(), shipped.len()));
+    // SAFETY: the library only reads its inputs and keeps no pointer. A slice's pointer is never null, also where it is empty.
+    let found = unsafe { raw::tb_find_server(start, n, start_too, m, srv) };
+    Refusal::check_wide(found.code)?;
+    let (list, bytes) = if found.list == 0 { (List::Owner, owner) } else { (List::Shipped, shipped) };
+    // It is the offset of a part of a slice, so nothing is lost.
+    let offset = found.offset as usize;
+    Ok(Found { list, offset, record: &bytes[offset..offset + RECORD] })
+}

@@ -1,0 +1,183 @@
+//! Requests with the responses to them: valid ones, and such as break one of the rules or several.
+//!
+//! A rule is named by the code that it leads to. No breach touches what another is about, so that the first of all rules that were
+//! broken is the one that is due.
+
+use super::answers::{Both, Said};
+use super::packets::{number, RequestFields, ResponseFields};
+use super::trees::Walk;
+use super::{hex, Xorshift};
+use independent::hash::{self, Hash};
+use independent::{check, packet};
+use trawlbeacon::{raw, Window};
+
+/// The rules that come after a response's own shape.
+pub const RULES: [u32; 5] = [9, 10, 11, 12, 13];
+
+/// A request and the response to it.
+#[derive(Clone)]
+pub struct Pair {
+    pub request: RequestFields,
+    pub response: ResponseFields,
+    pub delegation: bool,
+    pub signature: bool,
+}
+
+/// What a check is asked.
+#[derive(Clone)]
+pub struct Question {
+    pub request: Vec<u8>,
+    pub response: Vec<u8>,
+    pub delegation: bool,
+    pub signature: bool,
+}
+
+impl Pair {
+    /// A valid pair, whose path has `depth` siblings.
+    pub fn random(random: &mut Xorshift, depth: usize) -> Self {
+        let request = RequestFields::random(random);
+        let mut response = ResponseFields::random(random);
+        response.path = (0..depth).map(|_| random.array()).collect();
+        response.indx = (random.next() % (1 << depth)) as u32;
+        response.trim();
+        let mut times = [number(random), number(random), number(random)];
+        times.sort_unstable();
+        [response.mint, response.midp, response.maxt] = times;
+        let mut pair = Pair { request, response, delegation: true, signature: true };
+        pair.tie();
+        pair
+    }
+
+    /// Makes the response answer the request as it is now.
+    pub fn tie(&mut self) {
+        self.response.nonc = self.request.nonc;
+        self.response.root = self.root_from(hash::leaf(&self.request.packet()), self.response.indx);
+    }
+
+    /// Where the path leads from this leaf, by this number.
+    fn root_from(&self, leaf: Hash, indx: u32) -> Hash {
+        Walk::right(leaf, indx, &self.response.path).root
+    }
+
+    pub fn question(&self) -> Question {
+        Question {
+            request: self.request.packet(),
+            response: self.response.packet(),
+            delegation: self.delegation,
+            signature: self.signature,
+        }
+    }
+
+    /// The window that must be told where the pair is valid, by the words of the document.
+    pub fn window(&self) -> Window {
+        let ResponseFields { midp, radi, .. } = self.response;
+        let wide = u64::from(radi);
+        Window { midp, radi, low: midp.saturating_sub(wide), high: midp.saturating_add(wide) }
+    }
+
+    /// Breaks one of [`RULES`].
+    pub fn break_rule(&mut self, random: &mut Xorshift, rule: u32) {
+        match rule {
+            9 => self.break_nonce(random),
+            10 => self.break_path(random),
+            11 => self.break_times(random),
+            12 => self.delegation = false,
+            13 => self.signature = false,
+            _ => panic!("there is no rule {rule} here"),
+        }
+    }
+
+    fn break_nonce(&mut self, random: &mut Xorshift) {
+        if random.once_in(2) {
+            // The answer to another request, which leads to its root.
+            self.request.nonc = random.array();
+            let nonc = self.response.nonc;
+            self.tie();
+            self.response.nonc = nonc;
+        } else {
+            flip(random, &mut self.response.nonc);
+        }
+    }
+
+    fn break_path(&mut self, random: &mut Xorshift) {
+        let request = self.request.packet();
+        let depth = self.response.path.len();
+        let indx = self.response.indx;
+        match random.below(10) {
+            0 if depth > 0 => self.response.indx ^= 1 << random.below(depth),
+            1 if depth < 32 => self.response.indx |= 1 << (depth + random.below(32 - depth)),
+            2 if depth > 0 => {
+                let at = random.below(depth);
+                flip(random, &mut self.response.path[at]);
+            }
+            3 if depth > 0 => drop(self.response.path.remove(random.below(depth))),
+            4 if depth < 32 => {
+                self.response.path.push(random.array());
+                self.response.trim();
+            }
+            // The other order of the two hashes at every step.
+            5 if depth > 0 => self.response.root = self.root_from(hash::leaf(&request), !indx),
+            // The leaf of the message without its header.
+            6 => self.response.root = self.root_from(hash::leaf(&request[packet::HEADER..]), indx),
+            // The hash of the packet without the byte in front that makes it a leaf.
+            7 => self.response.root = self.root_from(hash::h(&[&request]), indx),
+            8 => self.response.root = random.array(),
+            _ => flip(random, &mut self.response.root),
+        }
+    }
+
+    /// Takes MIDP out of the delegation's time, by one second or by many.
+    fn break_times(&mut self, random: &mut Xorshift) {
+        let ResponseFields { midp, .. } = self.response;
+        let far = if random.once_in(2) { 0 } else { number(random) };
+        if midp < u64::MAX && (midp == 0 || random.once_in(2)) {
+            self.response.mint = (midp + 1).saturating_add(far);
+        } else {
+            self.response.maxt = (midp - 1).saturating_sub(far);
+        }
+    }
+}
+
+/// Turns one bit.
+fn flip(random: &mut Xorshift, hash: &mut Hash) {
+    hash[random.below(32)] ^= 1 << random.below(8);
+}
+
+impl Said for Window {
+    fn say(&self) -> String {
+        format!("MIDP {} RADI {} from {} to {}", self.midp, self.radi, self.low, self.high)
+    }
+}
+
+impl Question {
+    pub fn ask(&self) -> Both<Result<Window, u32>> {
+        let Question { request, response, delegation, signature } = self;
+        let independent = check::check(request, response, *delegation, *signature);
+        let ours = trawlbeacon::check_response(request, response, *delegation, *signature);
+        Both {
+            ours: ours.map_err(trawlbeacon::Refusal::code),
+            independent: independent
+                .map(|window| Window { midp: window.midp, radi: window.radi, low: window.low, high: window.high })
+                .map_err(independent::refusal::Refusal::code),
+        }
+    }
+
+    /// What is wrong with the fields that hosts/rust does not show, or not whole, where it answered `ours`.
+    pub fn unseen_fields(&self, ours: &Result<Window, u32>) -> Option<String> {
+        let Question { request, response, delegation, signature } = self;
+        let ((start, n), (start_too, m)) = ((request.as_ptr(), request.len()), (response.as_ptr(), response.len()));
+        // SAFETY: the library only reads both packets.
+        let verdict = unsafe { raw::tb_check_response(start, n, start_too, m, *delegation, *signature) };
+        let due = match *ours {
+            Ok(Window { midp, radi, low, high }) => raw::Verdict { code: 0, midp, radi: radi.into(), low, high },
+            Err(code) => raw::Verdict { code: code.into(), midp: 0, radi: 0, low: 0, high: 0 },
+        };
+        (verdict != due).then(|| format!("tb_check_response answered {verdict:?}"))
+    }
+
+    pub fn show(&self) -> String {
+        let (request, response) = (hex(&self.request), hex(&self.response));
+        let answers = format!("delegation {} signature {}", self.delegation, self.signature);
+        format!("{answers}\n  request {request}\n  response {response}")
+    }
+}

@@ -1,0 +1,155 @@
+//! Whether a response is valid (draft 19, section 5.4), and the window of time that a valid one tells.
+//!
+//! The two signatures are for the caller to check: here they are a yes or a no each.
+
+use crate::refusal::Refusal;
+use crate::response::Response;
+use crate::{hash, request, response, tree};
+
+/// What a valid response tells: the true time is from `low` to `high`.
+#[derive(Clone, Copy, Debug, PartialEq, Eq)]
+pub struct Window {
+    /// MIDP.
+    pub midp: u64,
+    /// RADI.
+    pub radi: u32,
+    /// MIDP - RADI, or 0 where that is below 0.
+    pub low: u64,
+    /// MIDP + RADI, or the last second of all where that is beyond it.
+    pub high: u64,
+}
+
+impl Window {
+    /// The window of this midpoint and radius. In 128 bits no sum or difference of theirs can wrap.
+    pub fn around(midp: u64, radi: u32) -> Self {
+        let (low, high) = (i128::from(midp) - i128::from(radi), i128::from(midp) + i128::from(radi));
+        let within = |time: i128| u64::try_from(time.clamp(0, u64::MAX.into())).expect("it was clamped");
+        Window { midp, radi, low: within(low), high: within(high) }
+    }
+}
+
+/// The window that `response_packet` tells, where it is a valid answer to `request_packet`.
+///
+/// `delegation` says whether the signature in CERT is the long-term key's, and `signature` whether that of SREP is the
+/// delegated key's.
+pub fn check(
+    request_packet: &[u8],
+    response_packet: &[u8],
+    delegation: bool,
+    signature: bool,
+) -> Result<Window, Refusal> {
+    let request = request::read(request_packet).map_err(|_| Refusal::Request)?;
+    let response = response::read(response_packet)?;
+    let Response { outer, srep, dele, .. } = &response;
+    // The leaf is of the packet as it was sent, its header with it.
+    let leaf = hash::leaf(request_packet);
+    let rules = [
+        (request.versions.contains(&srep.version), Refusal::Kind),
+        (outer.nonc == request.nonc, Refusal::Nonce),
+        (tree::reaches(&leaf, outer.indx, &outer.path, &srep.root), Refusal::Path),
+        (dele.mint <= srep.midp && srep.midp <= dele.maxt, Refusal::Time),
+        (delegation, Refusal::Delegation),
+        (signature, Refusal::Signature),
+    ];
+    match rules.iter().find(|rule| !rule.0) {
+        Some((_, refusal)) => Err(*refusal),
+        None => Ok(Window::around(srep.midp, srep.radi)),
+    }
+}
+
+#[cfg(test)]
+mod tests {
+    use super::*;
+    use crate::response::tests::{good, Pieces};
+    use crate::tag::{Tag, INDX, MAXT, MIDP, MINT, NONC, PATH, RADI, ROOT, TYPE};
+    use crate::{packet, write};
+
+    /// A request, and the response that it is the only leaf of.
+    fn pair() -> (Vec<u8>, Pieces) {
+        let request = write::request(&[1; 32], &[2; 32]);
+        let mut response = good();
+        put(&mut response.outer, NONC, &[2; 32]);
+        put(&mut response.outer, PATH, &[]);
+        put(&mut response.outer, INDX, &[0; 4]);
+        put(&mut response.srep, ROOT, &hash::leaf(&request));
+        (request, response)
+    }
+
+    fn put(pairs: &mut [(Tag, Vec<u8>)], tag: Tag, value: &[u8]) {
+        let pair = pairs.iter_mut().find(|pair| pair.0 == tag).expect("the tag is there");
+        pair.1 = value.to_vec();
+    }
+
+    fn code(request: &[u8], response: &Pieces, answers: (bool, bool)) -> u32 {
+        check(request, &response.clone().packet(), answers.0, answers.1).map_or_else(Refusal::code, |_| 0)
+    }
+
+    #[test]
+    fn a_valid_response_tells_its_window() {
+        let (request, response) = pair();
+        let window = check(&request, &response.packet(), true, true);
+        assert_eq!(window, Ok(Window { midp: 256, radi: 5, low: 251, high: 261 }));
+    }
+
+    #[test]
+    fn windows_end_where_time_does() {
+        let ends = |midp, radi| {
+            let Window { low, high, .. } = Window::around(midp, radi);
+            (low, high)
+        };
+        assert_eq!(ends(3, 10), (0, 13));
+        assert_eq!(ends(0, 0), (0, 0));
+        assert_eq!(ends(10, 10), (0, 20));
+        assert_eq!(ends(u64::MAX, 1), (u64::MAX - 1, u64::MAX));
+        assert_eq!(ends(u64::MAX, 0), (u64::MAX, u64::MAX));
+        assert_eq!(ends(u64::MAX - 1, 1), (u64::MAX - 2, u64::MAX));
+        assert_eq!(ends(0, u32::MAX), (0, u32::MAX.into()));
+        assert_eq!(ends(u64::MAX, u32::MAX), (u64::MAX - u64::from(u32::MAX), u64::MAX));
+    }
+
+    /// Each rule is broken in turn, from the last to the first: the new damage counts.
+    #[test]
+    fn the_first_refusal_counts() {
+        let (request, mut response) = pair();
+        assert_eq!(code(&request, &response, (true, false)), 13);
+        assert_eq!(code(&request, &response, (false, true)), 12);
+        let no = (false, false);
+        assert_eq!(code(&request, &response, no), 12);
+        put(&mut response.dele, MINT, &257u64.to_le_bytes());
+        assert_eq!(code(&request, &response, no), 11);
+        put(&mut response.outer, INDX, &[1, 0, 0, 0]);
+        assert_eq!(code(&request, &response, no), 10);
+        put(&mut response.outer, NONC, &[3; 32]);
+        assert_eq!(code(&request, &response, no), 9);
+        put(&mut response.outer, TYPE, &[0; 4]);
+        assert_eq!(code(&request, &response, no), 8);
+        put(&mut response.srep, RADI, &[0; 8]);
+        assert_eq!(code(&request, &response, no), 7);
+        assert_eq!(code(&request[..1035], &response, no), 14);
+        assert_eq!(code(&[], &response, no), 14);
+    }
+
+    #[test]
+    fn the_ends_of_the_delegation_count_as_within_it() {
+        for (mint, maxt, due) in
+            [(256, 256, 0), (0, 256, 0), (256, 300, 0), (257, 300, 11), (0, 255, 11), (257, 255, 11)]
+        {
+            let (request, mut response) = pair();
+            put(&mut response.dele, MINT, &u64::to_le_bytes(mint));
+            put(&mut response.dele, MAXT, &u64::to_le_bytes(maxt));
+            assert_eq!(code(&request, &response, (true, true)), due, "{mint} to {maxt}");
+        }
+        let (request, mut response) = pair();
+        put(&mut response.srep, MIDP, &u64::MAX.to_le_bytes());
+        assert_eq!(code(&request, &response, (true, true)), 0);
+    }
+
+    #[test]
+    fn the_leaf_is_of_the_whole_packet() {
+        let (request, mut response) = pair();
+        put(&mut response.srep, ROOT, &hash::leaf(&request[packet::HEADER..]));
+        assert_eq!(code(&request, &response, (true, true)), 10);
+        put(&mut response.srep, ROOT, &hash::h(&[&request]));
+        assert_eq!(code(&request, &response, (true, true)), 10);
+    }
+}
