@@ -1,0 +1,59 @@
+-- Where all n records are valid and linked, the run that is found is the report's pair, least in j - i and then in i: one search serves both.
+-- Assumes nothing.
+use mathlib.Core.Path.{_≡_, subst}
+use mathlib.Core.Bool.{Bool}
+use Prim.Native.Nat.{ℕ, _<_}
+use native.Mathlib.Omega.{arith}
+use lib.Dec.{T}
+use Rattle.verdict.specs.declared.Verdict.{Verdict}
+use Rattle.runs.specs.Clash.{valid, contradicting}
+use Rattle.runs.specs.Spans.{Answers}
+use Rattle.runs.specs.Convict.{Convicts, Contradiction}
+use Rattle.runs.specs.declared.Span.{Span}
+use Rattle.runs.specs.declared.Span.the-variants.{Places, Nothing}
+use Rattle.runs.proofs.Find.{leastOf, least-says, once}
+
+module _ (v : ℕ → Verdict) (l : ℕ → Bool) (n : ℕ)
+    (all-valid : (k : ℕ) → k < n → T (valid (v k))) (all-linked : (k : ℕ) → 0 < k → k < n → T (l k)) where
+  to-run : (i j : ℕ) → Contradiction v n i j → Convicts v l n i j
+  to-run i j h = record {
+    inside = h .inside;
+    clean = record {
+      all-valid = λ k p q. all-valid k (omega (arith, h .inside));
+      all-linked = λ k p q. all-linked k (omega arith) (omega (arith, h .inside));
+    };
+    i = i;
+    j = j;
+    from = omega arith;
+    order = h .order;
+    to = omega arith;
+    clash = h .holds;
+  }
+
+  of-run : (a b : ℕ) (c : Convicts v l n a b) → Contradiction v n (c .i) (c .j)
+  of-run a b c = record { order = c .order; inside = omega (arith, c .inside, c .to); holds = c .clash }
+
+  -- the two ends of a least run are themselves the pair
+  pub pair-of-run : (r : Span) → Answers (Convicts v l n) r → Answers (Contradiction v n) r
+  pair-of-run (Places a b) m =
+      let c = m .holds in
+      let s = m .shortest (c .i) (c .j) (to-run (c .i) (c .j) (of-run a b c)) in
+      let p : c .i ≡ a = omega (arith, c .from, c .order, c .to) in
+      let q : c .j ≡ b = omega (arith, c .from, c .order, c .to) in
+      record {
+        holds = subst (λ (k : ℕ). Contradiction v n a k) q (subst (λ (k : ℕ). Contradiction v n k (c .j)) p (of-run a b c));
+        shortest = λ i j h. m .shortest i j (to-run i j h);
+        first = λ i j h e. m .first i j (to-run i j h) e;
+      }
+  pair-of-run Nothing m = λ i j h. m i j (to-run i j h)
+
+-- The report's pair, computed: there is one answer and no other.
+abbrev pub pairOf : (ℕ → Verdict) → ℕ → Span
+pairOf v n = leastOf (λ i j. contradicting (v i) (v j)) n
+
+module _ (v : ℕ → Verdict) (n : ℕ) where
+  pub pair-exists : Answers (Contradiction v n) (pairOf v n)
+  pair-exists = least-says (λ i j. T (contradicting (v i) (v j))) (λ i j. contradicting (v i) (v j)) n (λ i j o t. t) (λ i j o t. t)
+
+  pub pair-once : (r : Span) → Answers (Contradiction v n) r → r ≡ pairOf v n
+  pair-once r a = once (Contradiction v n) (λ i j h. omega (arith, h .order)) r (pairOf v n) a pair-exists

@@ -1,0 +1,48 @@
+-- `runs::search::shortest_run` meets its contract. Of the runs whose ends contradict, the least is the least that convicts.
+-- Assumes nothing.
+use Prim.Native.Nat.{_-_}
+use Rattle.laws.proofs.Pairs.{Passed, begin, next, found, nothing}
+use Rattle.runs.specs.Convict.{verdictAt, flagAt}
+use Rattle.runs.specs.Ends.{Exposes}
+use Rattle.runs.proofs.Ends.{along, least-run, no-run}
+use borrow.Author.Needs.{needs}
+use Rattle.runs.proofs.search.shortest_run.Statement.{statement}
+use Rattle.runs.proofs.search.shortest_run.Tie as tie
+
+abbrev Inv-loop : tie.InvT-loop
+Inv-loop verdicts linked n m gap₀ gap = Passed (Exposes (verdictAt verdicts) (flagAt linked)) m gap 0
+
+abbrev μ-loop : tie.MeasureT-loop
+μ-loop verdicts linked n m gap₀ gap = m - gap
+
+loop-holds : tie.Need-loop-holds Inv-loop μ-loop
+loop-holds c = begin
+
+returns : tie.Need-returns Inv-loop μ-loop
+returns c =
+    let called = c .before in
+    let loop = called .before .before in
+    let row = called .first-start .ensures in
+    rw (← (loop .before .capped .ensures)) (least-run (found (along (loop .loop .inv) row) (c .if1 .taken) (row .here (c .if1 .taken))))
+
+loop-again : tie.Need-loop-again Inv-loop μ-loop
+loop-again c = next (along (c .before .before .before .loop .inv) (c .before .first-start .ensures)) (c .if1 .left)
+
+returns-2 : tie.Need-returns-2 Inv-loop μ-loop
+returns-2 c = rw (← (c .before .before .capped .ensures)) (no-run (nothing (c .before .loop .inv) (c .loop-test .left)))
+
+pub shortest-run-spec : {M : Type 1} → statement M
+shortest-run-spec =
+    tie.close
+    (tie.spec
+    Inv-loop
+    μ-loop
+    (λ c κs. search needs)
+    loop-holds
+    (λ c κs. search needs)
+    (λ c. search needs)
+    returns
+    (λ c. search needs)
+    (λ c. search needs)
+    loop-again
+    returns-2)

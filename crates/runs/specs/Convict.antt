@@ -1,0 +1,38 @@
+-- The runs of a pile that convict, and the contradictions of a report (document 01, "Piles and reports"). A pile is what is known of its records:
+-- v k is the verdict on record k, and linked k whether it is linked to the one before it.
+use mathlib.Core.Bool.{Bool, false}
+use mathlib.Core.List.{List}
+use Prim.Native.Nat.{ℕ, _≤_, _<_}
+use lib.Dec.{T}
+use lib.ListN.{getD}
+use Rattle.laws.specs.Pairs.{Hits}
+use Rattle.verdict.specs.declared.Verdict.{Verdict}
+use Rattle.verdict.specs.declared.Verdict.the-variants.{Valid}
+use Rattle.runs.specs.Clash.{valid, contradicting}
+
+-- what an array holds at a place; past its end, which is never read, the value that has only zeros
+abbrev pub verdictAt : List Verdict → ℕ → Verdict
+verdictAt vs k = getD vs k (Valid (record { midp = 0; radi = 0; low = 0; high = 0 }))
+
+abbrev pub flagAt : List Bool → ℕ → Bool
+flagAt ls k = getD ls k false
+
+-- each record from a to b is valid, and each after a is linked
+pub record Clean (v : ℕ → Verdict) (linked : ℕ → Bool) (a b : ℕ) : Type 0 where
+  pub all-valid : (k : ℕ) → a ≤ k → k ≤ b → T (valid (v k))
+  pub all-linked : (k : ℕ) → a < k → k ≤ b → T (linked k)
+
+-- the run from a to b, of a pile of n records, convicts by itself: it is clean, and two records of it, i before j, contradict
+pub record Convicts (v : ℕ → Verdict) (linked : ℕ → Bool) (n a b : ℕ) : Type 0 where
+  pub inside : b < n
+  pub clean : Clean v linked a b
+  pub i : ℕ
+  pub j : ℕ
+  pub from : a ≤ i
+  pub order : i < j
+  pub to : j ≤ b
+  pub clash : T (contradicting (v i) (v j))
+
+-- of a report: records i < j of the first n contradict
+abbrev pub Contradiction : (ℕ → Verdict) → ℕ → ℕ → ℕ → Type 0
+Contradiction v n = Hits (λ i j. T (contradicting (v i) (v j))) n

@@ -1,0 +1,44 @@
+// One run, looked at: whether it is clean and its ends contradict.
+ghost use Prim.Native.Nat.{_≤_, _<_};
+ghost use Rattle.laws.specs.Told.{Tells};
+ghost use Rattle.runs.specs.Convict.{verdictAt, flagAt, Clean};
+ghost use Rattle.runs.specs.Ends.{Exposes};
+use super::compare::both_contradict;
+use super::compare::is_valid;
+use verdict::Verdict;
+
+// Whether the run from a to b is clean, and its first and last record contradict.
+pub fn exposes(verdicts: [Verdict; 16], linked: [bool; 16], a: usize, b: usize) -> bool
+    requires { ⌜ (a ≤ b) × (b < 16) ⌝ }
+    ensures { λ r. ⌜ Tells r (Exposes (verdictAt verdicts) (flagAt linked) a b) ⌝ }
+{
+    if !is_clean(verdicts, linked, a, b) {
+        return false;
+    }
+    let v = verdicts[a];
+    let w = verdicts[b];
+    both_contradict(v, w)
+}
+
+// Whether each record from a to b is valid, and each after a linked.
+fn is_clean(verdicts: [Verdict; 16], linked: [bool; 16], a: usize, b: usize) -> bool
+    requires { ⌜ (a ≤ b) × (b < 16) ⌝ }
+    ensures { λ r. ⌜ Tells r (Clean (verdictAt verdicts) (flagAt linked) a b) ⌝ }
+{
+    let v = verdicts[a];
+    if !is_valid(v) {
+        return false;
+    }
+    let mut k = a;
+    while k < b {
+        k += 1;
+        let w = verdicts[k];
+        if !is_valid(w) {
+            return false;
+        }
+        if !linked[k] {
+            return false;
+        }
+    }
+    true
+}
