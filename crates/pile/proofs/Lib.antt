@@ -1,0 +1,6 @@
+-- Laws that belong to no one function.
+pub mod Rows
+pub mod Wholes
+pub mod Reaching
+pub mod Exactly
+pub mod Once

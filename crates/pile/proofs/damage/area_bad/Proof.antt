@@ -1,0 +1,36 @@
+-- `pile::damage::area_bad` meets its contract. What is left of the area from n on is lent whole.
+-- Assumes nothing.
+use Prim.Native.Nat.{_-_}
+use mathlib.Core.Path.{refl, ap, _∙_}
+use mathlib.Core.Bool.{not}
+use native.Mathlib.Omega.{arith}
+use lib.ListN.{length, drop, length-drop}
+use lib.Seq.{take-all}
+use Rattle.laws.specs.Zeros.{zeros}
+use Rattle.pile.specs.Valid.{areaBad}
+use Rattle.pile.proofs.Rows.{hit-lt, past-lt, only}
+use borrow.Author.Needs.{needs}
+use Rattle.pile.proofs.damage.area_bad.Statement.{statement}
+use Rattle.pile.proofs.damage.area_bad.Tie as tie
+
+returns : tie.Need-returns
+unfolding areaBad
+returns c = hit-lt 2000 (c .before .before .args .n) _ refl (omega arith)
+
+returns-2 : tie.Need-returns-2
+unfolding areaBad
+returns-2 c =
+    let a = c .before .before .before .before .args in
+    let rest = take-all (length (a .area .now) - a .n) (drop (a .n) (a .area .now)) (omega (arith, length-drop (a .n) (a .area .now))) in
+    past-lt 2000 (a .n) _ refl (omega arith) (only (ap not (c .all-zero .ensures ∙ ap zeros rest)))
+
+pub area-bad-spec : {M : Type 1} → statement M
+area-bad-spec =
+    tie.close
+    (tie.spec
+    returns
+    (λ c. search needs)
+    (λ c. search needs)
+    (λ c. search needs)
+    (λ c κs. search needs)
+    returns-2)

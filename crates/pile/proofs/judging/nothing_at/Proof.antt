@@ -1,0 +1,23 @@
+-- `pile::judging::nothing_at` meets its contract. Each return is the first test of the row that holds, or the last one.
+-- Assumes nothing.
+use Rattle.pile.specs.Valid.{nothingAt}
+use Rattle.pile.proofs.Rows.{row}
+use borrow.Author.Needs.{needs}
+use Rattle.pile.proofs.judging.nothing_at.Statement.{statement}
+use Rattle.pile.proofs.judging.nothing_at.Tie as tie
+
+returns : tie.Need-returns
+unfolding nothingAt
+returns c = search row depth 9
+
+returns-2 : tie.Need-returns-2
+unfolding nothingAt
+returns-2 c = search row depth 9
+
+pub nothing-at-spec : {M : Type 1} → statement M
+nothing-at-spec =
+    tie.close
+    (tie.spec
+    (λ c κs. search needs)
+    returns
+    returns-2)

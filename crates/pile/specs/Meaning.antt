@@ -1,0 +1,59 @@
+-- Document 01's sentences on piles, one field a fact. They are proved to be one with the tests of Pile, Valid and Links, so that a reader may
+-- believe either.
+use Prim.Native.Nat.{ℕ, _+_, _*_, _-_, _%_, _≤_, _<_}
+use mathlib.Core.Path.{_≡_}
+use mathlib.Core.List.{List}
+use lib.ListN.{length, getD}
+use Rattle.hash.specs.Hashes.{linkOf}
+use Rattle.message.specs.Tags.{NONC}
+use Rattle.message.specs.Values.{valueOf}
+use Rattle.verdict.specs.Passes.{Passes}
+use Rattle.wire.specs.Packet.{body}
+use Rattle.wire.specs.Request.{requestCode}
+use Rattle.pile.specs.Pile.{recordsIn, recordAt, randIn, requestLength, responseLength, requestPacket, responsePacket, saidYes}
+
+-- a pile is 1 to 16 records of 4,096 bytes
+pub record WholePile (pile : List ℕ) : Type 0 where
+  pub exact : length pile % 4096 ≡ 0
+  pub from : 1 ≤ recordsIn pile
+  pub to : recordsIn pile ≤ 16
+
+-- beside it come two answer bytes a record: 1 yes, 0 no
+pub record GoodPile (pile answers : List ℕ) : Type 0 where
+  pub pile-whole : WholePile pile
+  pub two : length answers ≡ 2 * recordsIn pile
+  pub one-at-most : (i : ℕ) → i < length answers → getD answers i 0 ≤ 1
+
+-- lengths are at most 2,000; zeros 72-95; bytes of an area past its length are zero
+pub record Undamaged (r : List ℕ) : Type 0 where
+  pub request-fits : requestLength r ≤ 2000
+  pub response-fits : responseLength r ≤ 2000
+  pub gap : (i : ℕ) → 72 ≤ i → i < 96 → getD r i 0 ≡ 0
+  pub request-rest : (i : ℕ) → 96 + requestLength r ≤ i → i < 2096 → getD r i 0 ≡ 0
+  pub response-rest : (i : ℕ) → 2096 + responseLength r ≤ i → i < 4096 → getD r i 0 ≡ 0
+
+-- record k is valid: none of 15, 16, 14 and 1 to 13 applies
+pub record ValidRecord (pile answers : List ℕ) (k : ℕ) : Type 0 where
+  pub pile-good : GoodPile pile answers
+  pub there : k < recordsIn pile
+  pub undamaged : Undamaged (recordAt pile k)
+  pub passes : Passes (requestPacket (recordAt pile k)) (responsePacket (recordAt pile k)) (saidYes answers (2 * k)) (saidYes answers (2 * k + 1))
+
+-- the NONC of r's request, which is a good request, is H(whole response packet of b, rand of r)
+pub record LinkHolds (b r : List ℕ) : Type 0 where
+  pub request-fits : requestLength r ≤ 2000
+  pub response-fits : responseLength b ≤ 2000
+  pub request : requestCode (requestPacket r) ≡ 0
+  pub nonce : valueOf (body (requestPacket r)) NONC ≡ linkOf (responsePacket b) (randIn r)
+
+-- record k is linked to the one before it
+pub record LinkedAt (pile : List ℕ) (k : ℕ) : Type 0 where
+  pub pile-whole : WholePile pile
+  pub after : 1 ≤ k
+  pub there : k < recordsIn pile
+  pub holds : LinkHolds (recordAt pile (k - 1)) (recordAt pile k)
+
+-- the first rand, bytes 32 to 63 of record 0, is all zero
+pub record ZeroRand (pile : List ℕ) : Type 0 where
+  pub pile-whole : WholePile pile
+  pub rand : (i : ℕ) → 32 ≤ i → i < 64 → getD (recordAt pile 0) i 0 ≡ 0

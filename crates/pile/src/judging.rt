@@ -1,0 +1,71 @@
+// What is said of one record of a pile: 16, 14, 1 to 13, or its window.
+ghost use mathlib.Core.Path.{_≡_};
+ghost use Prim.Native.Nat.{_+_, _*_, _≤_, _<_};
+ghost use lib.ListN.{length};
+ghost use Rattle.pile.specs.Pile.{saidYes};
+ghost use Rattle.pile.specs.Valid.{recordVerdict, verdictAt, nothingAt, judgementOf};
+use super::Judgement;
+use super::damage::record_bad;
+use super::piles::pile_bad;
+use super::records::RECORD;
+use super::records::record_at;
+use super::records::request_of;
+use super::records::response_of;
+use verdict::Verdict;
+use verdict::check_response;
+
+// Judges record k. Where there is none, or the pile or its answers are bad, the refusal is 15.
+pub fn judge<'a>(pile: &'a [u8], answers: &'a [u8], k: usize) -> Judgement
+    ensures { λ r. ⌜ r ≡ judgementOf (now (pile .entry)) (now (answers .entry)) k ⌝ }
+{
+    if nothing_at(pile, answers, k) {
+        return Judgement {
+            place: k,
+            verdict: Verdict::Refused(15),
+        };
+    }
+    let v = verdict_at(pile, answers, k);
+    Judgement {
+        place: k,
+        verdict: v,
+    }
+}
+
+// There is no record k to judge.
+fn nothing_at<'a>(pile: &'a [u8], answers: &'a [u8], k: usize) -> bool
+    ensures { λ r. ⌜ r ≡ nothingAt (now (pile .entry)) (now (answers .entry)) k ⌝ }
+{
+    if pile_bad(pile, answers) {
+        return true;
+    }
+    pile.len() / RECORD <= k
+}
+
+// The verdict on record k, which is there with its two answers.
+pub fn verdict_at<'a>(pile: &'a [u8], answers: &'a [u8], k: usize) -> Verdict
+    requires { ⌜ (4096 * k + 4096 ≤ length (now pile)) × (2 * k + 2 ≤ length (now answers)) ⌝ }
+    ensures { λ r. ⌜ r ≡ verdictAt (now (pile .entry)) (now (answers .entry)) k ⌝ }
+{
+    let delegation = said_yes(answers, 2 * k);
+    let signature = said_yes(answers, 2 * k + 1);
+    verdict_on(record_at(pile, k), delegation, signature)
+}
+
+// The verdict on a record: 16 before the response is looked at.
+fn verdict_on(r: &[u8], delegation: bool, signature: bool) -> Verdict
+    requires { ⌜ length (now r) ≡ 4096 ⌝ }
+    ensures { λ x. ⌜ x ≡ recordVerdict (now (r .entry)) delegation signature ⌝ }
+{
+    if record_bad(r) {
+        return Verdict::Refused(16);
+    }
+    check_response(request_of(r), response_of(r), delegation, signature)
+}
+
+// Answer i is yes.
+fn said_yes(answers: &[u8], i: usize) -> bool
+    requires { ⌜ i < length (now answers) ⌝ }
+    ensures { λ r. ⌜ r ≡ saidYes (now (answers .entry)) i ⌝ }
+{
+    answers[i] == 1
+}

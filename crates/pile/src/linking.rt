@@ -1,0 +1,89 @@
+// Whether a record is linked to the one before it, and whether the first rand is zero.
+ghost use mathlib.Core.Path.{_≡_};
+ghost use lib.ListN.{length};
+ghost use Rattle.pile.specs.Facts.{Readable};
+ghost use Rattle.pile.specs.Links.{unreadable, nonceLinks, follows, unlinkable, linkedOf, firstRandZero};
+use super::piles::length_bad;
+use super::records::RECORD;
+use super::records::record_at;
+use super::records::request_of;
+use super::records::response_of;
+use hash::link;
+use message::tags::NONC;
+use message::value_of;
+use octets::all_zero;
+use octets::copy32;
+use octets::equal;
+use octets::le32;
+use wire::packet::body_of;
+use wire::request_code;
+
+// Whether the NONC of record k's request is H of the whole response packet of the record before it and its own rand. Where that can't be
+// asked, the answer is no.
+pub fn linked(pile: &[u8], k: usize) -> bool
+    ensures { λ x. ⌜ x ≡ linkedOf (now (pile .entry)) k ⌝ }
+{
+    if unlinkable_at(pile, k) {
+        return false;
+    }
+    follows_on(record_at(pile, k - 1), record_at(pile, k))
+}
+
+// Whether the first record's rand is all zero; no where there is no such record.
+pub fn first_rand_zero(pile: &[u8]) -> bool
+    ensures { λ x. ⌜ x ≡ firstRandZero (now (pile .entry)) ⌝ }
+{
+    if length_bad(pile) {
+        return false;
+    }
+    let r = record_at(pile, 0);
+    all_zero(&r[32..64])
+}
+
+// The pile is bad, or has no record k with one before it.
+fn unlinkable_at(pile: &[u8], k: usize) -> bool
+    ensures { λ x. ⌜ x ≡ unlinkable (now (pile .entry)) k ⌝ }
+{
+    if length_bad(pile) {
+        return true;
+    }
+    if k == 0 {
+        return true;
+    }
+    pile.len() / RECORD <= k
+}
+
+// Whether the record r is linked to the record b before it.
+fn follows_on<'a>(b: &'a [u8], r: &'a [u8]) -> bool
+    requires { ⌜ (length (now b) ≡ 4096) × (length (now r) ≡ 4096) ⌝ }
+    ensures { λ x. ⌜ x ≡ follows (now (b .entry)) (now (r .entry)) ⌝ }
+{
+    if out_of_reach(b, r) {
+        return false;
+    }
+    nonce_links(b, r)
+}
+
+// A length is above 2,000, so that its packet can't be read, or the request of r is bad, so that its NONC can't.
+fn out_of_reach<'a>(b: &'a [u8], r: &'a [u8]) -> bool
+    requires { ⌜ (length (now b) ≡ 4096) × (length (now r) ≡ 4096) ⌝ }
+    ensures { λ x. ⌜ x ≡ unreadable (now (b .entry)) (now (r .entry)) ⌝ }
+{
+    if 2000 < le32(r, 64) {
+        return true;
+    }
+    if 2000 < le32(b, 68) {
+        return true;
+    }
+    request_code(request_of(r)) != 0
+}
+
+// The request's NONC is the hash that links it. The response is hashed whole, its header included.
+fn nonce_links<'a>(b: &'a [u8], r: &'a [u8]) -> bool
+    requires { ⌜ Readable (now b) (now r) ⌝ }
+    ensures { λ x. ⌜ x ≡ nonceLinks (now (b .entry)) (now (r .entry)) ⌝ }
+{
+    let made = link(response_of(b), copy32(r, 32));
+    let m = body_of(request_of(r));
+    equal(value_of(m, NONC), &made)
+}

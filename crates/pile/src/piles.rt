@@ -1,0 +1,55 @@
+// Code 15: whether a pile and its answers are what they must be before any record is looked at.
+ghost use mathlib.Core.Path.{_≡_};
+ghost use Rattle.pile.specs.Pile.{lengthBad, answerBad, pileBad, pileCode};
+use super::records::RECORD;
+
+// Code 15 of a pile and its answers, 0 where it does not apply.
+pub fn pile_code<'a>(pile: &'a [u8], answers: &'a [u8]) -> u8
+    ensures { λ r. ⌜ r ≡ pileCode (now (pile .entry)) (now (answers .entry)) ⌝ }
+{
+    if pile_bad(pile, answers) {
+        return 15;
+    }
+    0
+}
+
+// The pile, the number of answers or an answer is bad.
+pub fn pile_bad<'a>(pile: &'a [u8], answers: &'a [u8]) -> bool
+    ensures { λ r. ⌜ r ≡ pileBad (now (pile .entry)) (now (answers .entry)) ⌝ }
+{
+    if length_bad(pile) {
+        return true;
+    }
+    if answers.len() != 2 * (pile.len() / RECORD) {
+        return true;
+    }
+    answer_bad(answers)
+}
+
+// The pile is not 1 to 16 whole records.
+pub fn length_bad(pile: &[u8]) -> bool
+    ensures { λ r. ⌜ r ≡ lengthBad (now (pile .entry)) ⌝ }
+{
+    if pile.len() % RECORD != 0 {
+        return true;
+    }
+    let n = pile.len() / RECORD;
+    if n < 1 {
+        return true;
+    }
+    16 < n
+}
+
+// An answer byte is neither yes nor no.
+fn answer_bad(answers: &[u8]) -> bool
+    ensures { λ r. ⌜ r ≡ answerBad (now (answers .entry)) ⌝ }
+{
+    let mut i = 0;
+    while i < answers.len() {
+        if 1 < answers[i] {
+            return true;
+        }
+        i += 1;
+    }
+    false
+}
