@@ -1,0 +1,23 @@
+-- `report::cutting::run_in` meets its contract. The run of the arrays is the run of the pile.
+-- Assumes nothing.
+use Rattle.report.proofs.Runs.{run-of}
+use borrow.Author.Needs.{needs}
+use Rattle.report.proofs.cutting.run_in.Statement.{statement}
+use Rattle.report.proofs.cutting.run_in.Tie as tie
+
+returns : tie.Need-returns
+returns c =
+    let start = c .before .before .before .before .before in
+    let verdicts = c .before .before .verdicts-of in
+    let flags = c .before .flags-of in
+    run-of (start .args .pile .now) (start .args .answers .now) (verdicts .result) (flags .result) (c .shortest-run .result) (start .pre)
+    (verdicts .ensures) (flags .ensures) (c .shortest-run .ensures)
+
+pub run-in-spec : {M : Type 1} → statement M
+run-in-spec =
+    tie.close
+    (tie.spec
+    (λ c κs. search needs)
+    (λ c κs. search needs)
+    (λ c κs. search needs)
+    returns)

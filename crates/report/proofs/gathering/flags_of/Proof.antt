@@ -1,0 +1,48 @@
+-- `report::gathering::flags_of` meets its contract. Each place passed holds its flag.
+-- Assumes nothing.
+use mathlib.Core.Path.{_≡_, refl}
+use mathlib.Core.Bool.{false}
+use Prim.Native.Nat.{ℕ, _-_, _≤_, _<_}
+use native.Mathlib.Omega.{arith}
+use lib.ListN.{length, length-set}
+use Rattle.laws.proofs.Fill.{fill-next}
+use Rattle.runs.specs.Convict.{flagAt}
+use Rattle.report.specs.Report.{joined}
+use borrow.Author.Needs.{needs}
+use Rattle.report.proofs.gathering.flags_of.Statement.{statement}
+use Rattle.report.proofs.gathering.flags_of.Tie as tie
+
+abbrev Inv-loop : tie.InvT-loop
+Inv-loop pile flags₀ k₀ flags k = (k ≤ 16) × (length flags ≡ 16) × ((i : ℕ) → i < k → flagAt flags i ≡ joined pile i)
+
+abbrev μ-loop : tie.MeasureT-loop
+μ-loop pile flags₀ k₀ flags k = 16 - k
+
+loop-holds : tie.Need-loop-holds Inv-loop μ-loop
+loop-holds c = (omega arith, refl, λ i l. absurd (omega arith))
+
+loop-again : tie.Need-loop-again Inv-loop μ-loop
+loop-again c =
+    let loop = c .before .before .loop in
+    let start = c .before .before .before .before in (
+      omega arith,
+      simp length-set (loop .inv .1),
+      fill-next (joined (start .args .pile .now)) false (loop .flags) (loop .k) (c .joined-at .result) (omega arith) (loop .inv .2) (c .joined-at .ensures),
+    )
+
+returns : tie.Need-returns Inv-loop μ-loop
+returns c = λ i l. c .before .loop .inv .2 i (omega arith)
+
+pub flags-of-spec : {M : Type 1} → statement M
+flags-of-spec =
+    tie.close
+    (tie.spec
+    Inv-loop
+    μ-loop
+    loop-holds
+    (λ c κs. search needs)
+    (λ c. search needs)
+    (λ c. search needs)
+    (λ c. search needs)
+    loop-again
+    returns)

@@ -1,0 +1,20 @@
+-- `report::scanning::of_record` meets its contract. Each arm knows its variant.
+-- Assumes nothing.
+use mathlib.Core.Path.{sym, ap}
+use Rattle.verdict.specs.declared.Verdict.{Verdict}
+use Rattle.report.specs.Report.{recordOf}
+use borrow.Author.Needs.{needs}
+use Rattle.report.proofs.scanning.of_record.Statement.{statement}
+use Rattle.report.proofs.scanning.of_record.Tie as tie
+
+returns : tie.Need-returns
+returns c = sym (ap (λ (v : Verdict). recordOf v (c .before .before .before .args .k)) (c .before .v .given .1))
+
+pub of-record-spec : {M : Type 1} → statement M
+of-record-spec =
+    tie.close
+    (tie.spec
+    (λ c. search needs)
+    (λ c. search needs)
+    returns
+    (λ c. search needs))

@@ -1,0 +1,6 @@
+-- Reports and the cutter (document 01, "Piles and reports"): what a reader must believe is Scans, Report and Taking.
+-- Meaning is document 01's sentence on reports, which is proved to be one with the answer of Report.
+pub mod Scans
+pub mod Report
+pub mod Taking
+pub mod Meaning

@@ -1,0 +1,64 @@
+-- What the check of a report answers (document 01, "Piles and reports"). A pile is a report when each record is valid and each after the first is
+-- linked, the first rand is all zero, and two records i < j contradict; it names the pair with least j - i, then least i. Else the answer says
+-- why it is none, in the order: 15; each record; 17 in order; 18.
+use mathlib.Core.Path.{_≡_}
+use mathlib.Core.Bool.{Bool, not, cond}
+use mathlib.Core.List.{List}
+use Prim.Native.Nat.{ℕ}
+use lib.Dec.{eqb}
+use Rattle.laws.specs.Pairs.{IsLeast}
+use Rattle.verdict.specs.declared.Verdict.{Verdict}
+use Rattle.verdict.specs.declared.Verdict.the-variants.{Valid, Refused}
+use Rattle.pile.specs.Pile.{recordsIn}
+use Rattle.pile.specs.Valid.{judgementOf}
+use Rattle.pile.specs.Links.{linkedOf, firstRandZero}
+use Rattle.pile.specs.Meaning.{GoodPile}
+use Rattle.runs.specs.Clash.{valid}
+use Rattle.runs.specs.Convict.{Contradiction}
+use Rattle.report.specs.Scans.{IsFirst, Never}
+use Rattle.report.specs.declared.Report.{Report}
+use Rattle.report.specs.declared.Report.the-variants.{Pair, Bad, Record, Unlinked, Clear}
+
+-- the verdict on record k: its window, or the code of its refusal
+abbrev pub judged : List ℕ → List ℕ → ℕ → Verdict
+judged pile answers k = judgementOf pile answers k .verdict
+
+-- record k is linked, and of the first: its rand is all zero
+unfoldable pub joined : List ℕ → ℕ → Bool
+joined pile k = cond (eqb k 0) (firstRandZero pile) (linkedOf pile k)
+
+-- of verdicts v and flags l: record k is refused, and its flag is not set
+abbrev pub refused : (ℕ → Verdict) → ℕ → Bool
+refused v k = not (valid (v k))
+
+abbrev pub loose : (ℕ → Bool) → ℕ → Bool
+loose l k = not (l k)
+
+-- the answer on n records that have the verdicts v and the flags l
+abbrev pub Says : (ℕ → Verdict) → (ℕ → Bool) → ℕ → Report → Type 0
+Says v l n (Pair i j) = Never (refused v) n × Never (loose l) n × IsLeast (Contradiction v n) i j
+Says v l n Bad = ⊥
+Says v l n (Record code k) = IsFirst (refused v) n k × (v k ≡ Refused code)
+Says v l n (Unlinked k) = Never (refused v) n × IsFirst (loose l) n k
+Says v l n Clear = Never (refused v) n × Never (loose l) n × ((i j : ℕ) → Contradiction v n i j → ⊥)
+
+-- the answer on a pile
+abbrev pub Reports : List ℕ → List ℕ → Report → Type 0
+Reports pile answers (Pair i j) = GoodPile pile answers × Says (judged pile answers) (joined pile) (recordsIn pile) (Pair i j)
+Reports pile answers Bad = GoodPile pile answers → ⊥
+Reports pile answers (Record code k) = GoodPile pile answers × Says (judged pile answers) (joined pile) (recordsIn pile) (Record code k)
+Reports pile answers (Unlinked k) = GoodPile pile answers × Says (judged pile answers) (joined pile) (recordsIn pile) (Unlinked k)
+Reports pile answers Clear = GoodPile pile answers × Says (judged pile answers) (joined pile) (recordsIn pile) Clear
+
+-- document 01's number of each answer, 0 where the pile is a report
+abbrev pub reportNumber : Report → ℕ
+reportNumber (Pair i j) = 0
+reportNumber Bad = 15
+reportNumber (Record code k) = code
+reportNumber (Unlinked k) = 17
+reportNumber Clear = 18
+
+-- For the private functions: the answer that the verdict on the first refused record gives.
+abbrev pub recordOf : Verdict → ℕ → Report
+recordOf (Refused code) k = Record code k
+recordOf (Valid w) k = Clear

@@ -1,0 +1,50 @@
+// The check of a report: 15; then the first record that is refused; then the first that is not linked; then the pair that contradicts.
+ghost use mathlib.Core.Path.{_≡_};
+ghost use Prim.Native.Nat.{_≤_};
+ghost use Rattle.runs.specs.Convict.{verdictAt, flagAt};
+ghost use Rattle.report.specs.Report.{Says, Reports};
+use super::Found;
+use super::Report;
+use super::gathering::RECORD;
+use super::gathering::flags_of;
+use super::gathering::verdicts_of;
+use super::scanning::first_loose;
+use super::scanning::first_refused;
+use super::scanning::of_record;
+use pile::pile_code;
+use runs::Span;
+use runs::shortest_run;
+use verdict::Verdict;
+
+// Whether the pile is a report, and the pair that it names.
+pub fn check_report<'a>(pile: &'a [u8], answers: &'a [u8]) -> Report
+    ensures { λ r. ⌜ Reports (now (pile .entry)) (now (answers .entry)) r ⌝ }
+{
+    if pile_code(pile, answers) != 0 {
+        return Report::Bad;
+    }
+    let n = pile.len() / RECORD;
+    let verdicts = verdicts_of(pile, answers);
+    let flags = flags_of(pile);
+    said_of(verdicts, flags, n)
+}
+
+// The same of n records of which the verdicts and flags are known. Where none is refused and none loose, the shortest run is the pair.
+fn said_of(verdicts: [Verdict; 16], flags: [bool; 16], n: usize) -> Report
+    requires { ⌜ n ≤ 16 ⌝ }
+    ensures { λ r. ⌜ Says (verdictAt verdicts) (flagAt flags) n r ⌝ }
+{
+    match first_refused(verdicts, n) {
+        Found::At(k) => {
+            let v = verdicts[k];
+            of_record(v, k)
+        }
+        Found::Nothing => match first_loose(flags, n) {
+            Found::At(k) => Report::Unlinked(k),
+            Found::Nothing => match shortest_run(verdicts, flags, n) {
+                Span::Places(i, j) => Report::Pair(i, j),
+                Span::Nothing => Report::Clear,
+            },
+        },
+    }
+}

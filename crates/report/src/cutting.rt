@@ -1,0 +1,58 @@
+// The cutter: 15, 19, 18, or a run at the front of the buffer.
+ghost use mathlib.Core.Path.{_≡_};
+ghost use Prim.Native.Nat.{_+_, _*_, _≤_};
+ghost use lib.ListN.{length};
+ghost use Rattle.pile.specs.Meaning.{GoodPile};
+ghost use Rattle.runs.specs.Spans.{Answers};
+ghost use Rattle.report.specs.Taking.{ConvictsIn, Takes, runPut, leaves};
+use super::Taken;
+use super::gathering::RECORD;
+use super::gathering::flags_of;
+use super::gathering::verdicts_of;
+use octets::put;
+use octets::zero;
+use pile::pile_code;
+use runs::Span;
+use runs::shortest_run;
+
+// Takes the shortest run that convicts by itself out of the pile, the first among equals. The buffer is as long as the pile at least.
+pub fn cut_run<'a>(pile: &'a [u8], answers: &'a [u8], out: &mut [u8]) -> Taken
+    ensures { λ r. ⌜ Takes (now (pile .entry)) (now (answers .entry)) (length (now (out .entry))) r ⌝ }
+    ensures { λ r. ⌜ now (out .exit) ≡ leaves r (now (pile .entry)) (now (out .entry)) ⌝ }
+{
+    if pile_code(pile, answers) != 0 {
+        return Taken::Bad;
+    }
+    if out.len() < pile.len() {
+        return Taken::Short;
+    }
+    match run_in(pile, answers) {
+        Span::Nothing => Taken::NoRun,
+        Span::Places(i, j) => {
+            put_run(pile, i, j, out);
+            Taken::Run(i, j)
+        }
+    }
+}
+
+// The run. The first record's flag plays no part in it, since a run's first record need not be linked.
+fn run_in<'a>(pile: &'a [u8], answers: &'a [u8]) -> Span
+    requires { ⌜ GoodPile (now pile) (now answers) ⌝ }
+    ensures { λ r. ⌜ Answers (ConvictsIn (now (pile .entry)) (now (answers .entry))) r ⌝ }
+{
+    let n = pile.len() / RECORD;
+    let verdicts = verdicts_of(pile, answers);
+    let flags = flags_of(pile);
+    shortest_run(verdicts, flags, n)
+}
+
+// Records i to j at the front of out, the first one's rand set to zero.
+fn put_run(pile: &[u8], i: usize, j: usize, out: &mut [u8])
+    requires { ⌜ (i ≤ j) × (4096 * j + 4096 ≤ length (now pile)) × (length (now pile) ≤ length (now out)) ⌝ }
+    ensures { λ _. ⌜ now (out .exit) ≡ runPut i j (now (pile .entry)) (now (out .entry)) ⌝ }
+{
+    let a = RECORD * i;
+    let e = RECORD * j + RECORD;
+    put(out, 0, &pile[a..e]);
+    zero(out, 32, 64);
+}

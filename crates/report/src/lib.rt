@@ -1,0 +1,33 @@
+// Reports and the cutter (document 01, "Piles and reports"): whether a pile is a report, and the shortest run of a pile that convicts by itself.
+// Both take any bytes.
+mod checking;
+mod cutting;
+mod gathering;
+mod scanning;
+
+pub use checking::check_report;
+pub use cutting::cut_run;
+
+// What is said of a pile: the two records that contradict, where it is a report, or why it is none. A refused record comes with its code and
+// then its place, a record that is not linked with its place.
+pub enum Report {
+    Pair(usize, usize),
+    Bad,
+    Record(u8, usize),
+    Unlinked(usize),
+    Clear,
+}
+
+// What the cutter took: the places of the first and the last record of the run, or that the pile is bad, the buffer too short, or no run there.
+pub enum Taken {
+    Run(usize, usize),
+    Bad,
+    Short,
+    NoRun,
+}
+
+// A place, or that there is none.
+enum Found {
+    At(usize),
+    Nothing,
+}

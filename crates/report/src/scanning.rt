@@ -1,0 +1,49 @@
+// The first record of which something is wrong.
+ghost use mathlib.Core.Path.{_≡_};
+ghost use Prim.Native.Nat.{_≤_, min};
+ghost use Rattle.runs.specs.Convict.{verdictAt, flagAt};
+ghost use Rattle.report.specs.Scans.{FirstAt};
+ghost use Rattle.report.specs.Report.{refused, loose, recordOf};
+use super::Found;
+use super::Report;
+use verdict::Verdict;
+
+// The first of n records that is refused.
+pub fn first_refused(verdicts: [Verdict; 16], n: usize) -> Found
+    requires { ⌜ n ≤ 16 ⌝ }
+    ensures { λ r. ⌜ FirstAt (refused (verdictAt verdicts)) n r ⌝ }
+{
+    for k in 0..n {
+        let v = verdicts[k];
+        match v {
+            Verdict::Refused(_) => {
+                return Found::At(k);
+            }
+            Verdict::Valid(_) => {}
+        }
+    }
+    Found::Nothing
+}
+
+// The first of n records whose flag is not set.
+pub fn first_loose(flags: [bool; 16], n: usize) -> Found
+    requires { ⌜ n ≤ 16 ⌝ }
+    ensures { λ r. ⌜ FirstAt (loose (flagAt flags)) n r ⌝ }
+{
+    for k in 0..n {
+        if !flags[k] {
+            return Found::At(k);
+        }
+    }
+    Found::Nothing
+}
+
+// The answer where v is the verdict on the first record that is refused, k.
+pub fn of_record(v: Verdict, k: usize) -> Report
+    ensures { λ r. ⌜ r ≡ recordOf v k ⌝ }
+{
+    match v {
+        Verdict::Refused(code) => Report::Record(code, k),
+        Verdict::Valid(_) => Report::Clear,
+    }
+}
