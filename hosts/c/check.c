@@ -2,8 +2,8 @@
  *
  * It hashes "abc" and the empty message and compares the digests with NIST's, then holds each other function to what the header
  * says of it: a hash by the digest of its parts joined, a tree of three leaves by its nodes, a reader and the check by a request of
- * ours and by a response that draft 19 prints, a lookup by the place of the record, a writer by what it leaves in a buffer. Whether
- * all of that is right on every input is for the tests of hosts/rust.
+ * ours and by a response that draft 19 prints, a lookup by the place of the record, a pile by the times it was made of, a writer by what
+ * it leaves in a buffer. Whether all of that is right on every input is for the tests of hosts/rust.
  */
 #include "response.h"
 #include "trawlbeacon.h"
@@ -18,13 +18,14 @@ static const char ABC[] = "ddaf35a193617abacc417349ae20413112e6fa4e89a97ea20a9ee
 static const char EMPTY[] = "cf83e1357eefb8bdf1542850d66d8007d620e4050b5715dc83f4a921d36ce9ce"
                             "47d0d13c5d85f2b0ff8318d2877eec2f63b931bd47417a81a538327af927da3e";
 
-/* The long-term key of the server that sent the response. */
-static const char KEY[] = "1670f22d5ffaf1ea6184b74525b74418276456fa570da55ee4f62f44376538e6";
-
-enum { RESPONSE_LENGTH = (sizeof RESPONSE - 1) / 2 };
+enum { RESPONSE_LENGTH = sizeof RESPONSE };
 
 /* Where things stand in that response. */
-enum { NONC_AT = 132, SREP_AT = 168, SREP_LENGTH = 92, ROOT_AT = 228, DELE_AT = 340, DELE_LENGTH = 72 };
+enum { NONC_AT = 132, SREP_AT = 168, SREP_LENGTH = 92, RADI_AT = 212, MIDP_AT = 216, ROOT_AT = 228 };
+enum { DELE_AT = 340, DELE_LENGTH = 72, MINT_AT = 396, MAXT_AT = 404 };
+
+/* Where things stand in a record of a pile. */
+enum { RAND_AT = 32, REQUEST_LENGTH_AT = 64, RESPONSE_LENGTH_AT = 68, GAP_AT = 72, REQUEST_AT = 96, RESPONSE_AT = 2096 };
 
 static int compared, differing;
 
@@ -261,10 +262,9 @@ static void expect_verdict(const char *what, struct tb_verdict is, struct tb_ver
 
 /* The request that the response answers is the one that we write with its nonce. */
 static void expect_checks(const uint8_t *packet) {
-    uint8_t key[32], request[TB_REQUEST_LENGTH] = {0};
+    uint8_t request[TB_REQUEST_LENGTH] = {0};
     size_t n = sizeof request, m = RESPONSE_LENGTH;
-    from_hex(KEY, key, sizeof key);
-    tb_write_request(key, packet + NONC_AT, request, n);
+    tb_write_request(KEY, packet + NONC_AT, request, n);
     struct tb_verdict valid = {0, 1773685571, 3, 1773685568, 1773685574};
     expect_verdict("a valid response", tb_check_response(request, n, packet, m, true, true), valid);
     struct tb_verdict delegation = {.code = 12}, signature = {.code = 13}, bad = {.code = 14}, cut = {.code = 3}, other = {.code = 9};
@@ -272,7 +272,7 @@ static void expect_checks(const uint8_t *packet) {
     expect_verdict("no signature", tb_check_response(request, n, packet, m, true, false), signature);
     expect_verdict("a bad request", tb_check_response(request, n - 1, packet, m - 1, false, false), bad);
     expect_verdict("a response cut short", tb_check_response(request, n, packet, m - 1, false, false), cut);
-    tb_write_request(key, key, request, n);
+    tb_write_request(KEY, KEY, request, n);
     expect_verdict("another request", tb_check_response(request, n, packet, m, true, true), other);
 }
 
@@ -296,11 +296,159 @@ static void expect_lookups(void) {
     expect_found("a broken list", tb_find_server(owner, 128, shipped, 127, first), 21, 0, 0);
 }
 
+/* Document 01's fifth example: what four records say of the time. The last contradicts the two before it, and the run is 2 to 3. */
+enum { RECORDS = 4, PILE_LENGTH = RECORDS * TB_RECORD_LENGTH };
+static const struct tb_verdict TIMES[RECORDS] = {
+    {0, 1000, 10, 990, 1010},
+    {0, 1500, 10, 1490, 1510},
+    {0, 1495, 1, 1494, 1496},
+    {0, 1400, 10, 1390, 1410},
+};
+static const uint8_t YES[2 * (TB_MOST_RECORDS + 1)] = {1, 1, 1, 1, 1, 1, 1, 1, 1, 1, 1, 1, 1, 1, 1, 1, 1,
+                                                       1, 1, 1, 1, 1, 1, 1, 1, 1, 1, 1, 1, 1, 1, 1, 1, 1};
+
+/* Writes a number in n bytes, least significant first. */
+static void put_number(uint8_t *at, uint64_t number, size_t n) {
+    for (size_t i = 0; i < n; i++) at[i] = (uint8_t)(number >> 8 * i);
+}
+
+/* Makes record k of a pile of the response: a request with the nonce that links it to the record before, and the response with that
+ * nonce, with the request as the only leaf of its tree, and with another time, which a delegation for all times allows. */
+static void lay_record(uint8_t *record, size_t k, struct tb_verdict time) {
+    uint8_t *rand = record + RAND_AT, *request = record + REQUEST_AT, *response = record + RESPONSE_AT, nonce[32] = {0};
+    memset(record, 0, TB_RECORD_LENGTH);
+    memcpy(record, KEY, sizeof KEY);
+    memset(rand, (int)k, 32);
+    put_number(record + REQUEST_LENGTH_AT, TB_REQUEST_LENGTH, 4);
+    put_number(record + RESPONSE_LENGTH_AT, RESPONSE_LENGTH, 4);
+    if (k > 0) tb_link(response - TB_RECORD_LENGTH, RESPONSE_LENGTH, rand, nonce);
+    tb_write_request(KEY, nonce, request, TB_REQUEST_LENGTH);
+    memcpy(response, RESPONSE, RESPONSE_LENGTH);
+    memcpy(response + NONC_AT, nonce, sizeof nonce);
+    tb_leaf(request, TB_REQUEST_LENGTH, response + ROOT_AT);
+    put_number(response + RADI_AT, time.radi, 4);
+    put_number(response + MIDP_AT, time.midp, 8);
+    put_number(response + MINT_AT, 0, 8);
+    put_number(response + MAXT_AT, UINT64_MAX, 8);
+}
+
+static void expect_judged(const char *what, struct tb_judged is, uint64_t place, struct tb_verdict should) {
+    struct tb_verdict verdict = {is.code, is.midp, is.radi, is.low, is.high};
+    expect_number(what, is.place, place);
+    expect_verdict(what, verdict, should);
+}
+
+static void expect_reported(const char *what, struct tb_reported is, uint64_t code, uint64_t place, uint64_t first, uint64_t second) {
+    expect_number(what, is.code, code);
+    expect_number(what, is.place, place);
+    expect_number(what, is.first, first);
+    expect_number(what, is.second, second);
+}
+
+static void expect_cut(const char *what, struct tb_cut is, uint64_t code, uint64_t first, uint64_t last) {
+    expect_number(what, is.code, code);
+    expect_number(what, is.first, first);
+    expect_number(what, is.last, last);
+}
+
+/* Holds every function to 15, or to no where it answers with a bool. */
+static void expect_bad_pile(const char *what, const uint8_t *pile, size_t n, const uint8_t *answers, size_t m) {
+    static uint8_t out[(TB_MOST_RECORDS + 1) * TB_RECORD_LENGTH];
+    struct tb_verdict bad = {.code = 15};
+    memset(out, 0xee, sizeof out);
+    expect_number(what, tb_pile_code(pile, n, answers, m), 15);
+    expect_judged(what, tb_judge(pile, n, answers, m, 2), 2, bad);
+    expect_reported(what, tb_check_report(pile, n, answers, m), 15, 0, 0, 0);
+    expect_cut(what, tb_cut_run(pile, n, answers, m, out, sizeof out), 15, 0, 0);
+    expect_cut(what, tb_cut_run(pile, n, answers, m, out, 0), 15, 0, 0);
+    expect_all(what, out, 0xee, sizeof out);
+}
+
+static void expect_bad_piles(const uint8_t *pile) {
+    static const uint8_t many[(TB_MOST_RECORDS + 1) * TB_RECORD_LENGTH];
+    uint8_t neither[2 * RECORDS];
+    memcpy(neither, YES, sizeof neither);
+    neither[2 * RECORDS - 1] = 2;
+    expect_bad_pile("a pile of no bytes", pile, 0, YES, 0);
+    expect_bad_pile("a pile that lacks a byte", pile, PILE_LENGTH - 1, YES, 2 * RECORDS);
+    expect_bad_pile("a pile of 17 records", many, sizeof many, YES, sizeof YES);
+    expect_bad_pile("no answers", pile, PILE_LENGTH, YES, 0);
+    expect_bad_pile("an answer too many", pile, PILE_LENGTH, YES, 2 * RECORDS + 1);
+    expect_bad_pile("an answer that is neither", pile, PILE_LENGTH, neither, sizeof neither);
+    expect_number("tb_linked in 17 records", tb_linked(many, sizeof many, 1), 0);
+    expect_number("tb_first_rand_zero of 17 records", tb_first_rand_zero(many, sizeof many), 0);
+    expect_number("tb_first_rand_zero of 16 records", tb_first_rand_zero(many, sizeof many - TB_RECORD_LENGTH), 1);
+    expect_number("tb_pile_code of 16 records", tb_pile_code(many, sizeof many - TB_RECORD_LENGTH, YES, sizeof YES - 2), 0);
+}
+
+/* The four records one by one, and the place behind them. */
+static void expect_records(const uint8_t *pile) {
+    struct tb_verdict nothing = {.code = 15};
+    for (size_t k = 0; k < RECORDS; k++) {
+        expect_judged("a record", tb_judge(pile, PILE_LENGTH, YES, 2 * RECORDS, k), k, TIMES[k]);
+        expect_number("tb_linked", tb_linked(pile, PILE_LENGTH, k), k > 0);
+    }
+    expect_judged("no record", tb_judge(pile, PILE_LENGTH, YES, 2 * RECORDS, RECORDS), RECORDS, nothing);
+    expect_number("tb_linked of no record", tb_linked(pile, PILE_LENGTH, RECORDS), 0);
+    expect_number("tb_first_rand_zero", tb_first_rand_zero(pile, PILE_LENGTH), 1);
+    expect_number("tb_first_rand_zero of another rand", tb_first_rand_zero(pile + TB_RECORD_LENGTH, TB_RECORD_LENGTH), 0);
+    expect_number("tb_contradicts, just not", tb_contradicts(1000, 5, 990, 5), 0);
+    expect_number("tb_contradicts, just", tb_contradicts(1000, 5, 990, 4), 1);
+    expect_number("tb_contradicts below 0", tb_contradicts(3, 10, 0, 0), 0);
+    expect_number("tb_contradicts above 2^64 - 1", tb_contradicts(UINT64_MAX, 0, UINT64_MAX - 1, 1), 0);
+}
+
+/* The run of the four records: where there is room for it, and where there would be only if out need not be as long as the pile. */
+static void expect_run(const uint8_t *pile) {
+    static uint8_t out[PILE_LENGTH + 8];
+    const uint8_t *first = pile + 2 * TB_RECORD_LENGTH;
+    size_t n = 2 * TB_RECORD_LENGTH, rest = RAND_AT + 32;
+    memset(out, 0xee, sizeof out);
+    expect_cut("tb_cut_run without room", tb_cut_run(pile, PILE_LENGTH, YES, 2 * RECORDS, out, PILE_LENGTH - 1), 19, 0, 0);
+    expect_cut("tb_cut_run of a record", tb_cut_run(pile, TB_RECORD_LENGTH, YES, 2, out, sizeof out), 18, 0, 0);
+    expect_all("the buffer of a refused cut", out, 0xee, sizeof out);
+    expect_cut("tb_cut_run", tb_cut_run(pile, PILE_LENGTH, YES, 2 * RECORDS, out, sizeof out), 0, 2, 3);
+    expect_bytes("the key of the run", out, first, RAND_AT);
+    expect_all("the rand of the run", out + RAND_AT, 0, 32);
+    expect_bytes("the rest of the run", out + rest, first + rest, n - rest);
+    expect_all("what follows the run", out + n, 0xee, sizeof out - n);
+    expect_reported("tb_check_report of the run", tb_check_report(out, n, YES, 4), 0, 0, 0, 1);
+}
+
+/* The four records, and what becomes of the report and the run where something is wrong with one of them. */
+static void expect_reports(uint8_t *pile) {
+    static uint8_t out[PILE_LENGTH];
+    uint8_t answers[2 * RECORDS], *last = pile + 3 * TB_RECORD_LENGTH;
+    memcpy(answers, YES, sizeof answers);
+    size_t n = PILE_LENGTH, m = sizeof answers;
+    expect_reported("tb_check_report", tb_check_report(pile, n, answers, m), 0, 0, 2, 3);
+    expect_reported("tb_check_report of a record", tb_check_report(pile, TB_RECORD_LENGTH, answers, 2), 18, 0, 0, 0);
+    answers[2 * 1 + 1] = 0;
+    expect_reported("a refused record", tb_check_report(pile, n, answers, m), 13, 1, 0, 0);
+    expect_cut("tb_cut_run beside a refused record", tb_cut_run(pile, n, answers, m, out, sizeof out), 0, 2, 3);
+    answers[2 * 1 + 1] = 1;
+    last[RAND_AT]++;
+    expect_reported("a record that is not linked", tb_check_report(pile, n, answers, m), 17, 3, 0, 0);
+    expect_cut("tb_cut_run without a link", tb_cut_run(pile, n, answers, m, out, sizeof out), 18, 0, 0);
+    pile[RAND_AT] = 1;
+    expect_reported("a first rand", tb_check_report(pile, n, answers, m), 17, 0, 0, 0);
+    last[GAP_AT] = 1;
+    expect_reported("a damaged record", tb_check_report(pile, n, answers, m), 16, 3, 0, 0);
+}
+
+static void expect_piles(void) {
+    static uint8_t pile[PILE_LENGTH];
+    for (size_t k = 0; k < RECORDS; k++) lay_record(pile + k * TB_RECORD_LENGTH, k, TIMES[k]);
+    expect_bad_piles(pile);
+    expect_records(pile);
+    expect_run(pile);
+    expect_reports(pile);
+}
+
 int main(void) {
     const uint8_t *abc = (const uint8_t *)"abc";
-    uint8_t packet[RESPONSE_LENGTH], kept[RESPONSE_LENGTH];
-    from_hex(RESPONSE, packet, sizeof packet);
-    memcpy(kept, packet, sizeof packet);
+    uint8_t packet[RESPONSE_LENGTH];
+    memcpy(packet, RESPONSE, sizeof packet);
 
     expect_digest("the digest of \"abc\"", abc, 3, ABC);
     expect_digest("the digest of the empty message", abc, 0, EMPTY);
@@ -310,9 +458,10 @@ int main(void) {
     expect_tree();
     expect_checks(packet);
     expect_lookups();
+    expect_piles();
     expect_text(tb_delegation_text, packet, "RoughTime v1 delegation signature", packet + DELE_AT, DELE_LENGTH);
     expect_text(tb_response_text, packet, "RoughTime v1 response signature", packet + SREP_AT, SREP_LENGTH);
-    expect_bytes("the packet after all calls", packet, kept, sizeof packet);
+    expect_bytes("the packet after all calls", packet, RESPONSE, sizeof packet);
     if (differing > 0) {
         printf("the C host: %d of %d comparisons differ\n", differing, compared);
         return 1;

@@ -1,7 +1,17 @@
 -- Each export's contract settles its result, and what it leaves in the lent buffer.
 -- Assumes nothing.
-use mathlib.Core.Path.{sym, _∙_}
+use Prim.Native.Nat.{ℕ}
+use mathlib.Core.Path.{_≡_, sym, ap, _∙_}
+use mathlib.Core.List.{List}
+use lib.ListN.{length}
 use Rattle.laws.proofs.Once.{Settles, SettlesExit}
+use Rattle.report.specs.Taking.{leaves}
+use Rattle.report.specs.declared.Taken.{Taken}
+use Rattle.report.proofs.Says.{report-once}
+use Rattle.report.proofs.Runs.{takes-once}
+use Rattle.capi.specs.Piling.{reportChecked}
+use Rattle.capi.specs.Cutting.{runCut, Cuts}
+use Rattle.capi.specs.declared.RunCut.{RunCut}
 use Rattle.capi.proofs.hashing.tb_sha512.Kinds as tb-sha512-kinds
 use Rattle.capi.proofs.hashing.tb_sha512.Reads as tb-sha512-reads
 use Rattle.capi.proofs.hashing.tb_leaf.Kinds as tb-leaf-kinds
@@ -38,6 +48,20 @@ use Rattle.capi.proofs.judging.tb_check_response.Kinds as tb-check-resp
 use Rattle.capi.proofs.judging.tb_check_response.Reads as tb-check-response-reads
 use Rattle.capi.proofs.finding.tb_find_server.Kinds as tb-find-server-kinds
 use Rattle.capi.proofs.finding.tb_find_server.Reads as tb-find-server-reads
+use Rattle.capi.proofs.piling.tb_pile_code.Kinds as tb-pile-code-kinds
+use Rattle.capi.proofs.piling.tb_pile_code.Reads as tb-pile-code-reads
+use Rattle.capi.proofs.piling.tb_judge.Kinds as tb-judge-kinds
+use Rattle.capi.proofs.piling.tb_judge.Reads as tb-judge-reads
+use Rattle.capi.proofs.piling.tb_linked.Kinds as tb-linked-kinds
+use Rattle.capi.proofs.piling.tb_linked.Reads as tb-linked-reads
+use Rattle.capi.proofs.piling.tb_first_rand_zero.Kinds as tb-first-rand-zero-kinds
+use Rattle.capi.proofs.piling.tb_first_rand_zero.Reads as tb-first-rand-zero-reads
+use Rattle.capi.proofs.piling.tb_contradicts.Kinds as tb-contradicts-kinds
+use Rattle.capi.proofs.piling.tb_contradicts.Reads as tb-contradicts-reads
+use Rattle.capi.proofs.piling.tb_check_report.Kinds as tb-check-report-kinds
+use Rattle.capi.proofs.piling.tb_check_report.Reads as tb-check-report-reads
+use Rattle.capi.proofs.piling.tb_cut_run.Kinds as tb-cut-run-kinds
+use Rattle.capi.proofs.piling.tb_cut_run.Reads as tb-cut-run-reads
 
 pub tb-sha512-once : SettlesExit 2 tb-sha512-kinds.ps tb-sha512-kinds.r tb-sha512-reads.Post (λ κs e. e .1 .0 .now)
 tb-sha512-once κs a x e y f p q = p ∙ sym q
@@ -110,3 +134,35 @@ tb-check-response-once κs a x e y f p q = p ∙ sym q
 
 pub tb-find-server-once : Settles 2 tb-find-server-kinds.ps tb-find-server-kinds.r tb-find-server-reads.Post
 tb-find-server-once κs a x e y f p q = p ∙ sym q
+
+pub tb-pile-code-once : Settles 1 tb-pile-code-kinds.ps tb-pile-code-kinds.r tb-pile-code-reads.Post
+tb-pile-code-once κs a x e y f p q = p ∙ sym q
+
+pub tb-judge-once : Settles 1 tb-judge-kinds.ps tb-judge-kinds.r tb-judge-reads.Post
+tb-judge-once κs a x e y f p q = p ∙ sym q
+
+pub tb-linked-once : Settles 1 tb-linked-kinds.ps tb-linked-kinds.r tb-linked-reads.Post
+tb-linked-once κs a x e y f p q = p ∙ sym q
+
+pub tb-first-rand-zero-once : Settles 1 tb-first-rand-zero-kinds.ps tb-first-rand-zero-kinds.r tb-first-rand-zero-reads.Post
+tb-first-rand-zero-once κs a x e y f p q = p ∙ sym q
+
+pub tb-contradicts-once : Settles 0 tb-contradicts-kinds.ps tb-contradicts-kinds.r tb-contradicts-reads.Post
+tb-contradicts-once κs a x e y f p q = p ∙ sym q
+
+-- only one answer is right, and so only one struct
+pub tb-check-report-once : Settles 1 tb-check-report-kinds.ps tb-check-report-kinds.r tb-check-report-reads.Post
+tb-check-report-once κs a x e y f p q =
+    p .same ∙ ap reportChecked (report-once (a .0 .now) (a .1 .0 .now) (p .answer) (q .answer) (p .right) (q .right)) ∙ sym (q .same)
+
+-- of the cutter too, and so only one buffer
+cut-once : (pile answers out : List ℕ) (r s : RunCut) (b d : List ℕ) (p : Cuts pile answers out r b) (q : Cuts pile answers out s d)
+    → p .answer ≡ q .answer
+cut-once pile answers out r s b d p q = takes-once pile answers (length out) (p .answer) (q .answer) (p .right) (q .right)
+
+pub tb-cut-run-once : Settles 2 tb-cut-run-kinds.ps tb-cut-run-kinds.r tb-cut-run-reads.Post
+tb-cut-run-once κs a x e y f p q = p .same ∙ ap runCut (cut-once _ _ _ _ _ _ _ p q) ∙ sym (q .same)
+
+pub tb-cut-run-leaves-once : SettlesExit 2 tb-cut-run-kinds.ps tb-cut-run-kinds.r tb-cut-run-reads.Post (λ κs e. e .1 .1 .0 .now)
+tb-cut-run-leaves-once κs a x e y f p q =
+    p .left ∙ ap (λ (t : Taken). leaves t (a .0 .now) (a .1 .1 .0 .now)) (cut-once _ _ _ _ _ _ _ p q) ∙ sym (q .left)

@@ -19,7 +19,7 @@ pub extern "C" fn tb_check_response<'a>(
 }
 
 // A verdict, as a struct.
-fn verdict_told(v: Verdict) -> Judged
+pub fn verdict_told(v: Verdict) -> Judged
     ensures { λ r. ⌜ r ≡ judged v ⌝ }
 {
     match v {

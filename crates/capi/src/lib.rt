@@ -1,10 +1,11 @@
 // The C boundary. Numbers pass as themselves, a slice as a pointer and a length, an array as a pointer, an answer as a struct by value.
 // No function asks anything of its caller but that its pointers are valid for their lengths, and not null.
-// A code is document 01's number, 0 where nothing was refused; what stands beside a refusal is zeros.
+// A code is document 01's number, 0 where nothing was refused; what stands beside a refusal is zeros, but for the place of a record.
 mod building;
 mod finding;
 mod hashing;
 mod judging;
+mod piling;
 mod reading;
 mod writing;
 
@@ -74,4 +75,32 @@ pub struct ServerFound {
     pub code: u64,
     pub list: u64,
     pub offset: u64,
+}
+
+// What `tb_judge` answers: what is said of one record, with its place.
+#[repr(C)]
+pub struct RecordJudged {
+    pub code: u64,
+    pub place: u64,
+    pub midp: u64,
+    pub radi: u64,
+    pub low: u64,
+    pub high: u64,
+}
+
+// What `tb_check_report` answers: the place of the record that is to blame for the code, or the two records that contradict.
+#[repr(C)]
+pub struct ReportChecked {
+    pub code: u64,
+    pub place: u64,
+    pub first: u64,
+    pub second: u64,
+}
+
+// What `tb_cut_run` answers: the places of the first and the last record of the run.
+#[repr(C)]
+pub struct RunCut {
+    pub code: u64,
+    pub first: u64,
+    pub last: u64,
 }

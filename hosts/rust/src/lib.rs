@@ -24,6 +24,7 @@
 
 mod check;
 mod packets;
+mod piles;
 pub mod raw;
 mod refusal;
 mod servers;
@@ -32,6 +33,10 @@ mod trees;
 pub use check::{check_response, Window};
 pub use packets::{
     delegation_text, read_request, read_response, response_text, write_request, Request, Response, REQUEST_LENGTH,
+};
+pub use piles::{
+    check_report, contradicts, cut_run, first_rand_zero, judge, linked, pile_code, Pair, ReportRefusal, Run,
+    MOST_RECORDS, RECORD_LENGTH,
 };
 pub use refusal::Refusal;
 pub use servers::{find_server, Found, List};

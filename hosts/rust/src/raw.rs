@@ -1,4 +1,4 @@
-//! The C functions of the proved library, and the structs that they answer with, as `hosts/c/trawlbeacon.h` declares them.
+//! The C functions of the proved library, and the structs that they answer with, as `include/trawlbeacon.h` declares them.
 //!
 //! A slice is passed as a pointer and then a length. The pointer must not be null, whatever the length.
 //! A reference to an array is a plain pointer to C, and says here how many bytes it must lead to.
@@ -108,6 +108,50 @@ pub struct Found {
     pub offset: u64,
 }
 
+/// What [`tb_judge`] answers.
+#[repr(C)]
+#[derive(Clone, Copy, Debug, PartialEq, Eq)]
+pub struct Judged {
+    /// 0, or a refusal; then all else but the place is 0.
+    pub code: u64,
+    /// The place that was asked for.
+    pub place: u64,
+    /// MIDP.
+    pub midp: u64,
+    /// RADI.
+    pub radi: u64,
+    /// The low end of the window.
+    pub low: u64,
+    /// The high end of the window.
+    pub high: u64,
+}
+
+/// What [`tb_check_report`] answers.
+#[repr(C)]
+#[derive(Clone, Copy, Debug, PartialEq, Eq)]
+pub struct Reported {
+    /// 0, or a refusal; then all else but the place is 0.
+    pub code: u64,
+    /// The place of the record to which the refusal applies: 0 where there is none, as with 0, 15 and 18.
+    pub place: u64,
+    /// The place of the earlier record of the pair.
+    pub first: u64,
+    /// The place of the later one.
+    pub second: u64,
+}
+
+/// What [`tb_cut_run`] answers.
+#[repr(C)]
+#[derive(Clone, Copy, Debug, PartialEq, Eq)]
+pub struct Cut {
+    /// 0, or a refusal; then all else is 0.
+    pub code: u64,
+    /// The place of the first record of the run.
+    pub first: u64,
+    /// The place of the last one.
+    pub last: u64,
+}
+
 extern "C" {
     /// SHA-512.
     pub fn tb_sha512(s: *const u8, n: usize, out: &mut [u8; 64]);
@@ -155,4 +199,19 @@ extern "C" {
     ) -> Verdict;
     /// Looks a server up.
     pub fn tb_find_server(owner: *const u8, n: usize, shipped: *const u8, m: usize, srv: &[u8; 32]) -> Found;
+
+    /// Code 15 of a pile and its answers, or 0.
+    pub fn tb_pile_code(pile: *const u8, n: usize, answers: *const u8, m: usize) -> u32;
+    /// Judges a record of a pile.
+    pub fn tb_judge(pile: *const u8, n: usize, answers: *const u8, m: usize, place: usize) -> Judged;
+    /// Whether a record of a pile is linked to the one before it.
+    pub fn tb_linked(pile: *const u8, n: usize, place: usize) -> bool;
+    /// Whether the first rand of a pile is all zero.
+    pub fn tb_first_rand_zero(pile: *const u8, n: usize) -> bool;
+    /// Whether two windows contradict each other.
+    pub fn tb_contradicts(earlier_midp: u64, earlier_radi: u32, later_midp: u64, later_radi: u32) -> bool;
+    /// Checks whether a pile is a report.
+    pub fn tb_check_report(pile: *const u8, n: usize, answers: *const u8, m: usize) -> Reported;
+    /// Writes the run of a pile that convicts by itself.
+    pub fn tb_cut_run(pile: *const u8, n: usize, answers: *const u8, m: usize, out: *mut u8, room: usize) -> Cut;
 }

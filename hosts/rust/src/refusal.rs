@@ -20,13 +20,18 @@ use std::fmt;
 /// | 12 | the delegation's signature was answered no |
 /// | 13 | the response's signature was answered no |
 /// | 14 | the request lent with a response is bad |
+/// | 15 | a pile is not 1 to 16 whole records, or its answers are not two bytes a record, each 0 or 1 |
+/// | 16 | a record of a pile has a length above 2,000, or a byte that must be zero is not |
+/// | 17 | a record of a pile is not linked to the one before it, or the first rand is not zero |
+/// | 18 | no two records of a pile contradict each other; of the cutter, there is no run |
 /// | 19 | the buffer to be written into is too short |
 /// | 20 | the leaves are not 1 to 64 whole ones, or the place is past the last |
 /// | 21 | a list of servers is not whole records |
 /// | 22 | no list has the server |
 ///
 /// Where several apply, the first of them is given; a response's messages are judged one after the other, the outermost first,
-/// then SREP, CERT and DELE, each by 4 to 7, and 8 comes after them all. Before all others comes 14, and 20 before 19.
+/// then SREP, CERT and DELE, each by 4 to 7, and 8 comes after them all. Before 1 to 13 comes 14, before 14 comes 16 and before all comes
+/// 15; 19 comes before 18, and 20 before 19.
 #[derive(Clone, Copy, Debug, PartialEq, Eq)]
 pub struct Refusal(u32);
 

@@ -1,0 +1,17 @@
+-- `capi::piling::tb_contradicts` meets its contract.
+-- Assumes nothing.
+use borrow.Author.Needs.{needs}
+use Rattle.capi.proofs.piling.tb_contradicts.Statement.{statement}
+use Rattle.capi.proofs.piling.tb_contradicts.Tie as tie
+
+returns : tie.Need-returns
+returns c = cc
+
+pub tb-contradicts-spec : {M : Type 1} → statement M
+tb-contradicts-spec =
+    tie.close
+    (tie.spec
+    (λ c κs. search needs)
+    (λ c κs. search needs)
+    (λ c κs. search needs)
+    returns)

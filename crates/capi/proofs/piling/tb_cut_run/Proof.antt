@@ -1,0 +1,19 @@
+-- `capi::piling::tb_cut_run` meets its contract.
+-- Assumes nothing.
+use borrow.Author.Needs.{needs}
+use Rattle.capi.proofs.piling.tb_cut_run.Statement.{statement}
+use Rattle.capi.proofs.piling.tb_cut_run.Tie as tie
+
+returns : tie.Need-returns
+returns c =
+    let cut = c .before .before .before .cut-run in
+    record { answer = cut .result; right = cut .ensures .0; same = c .run-told .ensures; left = cut .ensures .1 }
+
+pub tb-cut-run-spec : {M : Type 1} → statement M
+tb-cut-run-spec =
+    tie.close
+    (tie.spec
+    (λ c κs. search needs)
+    (λ c κs. search needs)
+    (λ c. search needs)
+    returns)

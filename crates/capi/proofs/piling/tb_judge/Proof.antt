@@ -1,0 +1,20 @@
+-- `capi::piling::tb_judge` meets its contract.
+-- Assumes nothing.
+use mathlib.Core.Path.{ap, _∙_}
+use Rattle.capi.specs.Piling.{placed, recordJudged}
+use borrow.Author.Needs.{needs}
+use Rattle.capi.proofs.piling.tb_judge.Statement.{statement}
+use Rattle.capi.proofs.piling.tb_judge.Tie as tie
+
+returns : tie.Need-returns
+returns c =
+    let judgement = c .before .judge in
+    ap (placed (judgement .result .place)) (c .verdict-told .ensures) ∙ ap recordJudged (judgement .ensures)
+
+pub tb-judge-spec : {M : Type 1} → statement M
+tb-judge-spec =
+    tie.close
+    (tie.spec
+    (λ c κs. search needs)
+    (λ c κs. search needs)
+    returns)

@@ -1,0 +1,179 @@
+//! Piles of records, which are requests with the responses that answer them: what each record says, whether a pile is a report, and the
+//! run of records that convicts by itself.
+
+// Why each call below is sound. The library only reads its inputs, only writes within `out`, and keeps no pointer. A Rust
+// slice's pointer is never null, also where the slice is empty, which the library asks for. What a slice leads to is initialised,
+// and a mutable one overlaps no other. A place that it answers is one of a record of the pile, so nothing is lost where it becomes a usize.
+
+use std::fmt;
+
+use crate::{raw, Refusal, Window};
+
+/// Bytes of a record of a pile. Numbers in it are least significant byte first.
+///
+/// | Bytes | Hold |
+/// |---|---|
+/// | 0 to 31 | the server's long-term key |
+/// | 32 to 63 | rand: the nonce is H(response of the record before, rand) |
+/// | 64 to 67 | the length of the request, at most 2,000 |
+/// | 68 to 71 | the length of the response, at most 2,000 |
+/// | 72 to 95 | zeros |
+/// | 96 to 2,095 | the request packet, then zeros |
+/// | 2,096 to 4,095 | the response packet, then zeros |
+pub const RECORD_LENGTH: usize = 4096;
+
+/// The most records that a pile has. It has at least one, and they stand one after the other; places of records count from 0.
+///
+/// Beside a pile come its answers, two bytes a record in the same order: whether the signature in CERT verifies, over
+/// [`delegation_text`](crate::delegation_text), and then whether that of SREP does, over [`response_text`](crate::response_text).
+/// Each is 1 for yes or 0 for no.
+pub const MOST_RECORDS: usize = 16;
+
+/// The two records of a report that contradict each other, by their places.
+#[derive(Clone, Copy, Debug, PartialEq, Eq)]
+pub struct Pair {
+    /// The earlier one.
+    pub first: usize,
+    /// The later one.
+    pub second: usize,
+}
+
+/// A run of records that was cut out of a pile, by its ends' places in that pile.
+#[derive(Clone, Copy, Debug, PartialEq, Eq)]
+pub struct Run {
+    /// The first record of the run.
+    pub first: usize,
+    /// The last one.
+    pub last: usize,
+}
+
+/// Why a pile is no report.
+#[derive(Clone, Copy, Debug, PartialEq, Eq)]
+pub struct ReportRefusal {
+    /// The refusal.
+    pub refusal: Refusal,
+    /// The place of the record to which it applies: there is one exactly where the code is 1 to 14, 16 or 17.
+    pub place: Option<usize>,
+}
+
+impl fmt::Display for ReportRefusal {
+    fn fmt(&self, f: &mut fmt::Formatter) -> fmt::Result {
+        match self.place {
+            Some(place) => write!(f, "record {place} {}", self.refusal),
+            None => self.refusal.fmt(f),
+        }
+    }
+}
+
+impl std::error::Error for ReportRefusal {}
+
+/// Whether `pile` is 1 to 16 whole records and `answers` two bytes for each, none above 1. The only refusal is 15.
+///
+/// ```
+/// use trawlbeacon::{pile_code, RECORD_LENGTH};
+///
+/// assert_eq!(pile_code(&[0; RECORD_LENGTH], &[1, 0]), Ok(()));
+/// assert_eq!(pile_code(&[], &[]).unwrap_err().code(), 15);
+/// assert_eq!(pile_code(&[0; RECORD_LENGTH], &[1, 2]).unwrap_err().code(), 15);
+/// ```
+pub fn pile_code(pile: &[u8], answers: &[u8]) -> Result<(), Refusal> {
+    let ((start, n), (start_too, m)) = ((pile.as_ptr(), pile.len()), (answers.as_ptr(), answers.len()));
+    // SAFETY: see above.
+    Refusal::check(unsafe { raw::tb_pile_code(start, n, start_too, m) })
+}
+
+/// The window of the record at `place`, where it is valid. The refusals are 15, also where the pile has no such record, then 16, 14 and
+/// 1 to 13. Its rand and its links play no part.
+///
+/// ```
+/// use trawlbeacon::{judge, RECORD_LENGTH};
+///
+/// // A record of zeros has no request, and there is no second record.
+/// assert_eq!(judge(&[0; RECORD_LENGTH], &[1, 1], 0).unwrap_err().code(), 14);
+/// assert_eq!(judge(&[0; RECORD_LENGTH], &[1, 1], 1).unwrap_err().code(), 15);
+/// ```
+pub fn judge(pile: &[u8], answers: &[u8], place: usize) -> Result<Window, Refusal> {
+    let ((start, n), (start_too, m)) = ((pile.as_ptr(), pile.len()), (answers.as_ptr(), answers.len()));
+    // SAFETY: see above.
+    let judged = unsafe { raw::tb_judge(start, n, start_too, m, place) };
+    Refusal::check_wide(judged.code)?;
+    // RADI has 32 bits, so nothing is lost.
+    Ok(Window { midp: judged.midp, radi: judged.radi as u32, low: judged.low, high: judged.high })
+}
+
+/// Whether the record at `place` is linked: the NONC of its request is H(whole response packet of the record before, its own rand).
+/// It is not where that cannot be asked: the pile is not 1 to 16 whole records, it has no such record, there is none before it, one of the
+/// two lengths is above 2,000, or the request is bad.
+pub fn linked(pile: &[u8], place: usize) -> bool {
+    // SAFETY: see above.
+    unsafe { raw::tb_linked(pile.as_ptr(), pile.len(), place) }
+}
+
+/// Whether the rand of the first record is all zero. It is not where the pile is not 1 to 16 whole records.
+pub fn first_rand_zero(pile: &[u8]) -> bool {
+    // SAFETY: see above.
+    unsafe { raw::tb_first_rand_zero(pile.as_ptr(), pile.len()) }
+}
+
+/// Whether two windows contradict each other, of which the server told `earlier` before `later`: MIDP - RADI of the earlier one is
+/// above MIDP + RADI of the later one, in whole numbers. Their ends, which stop at 0 and at 2^64 - 1, play no part.
+///
+/// ```
+/// use trawlbeacon::{contradicts, Window};
+///
+/// let earlier = Window { midp: 1000, radi: 5, low: 995, high: 1005 };
+/// assert!(!contradicts(&earlier, &Window { midp: 990, radi: 5, low: 985, high: 995 }));
+/// assert!(contradicts(&earlier, &Window { midp: 990, radi: 4, low: 986, high: 994 }));
+/// ```
+pub fn contradicts(earlier: &Window, later: &Window) -> bool {
+    // SAFETY: no pointer is passed.
+    unsafe { raw::tb_contradicts(earlier.midp, earlier.radi, later.midp, later.radi) }
+}
+
+/// The pair that a report names. A pile is a report where each record is valid, the first rand is all zero, each later record is linked,
+/// and two records contradict each other; the pair is the closest together, and of those as close the first.
+///
+/// The refusals are 15; then 16, 14 and 1 to 13 of the first record to which one applies; then 17 of the first record that is not
+/// linked, or the first one of all where its rand is not zero; then 18.
+///
+/// ```
+/// use trawlbeacon::{check_report, RECORD_LENGTH};
+///
+/// let refused = check_report(&[0; RECORD_LENGTH], &[1, 1]).unwrap_err();
+/// assert_eq!((refused.refusal.code(), refused.place), (14, Some(0)));
+/// let refused = check_report(&[0; RECORD_LENGTH + 1], &[1, 1]).unwrap_err();
+/// assert_eq!((refused.refusal.code(), refused.place), (15, None));
+/// ```
+pub fn check_report(pile: &[u8], answers: &[u8]) -> Result<Pair, ReportRefusal> {
+    let ((start, n), (start_too, m)) = ((pile.as_ptr(), pile.len()), (answers.as_ptr(), answers.len()));
+    // SAFETY: see above.
+    let checked = unsafe { raw::tb_check_report(start, n, start_too, m) };
+    match Refusal::check_wide(checked.code) {
+        Ok(()) => Ok(Pair { first: checked.first as usize, second: checked.second as usize }),
+        Err(refusal) => {
+            let of_a_record = !matches!(refusal.code(), 15 | 18);
+            Err(ReportRefusal { refusal, place: of_a_record.then_some(checked.place as usize) })
+        }
+    }
+}
+
+/// Cuts the run that convicts by itself out of a pile: its records are valid, each after its first is linked, and two of them contradict
+/// each other. It is the shortest such run, and of those as short the first. A bad record is no refusal; no run goes through it.
+///
+/// The records of the run are written at the front of `out`, with the rand of the first of them set to zero, so that they are a report.
+/// What follows them stays. `out` must be as long as the pile at least. The refusals are 15, 19 and 18, and then all of `out` stays.
+///
+/// ```
+/// use trawlbeacon::{cut_run, RECORD_LENGTH};
+///
+/// let (pile, mut out) = ([0; RECORD_LENGTH], [0; RECORD_LENGTH]);
+/// assert_eq!(cut_run(&pile, &[1, 1], &mut out).unwrap_err().code(), 18);
+/// assert_eq!(cut_run(&pile, &[1, 1], &mut out[1..]).unwrap_err().code(), 19);
+/// ```
+pub fn cut_run(pile: &[u8], answers: &[u8], out: &mut [u8]) -> Result<Run, Refusal> {
+    let ((start, n), (start_too, m)) = ((pile.as_ptr(), pile.len()), (answers.as_ptr(), answers.len()));
+    // SAFETY: see above.
+    let cut = unsafe { raw::tb_cut_run(start, n, start_too, m, out.as_mut_ptr(), out.len()) };
+    Refusal::check_wide(cut.code)?;
+    Ok(Run { first: cut.first as usize, last: cut.last as usize })
+}
