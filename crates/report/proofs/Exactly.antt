@@ -7,6 +7,7 @@ use mathlib.Core.Logic.{_↔_}
 use Prim.Native.Nat.{ℕ, zero, suc, _<_}
 use native.Mathlib.Omega.{arith}
 use lib.Dec.{T}
+use Rattle.laws.specs.Pairs.{IsLeast}
 use Rattle.verdict.specs.declared.Verdict.{Verdict}
 use Rattle.verdict.specs.declared.Verdict.the-variants.{Valid, Refused}
 use Rattle.pile.specs.Pile.{recordsIn}
@@ -21,7 +22,7 @@ use Rattle.report.specs.declared.Report.the-variants.{Pair, Bad, Record,
 use Rattle.report.proofs.Runs.{joined-later}
 
 -- a flag that is not unset is set, and one that is set is not unset
-set-flag : (b : Bool) → (T (not b) → ⊥) → b ≡ true
+pub set-flag : (b : Bool) → (T (not b) → ⊥) → b ≡ true
 set-flag true h = refl
 set-flag false h = absurd (h tt)
 
@@ -34,7 +35,7 @@ joined-first pile = refl
 
 module _ (pile answers : List ℕ) where
   -- a record that is not refused has its response's window
-  windowed : (k : ℕ) → (T (not (valid (judged pile answers k))) → ⊥) → judged pile answers k ≡ Valid (windowOf pile k)
+  pub windowed : (k : ℕ) → (T (not (valid (judged pile answers k))) → ⊥) → judged pile answers k ≡ Valid (windowOf pile k)
   windowed k h = go (judged pile answers k) refl
     where
       go : (x : Verdict) → judged pile answers k ≡ x → judged pile answers k ≡ Valid (windowOf pile k)
@@ -89,6 +90,10 @@ module _ (pile answers : List ℕ) where
   named (Record code k) s t = absurd t
   named (Unlinked k) s t = absurd t
   named Clear s t = absurd t
+
+  -- a report names the least of its pairs
+  pub names : IsReport pile answers → (i j : ℕ) → IsLeast (Contradiction (judged pile answers) (recordsIn pile)) i j → Reports pile answers (Pair i j)
+  names d i j m = (d .all-valid (d .j) (d .inside) .pile-good, (unrefused d, λ k l. kept-flag (joined pile k) (flagged d k l), m))
 
   -- the answer names a pair exactly where the pile is a report
   pub report-exactly : (r : Report) → Reports pile answers r → Accepts r ↔ IsReport pile answers

@@ -23,7 +23,7 @@ use Rattle.report.specs.declared.Report.{Report}
 use Rattle.report.specs.declared.Report.the-variants.{Pair, Bad, Record, Unlinked, Clear}
 use Rattle.report.proofs.First.{first-once}
 
-not-not : (b : Bool) → (T (not b) → ⊥) → T b
+pub not-not : (b : Bool) → (T (not b) → ⊥) → T b
 not-not true h = tt
 not-not false h = h tt
 

@@ -35,6 +35,10 @@ takenNumber NoRun = 18
 unfoldable pub runBytes : ℕ → ℕ → List ℕ → List ℕ
 runBytes i j pile = pasted (part (4096 * i) (4096 * j + 4096) pile) 32 (replicate 32 0)
 
+-- their answers, two bytes a record
+abbrev pub runAnswers : ℕ → ℕ → List ℕ → List ℕ
+runAnswers i j answers = part (2 * i) (2 * j + 2) answers
+
 -- the run at the front of the buffer out, whose later bytes stay
 abbrev pub runPut : ℕ → ℕ → List ℕ → List ℕ → List ℕ
 runPut i j pile out = runBytes i j pile ++ drop (length (runBytes i j pile)) out

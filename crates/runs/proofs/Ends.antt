@@ -68,6 +68,20 @@ least-run {v} {linked} {n} {a} {b} m = record {
       omega (arith, m .first (c .i) (c .j) (exposing v linked n p q c) f, c .from, c .order, c .to);
 }
 
+-- and the other way: the two ends of the least run that convicts contradict
+pub least-ends : {v : ℕ → Verdict} {linked : ℕ → Bool} {n a b : ℕ} → IsLeast (Convicts v linked n) a b → IsLeast (Hits (Exposes v linked) n) a b
+least-ends {v} {linked} {n} {a} {b} m =
+    let c = m .holds in
+    let h = exposing v linked n a b c in
+    let s = m .shortest (c .i) (c .j) (exposed v linked n (c .i) (c .j) h) in
+    let p : c .i ≡ a = omega (arith, c .from, c .order, c .to) in
+    let q : c .j ≡ b = omega (arith, c .from, c .order, c .to) in
+    record {
+      holds = rw (p, q) at h;
+      shortest = λ i j x. m .shortest i j (exposed v linked n i j x);
+      first = λ i j x. m .first i j (exposed v linked n i j x);
+    }
+
 -- and where there is none of these, there is none of those
 pub no-run : {v : ℕ → Verdict} {linked : ℕ → Bool} {n : ℕ} → ((a b : ℕ) → Hits (Exposes v linked) n a b → ⊥)
     → (a b : ℕ) → Convicts v linked n a b → ⊥

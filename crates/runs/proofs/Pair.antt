@@ -1,6 +1,6 @@
 -- Where all n records are valid and linked, the run that is found is the report's pair, least in j - i and then in i: one search serves both.
 -- Assumes nothing.
-use mathlib.Core.Path.{_≡_, subst}
+use mathlib.Core.Path.{_≡_}
 use mathlib.Core.Bool.{Bool}
 use Prim.Native.Nat.{ℕ, _<_}
 use native.Mathlib.Omega.{arith}
@@ -11,6 +11,7 @@ use Rattle.runs.specs.Spans.{Answers}
 use Rattle.runs.specs.Convict.{Convicts, Contradiction}
 use Rattle.runs.specs.declared.Span.{Span}
 use Rattle.runs.specs.declared.Span.the-variants.{Places, Nothing}
+use Rattle.runs.proofs.Ends.{least-ends}
 use Rattle.runs.proofs.Find.{leastOf, least-says, once}
 
 module _ (v : ℕ → Verdict) (l : ℕ → Bool) (n : ℕ)
@@ -30,20 +31,14 @@ module _ (v : ℕ → Verdict) (l : ℕ → Bool) (n : ℕ)
     clash = h .holds;
   }
 
-  of-run : (a b : ℕ) (c : Convicts v l n a b) → Contradiction v n (c .i) (c .j)
-  of-run a b c = record { order = c .order; inside = omega (arith, c .inside, c .to); holds = c .clash }
-
   -- the two ends of a least run are themselves the pair
   pub pair-of-run : (r : Span) → Answers (Convicts v l n) r → Answers (Contradiction v n) r
   pair-of-run (Places a b) m =
-      let c = m .holds in
-      let s = m .shortest (c .i) (c .j) (to-run (c .i) (c .j) (of-run a b c)) in
-      let p : c .i ≡ a = omega (arith, c .from, c .order, c .to) in
-      let q : c .j ≡ b = omega (arith, c .from, c .order, c .to) in
+      let h = least-ends m .holds in
       record {
-        holds = subst (λ (k : ℕ). Contradiction v n a k) q (subst (λ (k : ℕ). Contradiction v n k (c .j)) p (of-run a b c));
+        holds = record { order = h .order; inside = h .inside; holds = h .holds .clash };
         shortest = λ i j h. m .shortest i j (to-run i j h);
-        first = λ i j h e. m .first i j (to-run i j h) e;
+        first = λ i j h. m .first i j (to-run i j h);
       }
   pair-of-run Nothing m = λ i j h. m i j (to-run i j h)
 
