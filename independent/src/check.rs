@@ -60,24 +60,19 @@ pub fn check(
 #[cfg(test)]
 mod tests {
     use super::*;
-    use crate::response::tests::{good, Pieces};
-    use crate::tag::{Tag, INDX, MAXT, MIDP, MINT, NONC, PATH, RADI, ROOT, TYPE};
+    use crate::pieces::{put, Pieces};
+    use crate::tag::{INDX, MAXT, MIDP, MINT, NONC, PATH, RADI, ROOT, TYPE};
     use crate::{packet, write};
 
     /// A request, and the response that it is the only leaf of.
     fn pair() -> (Vec<u8>, Pieces) {
         let request = write::request(&[1; 32], &[2; 32]);
-        let mut response = good();
+        let mut response = Pieces::good();
         put(&mut response.outer, NONC, &[2; 32]);
         put(&mut response.outer, PATH, &[]);
         put(&mut response.outer, INDX, &[0; 4]);
         put(&mut response.srep, ROOT, &hash::leaf(&request));
         (request, response)
-    }
-
-    fn put(pairs: &mut [(Tag, Vec<u8>)], tag: Tag, value: &[u8]) {
-        let pair = pairs.iter_mut().find(|pair| pair.0 == tag).expect("the tag is there");
-        pair.1 = value.to_vec();
     }
 
     fn code(request: &[u8], response: &Pieces, answers: (bool, bool)) -> u32 {

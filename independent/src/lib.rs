@@ -8,17 +8,23 @@
 //! or be derived from it, or the comparison would say nothing.
 //!
 //! Today it has SHA-512, the hashes that Roughtime makes of it and the Merkle tree, a reader of packets, requests and responses, the
-//! check of a response, the writer of a request, the texts that are signed, and the lookup of a server. Piles of responses, and the
-//! reports that are made of them, are to stand beside them.
+//! check of a response, the writer of a request, the texts that are signed, the lookup of a server, piles of responses and the
+//! reports that are made of them. Beside them stands what makes piles to try all this with.
 
 #![forbid(unsafe_code)]
 #![warn(missing_docs)]
 
+pub mod appendix;
+pub mod base64;
 pub mod check;
 pub mod hash;
+pub mod making;
 pub mod message;
 pub mod packet;
+pub mod pieces;
+pub mod pile;
 pub mod refusal;
+pub mod report;
 pub mod request;
 pub mod response;
 pub mod servers;
@@ -27,6 +33,7 @@ pub mod tag;
 pub mod text;
 pub mod tree;
 pub mod value;
+pub mod verdict;
 pub mod write;
 
 /// The version of Roughtime that draft 19 describes, and the only one that is known here.

@@ -36,6 +36,14 @@ pub enum Refusal {
     Signature = 13,
     /// The request lent with a response is bad.
     Request = 14,
+    /// The pile is not 1 to 16 whole records, its answers are not two bytes a record, or one of them is above 1.
+    Pile = 15,
+    /// A record has a length above 2,000, or a byte that must be zero and is not.
+    Record = 16,
+    /// The first rand of a report is not zero, or a record is not linked to the one before it.
+    Link = 17,
+    /// No two records contradict each other, or there is no run that convicts.
+    NoContradiction = 18,
     /// The buffer to be written into is too short.
     BufferTooShort = 19,
     /// The leaves are not 1 to 64 whole ones, or a place is past the last.

@@ -148,58 +148,17 @@ pub fn read(packet: &[u8]) -> Result<Response<'_>, Refusal> {
 }
 
 #[cfg(test)]
-pub(crate) mod tests {
+mod tests {
     use super::*;
     use crate::message;
+    use crate::pieces::{put, Pairs, Pieces};
     use crate::tag::Tag;
 
-    type Pairs = Vec<(Tag, Vec<u8>)>;
-
-    /// The pairs of the four messages; the values of SREP, CERT and DELE are put in when the packet is made.
-    #[derive(Clone)]
-    pub(crate) struct Pieces {
-        pub(crate) outer: Pairs,
-        pub(crate) srep: Pairs,
-        pub(crate) cert: Pairs,
-        pub(crate) dele: Pairs,
-    }
-
-    pub(crate) fn good() -> Pieces {
-        let one = vec![1, 0, 0, 0];
-        Pieces {
-            outer: vec![
-                (SIG, vec![10; 64]),
-                (NONC, vec![11; 32]),
-                (TYPE, one.clone()),
-                (PATH, vec![12; 64]),
-                (SREP, vec![]),
-                (CERT, vec![]),
-                (INDX, vec![3, 0, 0, 0]),
-            ],
-            srep: vec![
-                (VER, one.clone()),
-                (RADI, vec![5, 0, 0, 0]),
-                (MIDP, vec![0, 1, 0, 0, 0, 0, 0, 0]),
-                (VERS, one),
-                (ROOT, vec![13; 32]),
-            ],
-            cert: vec![(SIG, vec![14; 64]), (DELE, vec![])],
-            dele: vec![(PUBK, vec![15; 32]), (MINT, vec![0; 8]), (MAXT, vec![255; 8])],
-        }
-    }
-
-    fn put(pairs: &mut Pairs, tag: Tag, value: Vec<u8>) {
-        pairs.iter_mut().filter(|pair| pair.0 == tag).for_each(|pair| pair.1 = value.clone());
+    fn good() -> Pieces {
+        Pieces::good()
     }
 
     impl Pieces {
-        pub(crate) fn packet(mut self) -> Vec<u8> {
-            put(&mut self.cert, DELE, message::encode(&self.dele));
-            put(&mut self.outer, CERT, message::encode(&self.cert));
-            put(&mut self.outer, SREP, message::encode(&self.srep));
-            packet::encode(&message::encode(&self.outer))
-        }
-
         /// The four lists in the order in which they are judged.
         fn lists(&mut self) -> [&mut Pairs; 4] {
             [&mut self.outer, &mut self.srep, &mut self.cert, &mut self.dele]
@@ -274,8 +233,8 @@ pub(crate) mod tests {
     fn type_and_version_are_1() {
         for number in [0u32, 2, 0x0100_0000, 0x8000_000c] {
             let (mut kind, mut version) = (good(), good());
-            put(&mut kind.outer, TYPE, number.to_le_bytes().to_vec());
-            put(&mut version.srep, VER, number.to_le_bytes().to_vec());
+            put(&mut kind.outer, TYPE, &number.to_le_bytes());
+            put(&mut version.srep, VER, &number.to_le_bytes());
             assert_eq!(kind.code(), Some(8));
             assert_eq!(version.code(), Some(8));
         }
@@ -286,7 +245,7 @@ pub(crate) mod tests {
     #[test]
     fn the_first_refusal_counts() {
         let mut pieces = good();
-        put(&mut pieces.outer, TYPE, vec![0; 4]);
+        put(&mut pieces.outer, TYPE, &[0; 4]);
         assert_eq!(pieces.clone().code(), Some(8));
         for level in (0..4).rev() {
             // INDX, ROOT, SIG and MAXT: none of them holds another message.
@@ -306,8 +265,8 @@ pub(crate) mod tests {
     #[test]
     fn a_radius_of_0_and_versions_without_1_pass() {
         let mut pieces = good();
-        put(&mut pieces.srep, RADI, vec![0; 4]);
-        put(&mut pieces.srep, VERS, vec![2, 0, 0, 0]);
+        put(&mut pieces.srep, RADI, &[0; 4]);
+        put(&mut pieces.srep, VERS, &[2, 0, 0, 0]);
         assert_eq!(pieces.code(), None);
     }
 }

@@ -24,7 +24,7 @@ pub fn response(packet: &[u8]) -> Result<Vec<u8>, Refusal> {
 mod tests {
     use super::*;
     use crate::message;
-    use crate::response::tests::good;
+    use crate::pieces::Pieces;
 
     #[test]
     fn the_context_strings_have_their_zero_byte() {
@@ -33,7 +33,7 @@ mod tests {
 
     #[test]
     fn the_texts_are_the_context_and_the_value() {
-        let pieces = good();
+        let pieces = Pieces::good();
         let (dele, srep) = (message::encode(&pieces.dele), message::encode(&pieces.srep));
         let packet = pieces.packet();
         assert_eq!(delegation(&packet).unwrap(), [DELEGATION, &dele].concat());
@@ -43,7 +43,7 @@ mod tests {
     /// A signature is checked before TYPE and the version mean anything, so they may be any here.
     #[test]
     fn a_wrong_type_stops_no_text_and_a_wrong_shape_does() {
-        let mut pieces = good();
+        let mut pieces = Pieces::good();
         pieces.outer[2].1 = vec![9; 4];
         assert!(delegation(&pieces.clone().packet()).is_ok());
         pieces.dele[0].1 = vec![];

@@ -20,13 +20,19 @@ pub fn leads(leaf: &Hash, indx: u32, path: &[u8], root: &Hash) -> bool {
 
 /// The same, of siblings.
 pub fn reaches(leaf: &Hash, indx: u32, path: &[Hash], root: &Hash) -> bool {
+    // A bit that no sibling takes would let two numbers stand for one leaf.
+    let spare_bits = u64::from(indx) >> path.len().min(32);
+    spare_bits == 0 && root_of(leaf, indx, path) == *root
+}
+
+/// Where `path` leads from `leaf`, by the lowest bits of `indx`.
+pub fn root_of(leaf: &Hash, indx: u32, path: &[Hash]) -> Hash {
     let (mut node, mut bits) = (*leaf, indx);
     for sibling in path {
         node = if bits % 2 == 0 { hash::parent(sibling, &node) } else { hash::parent(&node, sibling) };
         bits /= 2;
     }
-    // A bit that no sibling took would let two numbers stand for one leaf.
-    bits == 0 && node == *root
+    node
 }
 
 /// Where a leaf stands: its number, and its siblings, that beside the leaf first.

@@ -12,12 +12,17 @@ const PADDING: usize = 912;
 
 /// The request with this nonce to the server with this long-term key.
 pub fn request(key: &[u8; 32], nonce: &[u8; 32]) -> Vec<u8> {
+    padded_request(key, nonce, PADDING)
+}
+
+/// The same with another number of zeros, for it to be shorter or longer. A server may leave a shorter one unanswered.
+pub fn padded_request(key: &[u8; 32], nonce: &[u8; 32], padding: usize) -> Vec<u8> {
     let pairs: [(_, &[u8]); 5] = [
         (VER, &VERSION.to_le_bytes()),
         (SRV, &hash::server_mark(key)),
         (NONC, nonce),
         (TYPE, &TYPE_OF_REQUEST.to_le_bytes()),
-        (ZZZZ, &[0; PADDING]),
+        (ZZZZ, &vec![0; padding]),
     ];
     packet::encode(&message::encode(&pairs))
 }

@@ -9,7 +9,7 @@ mod support;
 use independent::packet;
 use support::answers::Both;
 use support::damage::{self, set_word};
-use support::packets::{number, RequestFields, ResponseFields};
+use support::packets::{number, ResponseFields};
 use support::pairs::{Pair, Question, RULES};
 use support::tally::Tally;
 use support::{hex, Xorshift};
@@ -167,20 +167,10 @@ fn several_rules(seen: &mut Comparison) {
             due = damage::first(&damaged.done).map_or(due, |done| done.1);
         }
         if seen.random.once_in(6) {
-            question.request = bad_request(&mut seen.random, &pair.request);
+            question.request = damage::bad_request(&mut seen.random, &pair.request);
             due = 14;
         }
         seen.ask(&question, Some(due));
-    }
-}
-
-/// The request with such damage that it is refused.
-fn bad_request(random: &mut Xorshift, request: &RequestFields) -> Vec<u8> {
-    loop {
-        let damaged = damage::damaged(random, request.plan());
-        if damage::first_code(&damaged.done) != 0 {
-            return damaged.packet;
-        }
     }
 }
 

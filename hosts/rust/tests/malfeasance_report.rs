@@ -1,13 +1,16 @@
 //! The malfeasance report of draft 19, appendix B: packets that neither side made. Both must read all six, find each response valid,
-//! and say the same.
+//! take them as a pile for a report, and say the same.
 
 mod support;
 
+use independent::appendix::{self, Entry};
+use independent::making::Made;
 use independent::response;
+use support::answers::{self, Answer};
+use support::hex;
 use support::pairs::Question;
-use support::report::{self, Entry};
-use support::{answers, base64, hex};
-use trawlbeacon::{Request, Response, Window};
+use support::pile_answers::{Asked, Reported};
+use trawlbeacon::{Request, Response, Run, Window, RECORD_LENGTH};
 
 /// MIDP and RADI of each response.
 const WINDOWS: [(u64, u32); 3] = [(1_773_685_571, 3), (1_773_599_171, 3), (1_773_599_171, 3)];
@@ -44,7 +47,7 @@ fn compare_texts(index: usize, entry: &Entry) {
 
 #[test]
 fn both_sides_read_all_six_packets() {
-    let entries = report::entries();
+    let entries = appendix::entries();
     assert_eq!(entries.len(), 3);
     for (index, entry) in entries.iter().enumerate() {
         let request = agreed(answers::read_request(&entry.request), "request");
@@ -71,7 +74,7 @@ fn question(request: &Entry, response: &Entry, delegation: bool, signature: bool
 /// The paths are empty, so that nothing here tells which of two hashes goes first.
 #[test]
 fn both_sides_find_each_response_valid() {
-    let entries = report::entries();
+    let entries = appendix::entries();
     for (index, entry) in entries.iter().enumerate() {
         let window = agreed(question(entry, entry, true, true).ask(), "both signatures right");
         let (midp, radi) = WINDOWS[index];
@@ -91,7 +94,7 @@ fn both_sides_find_each_response_valid() {
 
 #[test]
 fn each_request_is_linked_to_the_response_before_it() {
-    let entries = report::entries();
+    let entries = appendix::entries();
     assert!(entries[0].rand.is_none(), "nothing comes before the first request");
     for pair in entries.windows(2) {
         let rand = pair[1].rand.expect("every later request has a rand");
@@ -101,21 +104,35 @@ fn each_request_is_linked_to_the_response_before_it() {
     println!("draft 19, appendix B: 2 links, the nonces of the draft compared with ours");
 }
 
+/// The first server's time is a day ahead of the second's, and the second was asked later: they are the pair. The third agrees with
+/// the second.
 #[test]
-fn base64_is_decoded_as_its_standard_says() {
-    // RFC 4648, section 10.
-    for (text, bytes) in [
-        ("", ""),
-        ("Zg==", "f"),
-        ("Zm8=", "fo"),
-        ("Zm9v", "foo"),
-        ("Zm9vYg==", "foob"),
-        ("Zm9vYmE=", "fooba"),
-        ("Zm9vYmFy", "foobar"),
-    ] {
-        assert_eq!(base64::decode(text).as_deref(), Some(bytes.as_bytes()), "{text}");
-    }
-    for text in ["Zg", "Zg=", "Zg===", "====", "Z===", "Zh==", "Zm9=", "Zg==Zg==", "Zm9!", "Zm 9", "Zm9v\n"] {
-        assert_eq!(base64::decode(text), None, "{text}");
+fn both_sides_find_the_report_to_be_one() {
+    let Made { pile, answers } = appendix::pile();
+    let asked = Asked { pile: &pile, answers: &answers };
+    let report = asked.report();
+    assert_eq!((report.ours, report.independent), (Reported(Ok((0, 1))), Reported(Ok((0, 1)))));
+    let both = asked.cut(&[0xee; 3 * RECORD_LENGTH + 1]);
+    assert!(both.ours == both.independent, "ours: {}, independent: {}", both.ours.show(), both.independent.show());
+    assert_eq!(both.ours.answer, Ok(Run { first: 0, last: 1 }));
+    // The first record of a chain has no rand, so that nothing had to be set to zero.
+    let (run, rest) = both.ours.buffer.split_at(2 * RECORD_LENGTH);
+    assert!(run == &pile[..2 * RECORD_LENGTH] && rest.iter().all(|byte| *byte == 0xee));
+    let alone = Asked { pile: run, answers: &answers[..4] }.report();
+    assert_eq!((alone.ours, alone.independent), (Reported(Ok((0, 1))), Reported(Ok((0, 1)))));
+    println!("draft 19, appendix B: a report for its entries 0 and 1, which are the run that is cut");
+}
+
+/// Without the first server's word nobody is convicted: each later refusal in turn, by the answers about one record.
+#[test]
+fn both_sides_find_no_run_without_the_first_entry() {
+    let Made { pile, answers } = appendix::pile();
+    for (at, code) in [(0, 12), (1, 13)] {
+        let answers: Vec<u8> = (0..answers.len()).map(|i| u8::from(i != at)).collect();
+        let asked = Asked { pile: &pile, answers: &answers };
+        let (report, cut) = (asked.report(), asked.cut(&[0; 3 * RECORD_LENGTH]));
+        let due = Reported(Err((code, Some(0))));
+        assert_eq!((report.ours, report.independent), (due, due));
+        assert_eq!((cut.ours.answer, cut.independent.answer), (Err(18), Err(18)));
     }
 }

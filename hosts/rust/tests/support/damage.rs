@@ -3,7 +3,7 @@
 //! Each damage leads to one code where nothing else is wrong. Where several are done to one packet, the order of the
 //! rules says which code comes first, so the outcome is known without any reader's help.
 
-use super::packets::{list, Kind, Level, Plan};
+use super::packets::{list, Kind, Level, Plan, RequestFields, ResponseFields};
 use super::Xorshift;
 use independent::packet;
 use independent::tag::*;
@@ -58,6 +58,36 @@ pub fn damaged(random: &mut Xorshift, mut plan: Plan) -> Damaged {
         done.push((Level::Outer, damage_packet(random, &mut packet)));
     }
     Damaged { packet, done }
+}
+
+/// The request with such damage that it is refused.
+pub fn bad_request(random: &mut Xorshift, request: &RequestFields) -> Vec<u8> {
+    loop {
+        let damaged = damaged(random, request.plan());
+        if first_code(&damaged.done) != 0 {
+            return damaged.packet;
+        }
+    }
+}
+
+/// The response with damage of any kind. What is seldom met where any value is damaged is done by itself here: to the packet around
+/// the messages, and to TYPE and the version.
+pub fn bad_response(random: &mut Xorshift, response: &ResponseFields) -> Damaged {
+    let mut plan = response.plan();
+    match random.below(4) {
+        0 => {
+            let mut packet = plan.packet();
+            let code = damage_packet(random, &mut packet);
+            Damaged { packet, done: vec![(Level::Outer, code)] }
+        }
+        1 => {
+            let (level, tag) = random.pick(&[(Level::Outer, TYPE), (Level::Srep, VER)]);
+            let (value, code) = wrong_value(random, plan.kind, level, tag).expect("it holds no message");
+            plan.set(level, tag, &value);
+            Damaged { packet: plan.packet(), done: vec![(level, code)] }
+        }
+        _ => damaged(random, plan),
+    }
 }
 
 /// Takes `tag` out, or gives it a value that it may not have. Says what that leads to, which is nothing where the tag can be spared.

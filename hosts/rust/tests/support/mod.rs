@@ -5,11 +5,11 @@
 #![allow(dead_code)]
 
 pub mod answers;
-pub mod base64;
 pub mod damage;
 pub mod packets;
 pub mod pairs;
-pub mod report;
+pub mod pile_answers;
+pub mod piles;
 pub mod tally;
 pub mod trees;
 

@@ -8,6 +8,7 @@ use super::packets::{number, RequestFields, ResponseFields};
 use super::trees::Walk;
 use super::{hex, Xorshift};
 use independent::hash::{self, Hash};
+use independent::refusal::Refusal;
 use independent::{check, packet};
 use trawlbeacon::{raw, Window};
 
@@ -46,6 +47,13 @@ impl Pair {
         let mut pair = Pair { request, response, delegation: true, signature: true };
         pair.tie();
         pair
+    }
+
+    /// Makes the response tell this window, within the time of its delegation.
+    pub fn tell(&mut self, midp: u64, radi: u32) {
+        let ResponseFields { mint, maxt, .. } = self.response;
+        let (mint, maxt) = (mint.min(midp), maxt.max(midp));
+        self.response = ResponseFields { midp, radi, mint, maxt, ..self.response.clone() };
     }
 
     /// Makes the response answer the request as it is now.
@@ -149,6 +157,11 @@ impl Said for Window {
     }
 }
 
+/// The independent side's window, as ours has it.
+pub fn same_window(check::Window { midp, radi, low, high }: check::Window) -> Window {
+    Window { midp, radi, low, high }
+}
+
 impl Question {
     pub fn ask(&self) -> Both<Result<Window, u32>> {
         let Question { request, response, delegation, signature } = self;
@@ -156,9 +169,7 @@ impl Question {
         let ours = trawlbeacon::check_response(request, response, *delegation, *signature);
         Both {
             ours: ours.map_err(trawlbeacon::Refusal::code),
-            independent: independent
-                .map(|window| Window { midp: window.midp, radi: window.radi, low: window.low, high: window.high })
-                .map_err(independent::refusal::Refusal::code),
+            independent: independent.map(same_window).map_err(Refusal::code),
         }
     }
 

@@ -33,3 +33,27 @@ pub fn decode(text: &str) -> Option<Vec<u8>> {
         letters.chunks(4).enumerate().map(|(index, letters)| group(letters, padding_of(index))).collect();
     Some(bytes?.concat())
 }
+
+#[cfg(test)]
+mod tests {
+    use super::*;
+
+    #[test]
+    fn it_is_decoded_as_its_standard_says() {
+        // RFC 4648, section 10.
+        for (text, bytes) in [
+            ("", ""),
+            ("Zg==", "f"),
+            ("Zm8=", "fo"),
+            ("Zm9v", "foo"),
+            ("Zm9vYg==", "foob"),
+            ("Zm9vYmE=", "fooba"),
+            ("Zm9vYmFy", "foobar"),
+        ] {
+            assert_eq!(decode(text).as_deref(), Some(bytes.as_bytes()), "{text}");
+        }
+        for text in ["Zg", "Zg=", "Zg===", "====", "Z===", "Zh==", "Zm9=", "Zg==Zg==", "Zm9!", "Zm 9", "Zm9v\n"] {
+            assert_eq!(decode(text), None, "{text}");
+        }
+    }
+}

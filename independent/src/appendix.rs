@@ -1,19 +1,36 @@
-//! The malfeasance report in vectors/, which is the one that draft 19 gives as an example.
+//! The malfeasance report in vectors/, which is the one that draft 19 gives as an example in appendix B.
 
-use super::{base64, vectors};
+use crate::base64;
+use crate::making::{self, Made};
+
+/// The report, as the draft has it.
+const REPORT: &str = include_str!("../../vectors/malfeasance-report.json");
 
 /// One response of the report, with what led to it.
+#[derive(Clone, Debug, PartialEq, Eq)]
 pub struct Entry {
+    /// The server's long-term key.
     pub key: [u8; 32],
-    /// The first request of a chain has none.
+    /// What blinds the nonce. The first request of a chain has none.
     pub rand: Option<[u8; 32]>,
+    /// The request packet.
     pub request: Vec<u8>,
+    /// The response packet.
     pub response: Vec<u8>,
 }
 
 /// The entries of the report, in the order received. This is no reader of JSON: it takes our file, with each member on a line of its own.
 pub fn entries() -> Vec<Entry> {
-    vectors("malfeasance-report.json").split('}').filter(|object| object.contains("publicKey")).map(entry).collect()
+    REPORT.split('}').filter(|object| object.contains("publicKey")).map(entry).collect()
+}
+
+/// The entries as a pile. The draft says that all signatures are right.
+pub fn pile() -> Made {
+    let record = |Entry { key, rand, request, response }: &Entry| {
+        making::record(key, &rand.unwrap_or([0; 32]), request, response)
+    };
+    let entries = entries();
+    Made { pile: entries.iter().flat_map(record).collect(), answers: vec![1; 2 * entries.len()] }
 }
 
 fn entry(object: &str) -> Entry {

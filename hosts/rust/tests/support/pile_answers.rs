@@ -1,0 +1,127 @@
+//! Questions about piles, put to both sides, and about the fields that no answer shows.
+
+use super::answers::{self, Answer, Both, Said, Written};
+use super::pairs::same_window;
+use independent::check;
+use independent::refusal::Refusal;
+use independent::{pile, report};
+use trawlbeacon::{raw, Pair, Run, Window};
+
+/// That a pile is one passes without another word.
+impl Said for () {
+    fn say(&self) -> String {
+        "a pile".into()
+    }
+}
+
+impl Said for Run {
+    fn say(&self) -> String {
+        format!("run {} {}", self.first, self.last)
+    }
+}
+
+/// What a report check answers: the pair, or a code and its place.
+#[derive(Clone, Copy, Debug, PartialEq, Eq)]
+pub struct Reported(pub Result<(usize, usize), (u32, Option<usize>)>);
+
+impl Answer for Reported {
+    fn code(&self) -> u32 {
+        self.0.map_or_else(|refused| refused.0, |_| 0)
+    }
+
+    fn show(&self) -> String {
+        match self.0 {
+            Ok((first, second)) => format!("pair {first} {second}"),
+            Err((code, place)) => format!("code {code} place {place:?}"),
+        }
+    }
+}
+
+/// What a pile is asked about, with its answers.
+#[derive(Clone, Copy)]
+pub struct Asked<'a> {
+    pub pile: &'a [u8],
+    pub answers: &'a [u8],
+}
+
+/// What the independent side says of each record.
+pub type Judged = Result<Vec<Result<check::Window, Refusal>>, Refusal>;
+
+impl Asked<'_> {
+    pub fn code(self) -> Both<Result<(), u32>> {
+        Both {
+            ours: trawlbeacon::pile_code(self.pile, self.answers).map_err(trawlbeacon::Refusal::code),
+            independent: pile::read(self.pile, self.answers).map(drop).map_err(Refusal::code),
+        }
+    }
+
+    /// The independent side judges all records at once.
+    pub fn judged(self) -> Judged {
+        pile::judge_all(self.pile, self.answers)
+    }
+
+    /// What is said of the record at `place`, where the independent side said `judged`. Where there is no such record, code 15 is due.
+    pub fn judge(self, place: usize, judged: &Judged) -> Both<Result<Window, u32>> {
+        let independent = match judged {
+            Ok(judged) => judged.get(place).copied().unwrap_or(Err(Refusal::Pile)),
+            Err(refusal) => Err(*refusal),
+        };
+        Both {
+            ours: trawlbeacon::judge(self.pile, self.answers, place).map_err(trawlbeacon::Refusal::code),
+            independent: independent.map(same_window).map_err(Refusal::code),
+        }
+    }
+
+    pub fn linked(self, place: usize) -> Both<bool> {
+        Both { ours: trawlbeacon::linked(self.pile, place), independent: pile::linked(self.pile, place) }
+    }
+
+    pub fn first_rand_zero(self) -> Both<bool> {
+        Both { ours: trawlbeacon::first_rand_zero(self.pile), independent: pile::first_rand_zero(self.pile) }
+    }
+
+    pub fn report(self) -> Both<Reported> {
+        let ours = trawlbeacon::check_report(self.pile, self.answers);
+        let independent = report::check(self.pile, self.answers);
+        Both {
+            ours: Reported(
+                ours.map(|Pair { first, second }| (first, second)).map_err(|no| (no.refusal.code(), no.place)),
+            ),
+            independent: Reported(independent.map_err(|no| (no.refusal.code(), no.place))),
+        }
+    }
+
+    pub fn cut(self, buffer: &[u8]) -> Both<Written<Run>> {
+        answers::write_both(
+            buffer,
+            |out| trawlbeacon::cut_run(self.pile, self.answers, out),
+            |out| report::cut(self.pile, self.answers, out).map(|(first, last)| Run { first, last }),
+        )
+    }
+
+    /// What is wrong with the fields that the functions of hosts/rust do not show, or not whole: all but the code and the place must be
+    /// 0 where a call is refused, and the place too where no record is at fault.
+    pub fn unseen_fields(self, place: usize, out: &mut [u8]) -> Option<String> {
+        let ((start, n), (start_too, m)) =
+            ((self.pile.as_ptr(), self.pile.len()), (self.answers.as_ptr(), self.answers.len()));
+        // SAFETY: the library only reads the pile and its answers, and only writes `out`.
+        let (judged, reported, cut) = unsafe {
+            (
+                raw::tb_judge(start, n, start_too, m, place),
+                raw::tb_check_report(start, n, start_too, m),
+                raw::tb_cut_run(start, n, start_too, m, out.as_mut_ptr(), out.len()),
+            )
+        };
+        let radi_fits = judged.radi <= u32::MAX.into();
+        let no_window = [judged.midp, judged.radi, judged.low, judged.high] == [0; 4];
+        let no_pair = (reported.first, reported.second) == (0, 0);
+        let of_a_record = !matches!(reported.code, 0 | 15 | 18);
+        let right = judged.place == place as u64
+            && radi_fits
+            && (judged.code == 0 || no_window)
+            && (reported.code == 0 || no_pair)
+            && (of_a_record || reported.place == 0)
+            && (cut.code == 0 || (cut.first, cut.last) == (0, 0));
+        (!right).then(|| format!("place {place}: {judged:?}, {reported:?}, {cut:?}"))
+    }
+}
