@@ -3,84 +3,79 @@
 //! All sides run in this one process, on the same bytes, in turns, and the best of many turns counts: whatever else
 //! the machine does then hits all of them alike, and the best turn is the one that it hit least.
 //!
-//! A ratio is our time by the other's: below 1 ours is the faster. The program fails where a ratio of SHA-512 is above its limit.
+//! A ratio is our time by the other's: below 1 ours is the faster. The program fails where a ratio is above its limit.
 
+mod hashes;
+mod limits;
+mod piles;
 mod sides;
 mod timing;
 
+use limits::Limits;
 use sides::{Side, Subject, SIDES};
-use std::env;
 use std::process::ExitCode;
 
-/// Where ours may be no slower than the limit allows against sha2: a request with its header, which a server hashes for each client.
-const PACKET: usize = 1036;
-
-/// The highest ratios that pass.
-struct Limits {
-    independent: f64,
-    sha2: f64,
+/// A table of times: how wide its first column is, and how a time is shown.
+struct Table {
+    width: usize,
+    unit: &'static str,
+    sides: &'static [Side],
+    /// From the bytes and the seconds of one call.
+    show: fn(usize, f64) -> f64,
 }
 
-/// A limit from the environment, or its default. What is no number stops the program, lest a slip of the hand lift the limit.
-fn limit(name: &str, default: f64) -> f64 {
-    match env::var(name) {
-        Err(_) => default,
-        Ok(text) => text.parse().unwrap_or_else(|_| panic!("{name} is not a number: {text}")),
-    }
-}
+const HASHES: Table =
+    Table { width: 22, unit: "MB/s", sides: SIDES, show: |length, seconds| length as f64 / seconds / 1e6 };
 
-/// Which limit a ratio is held to, if any.
-fn limit_for(subject: &Subject, other: Side, limits: &Limits) -> Option<f64> {
-    match other {
-        Side::Independent if subject.limited => Some(limits.independent),
-        Side::Sha2 if subject.limited && subject.length == PACKET => Some(limits.sha2),
-        _ => None,
-    }
-}
+const PILES: Table =
+    Table { width: 40, unit: "us", sides: &[Side::Ours, Side::Independent], show: |_, seconds| seconds * 1e6 };
 
-/// The names of the columns: a speed for each side, then a ratio for each side but ours.
-fn header() -> String {
-    let mut line = format!("{:<20}", "");
-    for side in SIDES {
-        line += &format!("{:>18}", format!("{} MB/s", side.name()));
+impl Table {
+    /// The names of the columns: a measure for each side, then a ratio for each side but ours.
+    fn header(&self) -> String {
+        let measures = self.sides.iter().map(|side| format!("{} {}", side.name(), self.unit));
+        let ratios = self.sides[1..].iter().map(|side| format!("ours/{}", side.name()));
+        self.line("", measures.chain(ratios))
     }
-    for side in &SIDES[1..] {
-        line += &format!("{:>18}", format!("ours/{}", side.name()));
-    }
-    line
-}
 
-/// Times one subject on each side that has it, prints its line, and adds what is above its limit to `above`.
-fn report(subject: &Subject, limits: &Limits, above: &mut Vec<String>) {
-    let times = timing::best_times(&subject.works);
-    let time_of = |side: Side| times.iter().find(|(timed, _)| *timed == side).map(|(_, time)| *time);
-    let ours = time_of(Side::Ours).expect("every subject has our side");
-    let cell = |number: Option<String>| format!("{:>18}", number.unwrap_or_else(|| "-".into()));
-    let mut line = format!("{:<20}", subject.name);
-    for side in SIDES {
-        line += &cell(time_of(*side).map(|time| format!("{:.1}", subject.length as f64 / time / 1e6)));
+    fn line(&self, name: &str, cells: impl Iterator<Item = String>) -> String {
+        let width = self.width;
+        cells.fold(format!("{name:<width$}"), |line, cell| line + &format!("{cell:>18}"))
     }
-    for side in &SIDES[1..] {
-        let ratio = time_of(*side).map(|time| ours / time);
-        line += &cell(ratio.map(|ratio| format!("{ratio:.3}")));
-        if let (Some(ratio), Some(limit)) = (ratio, limit_for(subject, *side, limits)) {
-            if ratio > limit {
+
+    /// Times one subject on each side that has it, prints its line, and adds what is above its limit to `above`.
+    fn report(&self, mut subject: Subject, above: &mut Vec<String>) {
+        let times = timing::best_times(&mut subject.works);
+        let time_of = |side: Side| times.iter().find(|(timed, _)| *timed == side).map(|(_, time)| *time);
+        let ours = time_of(Side::Ours).expect("every subject has our side");
+        let shown = |number: Option<f64>, digits: usize| number.map_or("-".into(), |n| format!("{n:.digits$}"));
+        let measures =
+            self.sides.iter().map(|side| shown(time_of(*side).map(|time| (self.show)(subject.length, time)), 1));
+        let ratios = self.sides[1..].iter().map(|side| shown(time_of(*side).map(|time| ours / time), 3));
+        println!("{}", self.line(&subject.name, measures.chain(ratios)));
+        for (side, limit) in &subject.limits {
+            let ratio = time_of(*side).map(|time| ours / time);
+            if let Some(ratio) = ratio.filter(|ratio| ratio > limit) {
                 above.push(format!("{}: ours/{} is {ratio:.3}, above {limit}", subject.name, side.name()));
             }
         }
     }
-    println!("{line}");
 }
 
 fn main() -> ExitCode {
-    let limits = Limits { independent: limit("BENCH_LIMIT_INDEPENDENT", 1.15), sha2: limit("BENCH_LIMIT_SHA2", 1.25) };
+    let limits = Limits::read();
+    let mut above = Vec::new();
     println!("the best of several turns; a ratio is of times, so below 1 ours is the faster");
     println!("limits for sha512: ours/independent {}, ours/sha2 {} at 1,036 bytes", limits.independent, limits.sha2);
-    println!("{}", header());
-    let data = sides::bytes(64 << 20);
-    let mut above = Vec::new();
-    for subject in sides::subjects(&data) {
-        report(&subject, &limits, &mut above);
+    println!("{}", HASHES.header());
+    let data = hashes::bytes(64 << 20);
+    for subject in hashes::subjects(&data, &limits) {
+        HASHES.report(subject, &mut above);
+    }
+    println!("limit for a full pile: ours/independent {}; no buffer is cleared between runs", limits.piles);
+    println!("{}", PILES.header());
+    for plan in &piles::plans() {
+        PILES.report(plan.subject(&limits), &mut above);
     }
     for line in &above {
         println!("TOO SLOW: {line}");

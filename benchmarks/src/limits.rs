@@ -1,0 +1,31 @@
+//! The highest ratios of our time to another side's that pass.
+
+use std::env;
+
+pub struct Limits {
+    /// SHA-512 of any length against the independent implementation.
+    pub independent: f64,
+    /// SHA-512 of a request against RustCrypto's sha2.
+    pub sha2: f64,
+    /// A full pile against the independent implementation.
+    pub piles: f64,
+}
+
+impl Limits {
+    /// Those that the environment sets, or else the defaults.
+    pub fn read() -> Self {
+        Limits {
+            independent: limit("BENCH_LIMIT_INDEPENDENT", 1.15),
+            sha2: limit("BENCH_LIMIT_SHA2", 1.25),
+            piles: limit("BENCH_LIMIT_PILES", 1.2),
+        }
+    }
+}
+
+/// A limit from the environment, or its default. What is no number stops the program, lest a slip of the hand lift the limit.
+fn limit(name: &str, default: f64) -> f64 {
+    match env::var(name) {
+        Err(_) => default,
+        Ok(text) => text.parse().unwrap_or_else(|_| panic!("{name} is not a number: {text}")),
+    }
+}
