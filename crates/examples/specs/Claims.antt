@@ -1,0 +1,121 @@
+-- What an example of document 01 claims, by its kind. Each claim is about the definitions that the contracts cite, for all that the example
+-- leaves open: every pile with such records, every batch of so many leaves, every request and response of which it is true.
+use mathlib.Core.Path.{_≡_}
+use mathlib.Core.Bool.{Bool, true, false}
+use mathlib.Core.List.{List}
+use Prim.Native.Nat.{ℕ, _+_, _*_, _≤_, _<_}
+use lib.ListN.{length}
+use Rattle.laws.specs.Numbers.{le}
+use Rattle.message.specs.Tags.{PATH, INDX}
+use Rattle.message.specs.Values.{valueOf}
+use Rattle.wire.specs.Packet.{packetOf, body}
+use Rattle.wire.specs.Request.{requestOf, codeOf}
+use Rattle.wire.specs.Response.{responseCode, responseOf}
+use Rattle.tree.specs.Check.{leadsOf}
+use Rattle.tree.specs.Answers.{rootedOf, pathTold, pathBytes, placedTold}
+use Rattle.tree.specs.declared.Placed.the-variants.{Written}
+use Rattle.verdict.specs.Window.{windowOf}
+use Rattle.verdict.specs.Check.{midpIn, mintIn, maxtIn, requestBad, versionUnasked, nonceDiffers, pathMisses, verdictOf, verdictCode}
+use Rattle.verdict.specs.declared.Verdict.{Verdict}
+use Rattle.verdict.specs.declared.Window.{Window}
+use Rattle.pile.specs.Pile.{recordsIn}
+use Rattle.pile.specs.Links.{linkedOf}
+use Rattle.pile.specs.Meaning.{GoodPile}
+use Rattle.runs.specs.Clash.{clash}
+use Rattle.runs.specs.Spans.{Answers}
+use Rattle.runs.specs.Convict.{Convicts, verdictAt}
+use Rattle.runs.specs.declared.Span.{Span}
+use Rattle.runs.specs.declared.Span.the-variants.{Places, Nothing}
+use Rattle.report.specs.Report.{judged}
+use Rattle.report.specs.Taking.{Takes, takenNumber}
+use Rattle.report.specs.declared.Taken.{Taken}
+use Rattle.report.specs.declared.Taken.the-variants.{Run, NoRun}
+
+-- the window of a response that says MIDP and RADI
+infix 80 _±_
+abbrev pub _±_ : ℕ → ℕ → Window
+midp ± radi = windowOf midp radi
+
+-- ---- the kinds of examples
+
+infixr 70 _and_
+pub data Row : Type 0 where
+  -- the low end, and the high end, of a window
+  low-end high-end : Window → ℕ → Row
+  -- the first window contradicts the second: yes or no
+  contradicts : Window → Window → Bool → Row
+  -- of a linked pile with these verdicts on its records: the places of the run that the cutter finds, or the code where there is none
+  run : List Verdict → ℕ → ℕ → Row
+  no-run : List Verdict → ℕ → Row
+  -- of so many leaves: the depth d
+  depth : ℕ → ℕ → Row
+  -- of so many leaves, the one at a place: INDX, and how many siblings its path has
+  path : ℕ → ℕ → ℕ → ℕ → Row
+  -- INDX in a response with so many siblings: the code
+  indx : ℕ → ℕ → ℕ → Row
+  -- MIDP is so much above MAXT: the code, 0 for none
+  above-maxt : ℕ → ℕ → Row
+  -- a message, as a request's or a response's: the code
+  message : List ℕ → ℕ → Row
+  -- two of them at once
+  _and_ : Row → Row → Row
+
+-- ---- what they are about
+
+-- a good pile with these verdicts on its records, each after the first linked
+pub record Linked (pile answers : List ℕ) (verdicts : List Verdict) : Type 0 where
+  pub good : GoodPile pile answers
+  pub many : recordsIn pile ≡ length verdicts
+  pub same : (k : ℕ) → k < length verdicts → judged pile answers k ≡ verdictAt verdicts k
+  pub links : (k : ℕ) → 0 < k → k < length verdicts → linkedOf pile k ≡ true
+
+-- what the search for a run answers where all are linked,
+abbrev pub Finds : List Verdict → Span → Type 0
+Finds verdicts answer = Answers (Convicts (verdictAt verdicts) (λ k. true) (length verdicts)) answer
+
+-- and what the cutter answers to each such pile, where the buffer has room for it
+abbrev pub Cuts : List Verdict → Taken → Type 0
+Cuts verdicts answer = (pile answers : List ℕ) (room : ℕ) → Linked pile answers verdicts → length pile ≤ room → Takes pile answers room answer
+
+-- the response p to the request q: none of 14 and 1 to 9 applies
+pub record Before10 (q p : List ℕ) : Type 0 where
+  pub request : requestBad q ≡ false
+  pub shape : responseCode p ≡ 0
+  pub version : versionUnasked (body q) (body p) ≡ false
+  pub nonce : nonceDiffers (body q) (body p) ≡ false
+
+-- such a response, with this INDX and so many siblings
+pub record Climbs (i siblings : ℕ) (q p : List ℕ) : Type 0 where
+  pub before : Before10 q p
+  pub names : le 4 (valueOf (body p) INDX) 0 ≡ i
+  pub long : length (valueOf (body p) PATH) ≡ 32 * siblings
+
+-- one to which 10 does not apply either, MIDP is not before MINT, and is k above MAXT
+pub record Late (k : ℕ) (q p : List ℕ) : Type 0 where
+  pub before : Before10 q p
+  pub leads : pathMisses q (body p) ≡ false
+  pub from : mintIn (body p) ≤ midpIn (body p)
+  pub above : midpIn (body p) ≡ maxtIn (body p) + k
+
+-- with this INDX, so many siblings lead from no leaf to any root
+abbrev pub Misses : ℕ → ℕ → Type 0
+Misses i siblings = (leaf path root : List ℕ) → length path ≡ 32 * siblings → leadsOf leaf i path root ≡ false
+
+-- ---- what they claim
+
+abbrev pub Claim : Row → Type 0
+Claim (low-end w n) = w .low ≡ n
+Claim (high-end w n) = w .high ≡ n
+Claim (contradicts a b answer) = clash a b ≡ answer
+Claim (run verdicts i j) = Finds verdicts (Places i j) × Cuts verdicts (Run i j)
+Claim (no-run verdicts code) = Finds verdicts Nothing × Cuts verdicts NoRun × (takenNumber NoRun ≡ code)
+Claim (depth leaves d) = (s : List ℕ) → length s ≡ 32 * leaves → (rootedOf s .code ≡ 0) × (rootedOf s .depth ≡ d)
+Claim (path leaves place i siblings) =
+    (s : List ℕ) (room : ℕ) → length s ≡ 32 * leaves → 32 * siblings ≤ room
+    → (placedTold (Written i siblings) ≡ pathTold s place room) × (length (pathBytes s place) ≡ 32 * siblings)
+Claim (indx i siblings code) =
+    Misses i siblings × ((q p : List ℕ) (d s : Bool) → Climbs i siblings q p → verdictCode (verdictOf q p d s) ≡ code)
+Claim (above-maxt k code) = (q p : List ℕ) → Late k q p → verdictCode (verdictOf q p true true) ≡ code
+Claim (message m code) =
+    (codeOf (requestOf (packetOf m) .answer) ≡ code) × (codeOf (responseOf (packetOf m) .answer) ≡ code)
+Claim (r and s) = Claim r × Claim s
