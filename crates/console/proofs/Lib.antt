@@ -1,0 +1,5 @@
+-- Laws that belong to no one function.
+pub mod Joined
+pub mod Decimals
+pub mod Sample
+pub mod Once

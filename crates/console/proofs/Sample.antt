@@ -1,0 +1,27 @@
+-- Document 01's example 5 in print, letter by letter.
+-- Assumes nothing.
+use mathlib.Core.Path.{_≡_, refl}
+use mathlib.Core.List.{_++_}
+use Prim.Native.Nat.{ℕ, zero, suc}
+use Rattle.laws.specs.Ascii.{ascii}
+use Rattle.verdict.specs.Window.{windowOf}
+use Rattle.verdict.specs.declared.Verdict.{Verdict}
+use Rattle.verdict.specs.declared.Verdict.the-variants.{Valid, Refused}
+use Rattle.console.specs.Text.{decimalIn, spaced, labelled, windowLine, recordLine, recordLines, runLine, countLine}
+
+-- 1000±10, 1500±10, 1495±1, 1400±10
+abbrev pub four : ℕ → Verdict
+four zero = Valid (windowOf 1000 10)
+four (suc zero) = Valid (windowOf 1500 10)
+four (suc (suc zero)) = Valid (windowOf 1495 1)
+four (suc (suc (suc k))) = Valid (windowOf 1400 10)
+
+pub example5 : countLine 4 ++ recordLines four 4 ++ runLine 2 3
+    ≡ ascii "records 4\n0 ok 990 1010\n1 ok 1490 1510\n2 ok 1494 1496\n3 ok 1390 1410\nrun 2 3\n"
+unfolding decimalIn spaced labelled windowLine recordLines runLine
+example5 = refl
+
+-- a bad record's line
+pub bad-record : recordLine 1 (Refused 13) ≡ ascii "1 refused 13\n"
+unfolding decimalIn spaced labelled
+bad-record = refl

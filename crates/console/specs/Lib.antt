@@ -1,0 +1,3 @@
+-- The program's text: what a reader must believe is Text.
+pub mod Text
+pub mod Puts

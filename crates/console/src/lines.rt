@@ -1,0 +1,61 @@
+// The lines, each put into a buffer behind the ones before it. Each function answers the index at which its line ends.
+ghost use Prim.Native.Nat.{_+_, _≤_};
+ghost use lib.ListN.{length};
+ghost use Rattle.console.specs.Puts.{Puts};
+ghost use Rattle.console.specs.Text.{labelled, windowLine, recordLine, runLine};
+use super::pieces::put_number;
+use super::pieces::put_spaced;
+use super::pieces::put_word;
+use verdict::Verdict;
+
+// A word and a number.
+pub fn put_labelled(out: &mut [u8], at: usize, word: &[u8], x: u64) -> usize
+    requires { ⌜ at + length (now word) + 22 ≤ length (now out) ⌝ }
+    ensures { λ r. ⌜ Puts (now (out .entry)) at (labelled (now (word .entry)) x) (now (out .exit)) r ⌝ }
+    ensures { λ r. ⌜ r ≤ at + length (now (word .entry)) + 22 ⌝ }
+{
+    let a = put_word(out, at, word);
+    let b = put_spaced(out, a, x);
+    put_word(out, b, b"\n")
+}
+
+// Record k with the ends of its window.
+fn put_window(out: &mut [u8], at: usize, k: usize, low: u64, high: u64) -> usize
+    requires { ⌜ at + 66 ≤ length (now out) ⌝ }
+    ensures { λ r. ⌜ Puts (now (out .entry)) at (windowLine k low high) (now (out .exit)) r ⌝ }
+    ensures { λ r. ⌜ r ≤ at + 66 ⌝ }
+{
+    let a = put_number(out, at, k as u64);
+    let b = put_word(out, a, b" ok");
+    let c = put_spaced(out, b, low);
+    let d = put_spaced(out, c, high);
+    put_word(out, d, b"\n")
+}
+
+// Record k with its verdict.
+pub fn put_record(out: &mut [u8], at: usize, k: usize, v: Verdict) -> usize
+    requires { ⌜ at + 66 ≤ length (now out) ⌝ }
+    ensures { λ r. ⌜ Puts (now (out .entry)) at (recordLine k v) (now (out .exit)) r ⌝ }
+    ensures { λ r. ⌜ r ≤ at + 66 ⌝ }
+{
+    match v {
+        Verdict::Valid(w) => put_window(out, at, k, w.low, w.high),
+        Verdict::Refused(code) => {
+            let a = put_number(out, at, k as u64);
+            let b = put_word(out, a, b" ");
+            put_labelled(out, b, b"refused", code as u64)
+        }
+    }
+}
+
+// The run, by its first and its last record.
+pub fn put_run(out: &mut [u8], at: usize, first: usize, last: usize) -> usize
+    requires { ⌜ at + 46 ≤ length (now out) ⌝ }
+    ensures { λ r. ⌜ Puts (now (out .entry)) at (runLine first last) (now (out .exit)) r ⌝ }
+    ensures { λ r. ⌜ r ≤ at + 46 ⌝ }
+{
+    let a = put_word(out, at, b"run");
+    let b = put_spaced(out, a, first as u64);
+    let c = put_spaced(out, b, last as u64);
+    put_word(out, c, b"\n")
+}

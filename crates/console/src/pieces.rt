@@ -1,0 +1,36 @@
+// Pieces of text, put into a buffer one behind the other. Each function answers the index at which its piece ends.
+ghost use Prim.Native.Nat.{_+_, _≤_};
+ghost use lib.ListN.{length};
+ghost use Rattle.console.specs.Puts.{Puts};
+ghost use Rattle.console.specs.Text.{decimal, spaced};
+use octets::put;
+
+// A word.
+pub fn put_word(out: &mut [u8], at: usize, word: &[u8]) -> usize
+    requires { ⌜ at + length (now word) ≤ length (now out) ⌝ }
+    ensures { λ r. ⌜ Puts (now (out .entry)) at (now (word .entry)) (now (out .exit)) r ⌝ }
+{
+    put(out, at, word);
+    at + word.len()
+}
+
+// A number in decimal.
+pub fn put_number(out: &mut [u8], at: usize, x: u64) -> usize
+    requires { ⌜ at + 20 ≤ length (now out) ⌝ }
+    ensures { λ r. ⌜ Puts (now (out .entry)) at (decimal x) (now (out .exit)) r ⌝ }
+    ensures { λ r. ⌜ r ≤ at + 20 ⌝ }
+{
+    let mut text = [0u8; 20];
+    let n = io::decimal(x, &mut text);
+    put_word(out, at, &text[..n])
+}
+
+// A number behind a space.
+pub fn put_spaced(out: &mut [u8], at: usize, x: u64) -> usize
+    requires { ⌜ at + 21 ≤ length (now out) ⌝ }
+    ensures { λ r. ⌜ Puts (now (out .entry)) at (spaced x) (now (out .exit)) r ⌝ }
+    ensures { λ r. ⌜ r ≤ at + 21 ⌝ }
+{
+    let digits = put_word(out, at, b" ");
+    put_number(out, digits, x)
+}
