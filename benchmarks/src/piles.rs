@@ -43,7 +43,7 @@ impl Shape {
 
 /// What is done with a pile.
 #[derive(Clone, Copy, PartialEq)]
-enum Task {
+enum Operation {
     Verdicts,
     Report,
     Cutter,
@@ -51,77 +51,78 @@ enum Task {
     Whole,
 }
 
-impl Task {
+impl Operation {
     fn name(self) -> &'static str {
         match self {
-            Task::Verdicts => "verdicts",
-            Task::Report => "report",
-            Task::Cutter => "cutter",
-            Task::Whole => "whole",
+            Operation::Verdicts => "verdicts",
+            Operation::Report => "report",
+            Operation::Cutter => "cutter",
+            Operation::Whole => "whole",
         }
     }
 
-    fn has(self, part: Task) -> bool {
-        self == Task::Whole || self == part
+    fn has(self, part: Operation) -> bool {
+        self == Operation::Whole || self == part
     }
 }
 
-fn ours<'a>(task: Task, made: &'a Made) -> Work<'a> {
+fn ours<'a>(operation: Operation, made: &'a Made) -> Work<'a> {
     let mut out = vec![0; made.pile.len()];
     let records = made.pile.len() / pile::RECORD;
     work(move || {
         let (pile, answers) = (black_box(&made.pile[..]), black_box(&made.answers[..]));
-        if task.has(Task::Verdicts) {
+        if operation.has(Operation::Verdicts) {
             for place in 0..records {
                 let _ = black_box(trawlbeacon::judge(pile, answers, place));
             }
         }
-        let pair = task.has(Task::Report).then(|| trawlbeacon::check_report(pile, answers));
-        let run = task.has(Task::Cutter).then(|| trawlbeacon::cut_run(pile, answers, &mut out));
+        let pair = operation.has(Operation::Report).then(|| trawlbeacon::check_report(pile, answers));
+        let run = operation.has(Operation::Cutter).then(|| trawlbeacon::cut_run(pile, answers, &mut out));
         black_box(&out);
         (pair, run)
     })
 }
 
-fn independents<'a>(task: Task, made: &'a Made) -> Work<'a> {
+fn independents<'a>(operation: Operation, made: &'a Made) -> Work<'a> {
     let mut out = vec![0; made.pile.len()];
     work(move || {
         let (pile, answers) = (black_box(&made.pile[..]), black_box(&made.answers[..]));
-        if task.has(Task::Verdicts) {
+        if operation.has(Operation::Verdicts) {
             let _ = black_box(pile::judge_all(pile, answers));
         }
-        let pair = task.has(Task::Report).then(|| report::check(pile, answers));
-        let run = task.has(Task::Cutter).then(|| report::cut(pile, answers, &mut out));
+        let pair = operation.has(Operation::Report).then(|| report::check(pile, answers));
+        let run = operation.has(Operation::Cutter).then(|| report::cut(pile, answers, &mut out));
         black_box(&out);
         (pair, run)
     })
 }
 
-fn subject<'a>(name: String, task: Task, made: &'a Made, limit: Option<f64>) -> Subject<'a> {
+fn subject<'a>(name: String, operation: Operation, made: &'a Made, limit: Option<f64>) -> Subject<'a> {
     Subject {
         name,
         length: made.pile.len(),
         limits: limit.map(|limit| (Side::Independent, limit)).into_iter().collect(),
-        works: vec![(Side::Ours, ours(task, made)), (Side::Independent, independents(task, made))],
+        works: vec![(Side::Ours, ours(operation, made)), (Side::Independent, independents(operation, made))],
     }
 }
 
 /// A pile, and what is done with it.
 pub struct Plan {
     shape: Shape,
-    task: Task,
+    operation: Operation,
     made: Made,
 }
 
-/// Every task on a full pile, and then the whole on piles that are smaller in one way.
+/// Every operation on a full pile, and then the whole on piles that are smaller in one way.
 pub fn plans() -> Vec<Plan> {
-    let full = [Task::Verdicts, Task::Report, Task::Cutter, Task::Whole].map(|task| (task, FULL));
+    let full = [Operation::Verdicts, Operation::Report, Operation::Cutter, Operation::Whole]
+        .map(|operation| (operation, FULL));
     let fewer = [1, 2, 4, 8].map(|records| Shape { records, ..FULL });
     let shallower = [0, 8, 16, 24].map(|siblings| Shape { siblings, ..FULL });
     // With no sibling a response takes 404 bytes, so that packets of every one of these sizes can be had.
     let smaller = [500, 1000, 1500, 2000].map(|packet| Shape { packet, siblings: 0, ..FULL });
-    let partly = [fewer, shallower, smaller].concat().into_iter().map(|shape| (Task::Whole, shape));
-    full.into_iter().chain(partly).map(|(task, shape)| Plan { shape, task, made: shape.made() }).collect()
+    let partly = [fewer, shallower, smaller].concat().into_iter().map(|shape| (Operation::Whole, shape));
+    full.into_iter().chain(partly).map(|(operation, shape)| Plan { shape, operation, made: shape.made() }).collect()
 }
 
 impl Plan {
@@ -129,7 +130,7 @@ impl Plan {
     pub fn subject<'a>(&'a self, limits: &Limits) -> Subject<'a> {
         let Shape { records, siblings, packet } = self.shape;
         let full = (records, siblings, packet) == (FULL.records, FULL.siblings, FULL.packet);
-        let name = format!("{} {records} x {packet} B, {siblings} siblings", self.task.name());
-        subject(name, self.task, &self.made, full.then_some(limits.piles))
+        let name = format!("{} {records} x {packet} B, {siblings} siblings", self.operation.name());
+        subject(name, self.operation, &self.made, full.then_some(limits.piles))
     }
 }
