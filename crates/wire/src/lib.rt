@@ -1,6 +1,6 @@
 // Packets, requests and responses: codes 1 to 8 in document 01's order, and what a good packet says.
-// `read_request`, `read_response`, `request_code`, `response_code` and `shape_code` take any bytes. What else is public is for the crates
-// above, once the code was 0.
+// `read_request`, `read_response`, `request_code`, `response_code`, `signed_code` and `packet_code` take any bytes. What else is public is for the
+// crates above, once the code was 0.
 pub mod fields;
 pub mod packet;
 mod requests;
