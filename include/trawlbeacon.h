@@ -112,10 +112,12 @@ struct tb_text {
     uint64_t length;
 };
 
-/* Writes what the signature in CERT was made of, in the response of n bytes, into the m bytes at out. The codes are 1 to 7 and 19. */
+/* Writes what the signature in CERT was made of, in the response of n bytes, into the m bytes at out; 2,000 bytes are room for any. The
+ * codes are 1 to 7 and 19. */
 struct tb_text tb_delegation_text(const uint8_t *packet, size_t n, uint8_t *out, size_t m);
 
-/* Writes what the signature of SREP was made of, in the response of n bytes, into the m bytes at out. The codes are 1 to 7 and 19. */
+/* Writes what the signature of SREP was made of, in the response of n bytes, into the m bytes at out; 2,000 bytes are room for any. The
+ * codes are 1 to 7 and 19. */
 struct tb_text tb_response_text(const uint8_t *packet, size_t n, uint8_t *out, size_t m);
 
 /* What a valid response tells: the time is from low to high. low is midp - radi, but not below 0, and high is midp + radi, but not
@@ -130,13 +132,15 @@ struct tb_verdict {
 
 /* Checks the response of m bytes against the request of n bytes that it answers. The caller checks both signatures, and says here
  * whether that in CERT is the long-term key's, over tb_delegation_text, and that of SREP the delegated key's, over tb_response_text.
- * The codes are 14 and 1 to 13. */
+ * The library hands out neither the two signatures (SIG of the outermost message, SIG of CERT) nor the delegated key (PUBK of DELE): the
+ * caller reads these three from the packet by their tags, and never at a fixed place. The codes are 14 and 1 to 13. */
 struct tb_verdict tb_check_response(const uint8_t *request, size_t n, const uint8_t *response, size_t m, bool delegation, bool signature);
 
 /* ---- Trees ---- */
 
 /* Whether the n bytes of siblings at path lead from the leaf to the root, and indx needs no more bits than there are siblings. Where
- * a bit of indx is 0 the sibling goes first. Bytes that are not 0 to 32 whole siblings lead nowhere. */
+ * a bit of indx is 0 the sibling goes first, as in draft 13; draft 19 has it the other way. Bytes that are not 0 to 32 whole siblings
+ * lead nowhere. */
 bool tb_leads(const uint8_t leaf[32], uint32_t indx, const uint8_t *path, size_t n, const uint8_t root[32]);
 
 /* A tree has 1 to 64 leaves of 32 bytes, one after the other, and 2^depth places for them, as few as will do; each empty place holds

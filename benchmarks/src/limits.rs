@@ -26,6 +26,9 @@ impl Limits {
 fn limit(name: &str, default: f64) -> f64 {
     match env::var(name) {
         Err(_) => default,
-        Ok(text) => text.parse().unwrap_or_else(|_| panic!("{name} is not a number: {text}")),
+        Ok(text) => match text.parse::<f64>() {
+            Ok(limit) if limit.is_finite() => limit,
+            _ => panic!("{name} is not a number: {text}"),
+        },
     }
 }

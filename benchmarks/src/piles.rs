@@ -120,7 +120,8 @@ pub fn plans() -> Vec<Plan> {
     let fewer = [1, 2, 4, 8].map(|records| Shape { records, ..FULL });
     let shallower = [0, 8, 16, 24].map(|siblings| Shape { siblings, ..FULL });
     // With no sibling a response takes 404 bytes, so that packets of every one of these sizes can be had.
-    let smaller = [500, 1000, 1500, 2000].map(|packet| Shape { packet, siblings: 0, ..FULL });
+    // Of 2,000 bytes and no sibling it is one of those above.
+    let smaller = [500, 750, 1000, 1500].map(|packet| Shape { packet, siblings: 0, ..FULL });
     let partly = [fewer, shallower, smaller].concat().into_iter().map(|shape| (Operation::Whole, shape));
     full.into_iter().chain(partly).map(|(operation, shape)| Plan { shape, operation, made: shape.made() }).collect()
 }

@@ -33,23 +33,30 @@ static void read_file(const char *name, struct packet *into) {
     exit(2);
 }
 
+/* What the host's Ed25519 said of a signature: 1 or 0, and no other word. */
+static bool read_answer(const char *word, bool *answer) {
+    *answer = strcmp(word, "1") == 0;
+    return *answer || strcmp(word, "0") == 0;
+}
+
 /* The response of the draft, and the request that it answers, which is ours with its nonce. */
 static void take_the_drafts(struct packet *request, struct packet *response) {
     memcpy(response->bytes, RESPONSE, sizeof RESPONSE);
     response->length = sizeof RESPONSE;
     struct tb_response read = tb_read_response(response->bytes, response->length);
-    tb_write_request(KEY, read.nonc, request->bytes, ROOM);
+    if (read.code != 0 || tb_write_request(KEY, read.nonc, request->bytes, ROOM) != 0) {
+        fprintf(stderr, "the draft's response cannot be read\n");
+        exit(2);
+    }
     request->length = TB_REQUEST_LENGTH;
 }
 
 int main(int argc, char **argv) {
     static struct packet request, response; /* zeros at first */
     bool delegation = true, signature = true;
-    if (argc == 5) {
+    if (argc == 5 && read_answer(argv[3], &delegation) && read_answer(argv[4], &signature)) {
         read_file(argv[1], &request);
         read_file(argv[2], &response);
-        delegation = strcmp(argv[3], "1") == 0;
-        signature = strcmp(argv[4], "1") == 0;
     } else if (argc == 1) {
         take_the_drafts(&request, &response);
     } else {

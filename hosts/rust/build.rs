@@ -19,8 +19,9 @@ fn main() {
     let found = match archive.canonicalize() {
         Ok(found) => found,
         Err(error) => {
-            eprintln!("there is no archive of the proved library at {}: {error}", archive.display());
-            eprintln!("run 'tools/native-lib capi build/native/libcapi.a' in the repository's root, or set TRAWLBEACON_LIB_DIR to its folder");
+            let sought = env::current_dir().unwrap_or_default().join(&archive);
+            eprintln!("there is no archive of the proved library at {}: {error}", sought.display());
+            eprintln!("run 'tools/native-lib capi build/native/libcapi.a' in the repository's root, or set TRAWLBEACON_LIB_DIR to the whole path of the folder that holds libcapi.a");
             process::exit(1);
         }
     };

@@ -7,7 +7,7 @@
 //! Nothing here is proved. It has no dependency but the standard library, and it must never call the proved library
 //! or be derived from it, or the comparison would say nothing.
 //!
-//! Today it has SHA-512, the hashes that Roughtime makes of it and the Merkle tree, a reader of packets, requests and responses, the
+//! It has SHA-512, the hashes that Roughtime makes of it and the Merkle tree, a reader of packets, requests and responses, the
 //! check of a response, the writer of a request, the texts that are signed, the lookup of a server, piles of responses and the
 //! reports that are made of them. Beside them stands what makes piles to try all this with.
 

@@ -1,5 +1,6 @@
 // The C boundary. Numbers pass as themselves, a slice as a pointer and a length, an array as a pointer, an answer as a struct by value.
-// No function asks anything of its caller but that its pointers are valid for their lengths, and not null.
+// No function asks anything of the bytes that it is lent. What a caller must see to (no null pointer, lengths that are true, an out that is
+// initialised and overlaps no input) stands in include/trawlbeacon.h.
 // A code is document 01's number, 0 where nothing was refused; what stands beside a refusal is zeros, but for the place of a record.
 mod building;
 mod finding;
@@ -59,7 +60,7 @@ pub struct RowsBuilt {
     pub depth: u64,
 }
 
-// What `tb_check_response` answers.
+// What `tb_check_response` answers: `tb_verdict` in the header, where `tb_judged` is `RecordJudged` below.
 #[repr(C)]
 pub struct Judged {
     pub code: u64,

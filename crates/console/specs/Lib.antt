@@ -1,3 +1,3 @@
--- The program's text: what a reader must believe is Text.
+-- The program's text: what a reader must believe is Text and Puts.
 pub mod Text
 pub mod Puts

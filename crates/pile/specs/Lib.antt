@@ -1,5 +1,5 @@
--- Piles: what a reader must believe is Pile, and of Meaning and the tests of Valid and Links either: they are proved to be one. Facts is what
--- private functions ask of their callers.
+-- Piles: what a reader must believe is Pile, Valid and Links. Meaning is document 01's sentences, proved to hold exactly where these refuse nothing.
+-- Facts is what private functions ask of their callers.
 pub mod Pile
 pub mod Valid
 pub mod Links

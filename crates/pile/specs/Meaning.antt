@@ -1,5 +1,5 @@
--- Document 01's sentences on piles, one field a fact. They are proved to be one with the tests of Pile, Valid and Links, so that a reader may
--- believe either.
+-- Document 01's sentences on piles, one field a fact. They are proved to hold exactly where the tests of Pile, Valid and Links refuse
+-- nothing.
 use Prim.Native.Nat.{ℕ, _+_, _*_, _-_, _%_, _≤_, _<_}
 use mathlib.Core.Path.{_≡_}
 use mathlib.Core.List.{List}

@@ -1,5 +1,5 @@
 -- Reports and the cutter (document 01, "Piles and reports"): what a reader must believe is Scans, Report and Taking.
--- Meaning is document 01's sentence on reports, which is proved to be one with the answer of Report.
+-- Meaning is document 01's sentence on reports, proved to hold exactly where Report names a pair.
 pub mod Scans
 pub mod Report
 pub mod Taking

@@ -1,4 +1,4 @@
--- Document 01's sentence on reports, one field a fact. It is proved to be one with the answer of the check, so that a reader may believe either.
+-- Document 01's sentence on reports, one field a fact. It is proved to hold exactly where the check names a pair.
 use mathlib.Core.List.{List}
 use Prim.Native.Nat.{ℕ, _<_}
 use lib.Dec.{T}

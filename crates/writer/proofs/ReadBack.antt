@@ -1,12 +1,12 @@
 -- Reading what we write gives that nonce and the mark of that server: over the reader's own definition, by the format's theorem.
 -- Assumes nothing.
-use Prim.Native.Nat.{ℕ, zero, suc, _+_, _%_, _^_, _<_}
+use Prim.Native.Nat.{ℕ, zero, suc, _+_, _%_, _^_, _<_, _≤_}
 use mathlib.Core.Path.{_≡_, refl, sym, ap, _∙_}
 use mathlib.Core.Bool.{true, false}
-use mathlib.Core.List.{List, [], _∷_}
+use mathlib.Core.List.{List, [], _∷_, _++_}
 use native.Mathlib.Omega.{arith}
-use borrow.Author.Tests.{eq-eqb}
-use lib.ListN.{length, getD}
+use borrow.Author.Tests.{eq-eqb, le-leb}
+use lib.ListN.{length, getD, take, drop}
 use Rattle.hash.specs.Hashes.{markOf}
 use Rattle.hash.proofs.Lengths.{length-mark}
 use Rattle.laws.specs.Any.{any}
@@ -20,13 +20,15 @@ use Rattle.message.specs.Tags.{VER, SRV, NONC, TYPE}
 use Rattle.message.specs.Values.{valueOf}
 use Rattle.message.proofs.Encoded.{has-encoded, value-encoded}
 use Rattle.message.proofs.Keeping.{Keeps, encode-kept}
+use Rattle.octets.specs.Written.{written}
+use lib.Seq.{take-at}
 use Rattle.wire.specs.Request.{requestMessageCode, requestCode, requestIn, requestOf}
 use Rattle.wire.specs.Tables.{requestTable}
 use Rattle.wire.specs.Versions.{lacksVersion}
 use Rattle.wire.specs.declared.Answer.the-variants.{Passed}
 use Rattle.wire.proofs.Packed.{body-packed, packet-packed}
 use Rattle.writer.specs.Asking.{requestFields, requestBytes}
-use Rattle.writer.proofs.Laying.{length-message}
+use Rattle.writer.proofs.Laying.{length-message, length-request}
 
 module _ (key nonce : List ℕ) (n32 : length nonce ≡ 32) where
   abbrev fs : List Field
@@ -112,3 +114,14 @@ module _ (key nonce : List ℕ) (n32 : length nonce ≡ 32) where
   unfolding requestOf requestIn requestBytes among valueAmong
   read-back =
       rw (eq-eqb (requestCode (requestBytes key nonce)) 0 (sym request-good), body-packed, has-encoded fs kept SRV, value-encoded fs kept NONC, value-encoded fs kept SRV)
+
+  -- and it stands in the first 1,036 bytes of every buffer that has room for it, so that reading these gives the same
+  pub front-reads-back : (out : List ℕ) → 1036 ≤ length out
+      → requestOf (take 1036 (written (requestBytes key nonce) out)) ≡ record { answer = Passed; nonc = nonce; «with_srv» = true; srv = markOf key }
+  unfolding written
+  front-reads-back out room =
+      let n = length-request key nonce n32 in
+      let p = requestBytes key nonce in
+      let fits : length p ≤ length out = omega arith in
+      let left : written p out ≡ p ++ drop (length p) out = rw (le-leb (length p) (length out) fits) in
+      ap requestOf (ap (take 1036) left ∙ take-at p (drop (length p) out) 1036 n) ∙ read-back

@@ -48,14 +48,10 @@ pub type Digest = [u8; 64];
 /// What H gives.
 pub type Hash = [u8; 32];
 
-// Why each call below is sound. The library only reads its inputs and only writes the whole of `out`, and keeps no pointer.
-// A Rust slice's pointer is never null, also where the slice is empty, which the library asks for. A new array is
-// `out`, so it overlaps no input, and it is filled with zeros first, since the library takes `out` for initialised memory.
-
 /// The SHA-512 digest of `message`.
 pub fn sha512(message: &[u8]) -> Digest {
     let mut out = [0; 64];
-    // SAFETY: see above.
+    // SAFETY: see raw.
     unsafe { raw::tb_sha512(message.as_ptr(), message.len(), &mut out) };
     out
 }
@@ -63,7 +59,7 @@ pub fn sha512(message: &[u8]) -> Digest {
 /// The leaf of a request packet in the Merkle tree: H(0x00, packet).
 pub fn leaf(packet: &[u8]) -> Hash {
     let mut out = [0; 32];
-    // SAFETY: see above.
+    // SAFETY: see raw.
     unsafe { raw::tb_leaf(packet.as_ptr(), packet.len(), &mut out) };
     out
 }
@@ -71,7 +67,7 @@ pub fn leaf(packet: &[u8]) -> Hash {
 /// The node above two nodes of the tree: H(0x01, left, right).
 pub fn parent(left: &Hash, right: &Hash) -> Hash {
     let mut out = [0; 32];
-    // SAFETY: see above.
+    // SAFETY: see raw.
     unsafe { raw::tb_parent(left, right, &mut out) };
     out
 }
@@ -79,7 +75,7 @@ pub fn parent(left: &Hash, right: &Hash) -> Hash {
 /// What stands at a leaf of the tree where there is no packet: H(0x00).
 pub fn empty_place() -> Hash {
     let mut out = [0; 32];
-    // SAFETY: see above.
+    // SAFETY: see raw.
     unsafe { raw::tb_empty_place(&mut out) };
     out
 }
@@ -87,7 +83,7 @@ pub fn empty_place() -> Hash {
 /// The mark by which a request names the server it is meant for: H(0xff, key), of the server's long-term public key.
 pub fn server_mark(key: &[u8; 32]) -> Hash {
     let mut out = [0; 32];
-    // SAFETY: see above.
+    // SAFETY: see raw.
     unsafe { raw::tb_server_mark(key, &mut out) };
     out
 }
@@ -95,7 +91,7 @@ pub fn server_mark(key: &[u8; 32]) -> Hash {
 /// The nonce that ties the next request of a chain to `response`: H(response, rand).
 pub fn link(response: &[u8], rand: &[u8; 32]) -> Hash {
     let mut out = [0; 32];
-    // SAFETY: see above.
+    // SAFETY: see raw.
     unsafe { raw::tb_link(response.as_ptr(), response.len(), rand, &mut out) };
     out
 }

@@ -1,9 +1,5 @@
 //! Requests and responses: reading both, writing a request, and writing the two texts that are signed.
 
-// Why each call below is sound. The library only reads its inputs, only writes within `out`, and keeps no pointer. A Rust
-// slice's pointer is never null, also where the slice is empty, which the library asks for. What a slice leads to is initialised,
-// and a mutable one overlaps no other.
-
 use crate::{raw, Hash, Refusal};
 
 /// Bytes of the request that [`write_request`] writes.
@@ -35,7 +31,7 @@ pub struct Response {
 
 /// Reads a request. The refusals are 1 to 8.
 pub fn read_request(packet: &[u8]) -> Result<Request, Refusal> {
-    // SAFETY: see above.
+    // SAFETY: see raw.
     let read = unsafe { raw::tb_read_request(packet.as_ptr(), packet.len()) };
     Refusal::check(read.code)?;
     Ok(Request { nonc: read.nonc, srv: (read.with_srv != 0).then_some(read.srv) })
@@ -43,7 +39,7 @@ pub fn read_request(packet: &[u8]) -> Result<Request, Refusal> {
 
 /// Reads a response. The refusals are 1 to 8.
 pub fn read_response(packet: &[u8]) -> Result<Response, Refusal> {
-    // SAFETY: see above.
+    // SAFETY: see raw.
     let read = unsafe { raw::tb_read_response(packet.as_ptr(), packet.len()) };
     Refusal::check(read.code)?;
     Ok(Response { nonc: read.nonc, indx: read.indx, midp: read.midp, radi: read.radi, root: read.root })
@@ -52,21 +48,21 @@ pub fn read_response(packet: &[u8]) -> Result<Response, Refusal> {
 /// Writes the request with `nonce` to the server with the long-term key `key` at the front of `out`: [`REQUEST_LENGTH`] bytes.
 /// What follows them stays. The only refusal is 19, and then all of `out` stays.
 pub fn write_request(key: &[u8; 32], nonce: &[u8; 32], out: &mut [u8]) -> Result<(), Refusal> {
-    // SAFETY: see above.
+    // SAFETY: see raw.
     Refusal::check(unsafe { raw::tb_write_request(key, nonce, out.as_mut_ptr(), out.len()) })
 }
 
 /// Writes what the signature in CERT was made of, in the response that `packet` is, at the front of `out`, and tells how many
-/// bytes it has. What follows them stays. The refusals are 1 to 7 and then 19, and then all of `out` stays.
+/// bytes it has: 2,000 are room for any. What follows them stays. The refusals are 1 to 7 and then 19, and then all of `out` stays.
 pub fn delegation_text(packet: &[u8], out: &mut [u8]) -> Result<usize, Refusal> {
-    // SAFETY: see above.
+    // SAFETY: see raw.
     written(unsafe { raw::tb_delegation_text(packet.as_ptr(), packet.len(), out.as_mut_ptr(), out.len()) })
 }
 
 /// Writes what the signature of SREP was made of, in the response that `packet` is, at the front of `out`, and tells how many
-/// bytes it has. What follows them stays. The refusals are 1 to 7 and then 19, and then all of `out` stays.
+/// bytes it has: 2,000 are room for any. What follows them stays. The refusals are 1 to 7 and then 19, and then all of `out` stays.
 pub fn response_text(packet: &[u8], out: &mut [u8]) -> Result<usize, Refusal> {
-    // SAFETY: see above.
+    // SAFETY: see raw.
     written(unsafe { raw::tb_response_text(packet.as_ptr(), packet.len(), out.as_mut_ptr(), out.len()) })
 }
 

@@ -1,9 +1,7 @@
 //! Piles of records, which are requests with the responses that answer them: what each record says, whether a pile is a report, and the
 //! run of records that convicts by itself.
 
-// Why each call below is sound. The library only reads its inputs, only writes within `out`, and keeps no pointer. A Rust
-// slice's pointer is never null, also where the slice is empty, which the library asks for. What a slice leads to is initialised,
-// and a mutable one overlaps no other. A place that it answers is one of a record of the pile, so nothing is lost where it becomes a usize.
+// A place that the library answers is one of a record of the pile, so nothing is lost where it becomes a usize.
 
 use std::fmt;
 
@@ -77,9 +75,8 @@ impl std::error::Error for ReportRefusal {}
 /// assert_eq!(pile_code(&[0; RECORD_LENGTH], &[1, 2]).unwrap_err().code(), 15);
 /// ```
 pub fn pile_code(pile: &[u8], answers: &[u8]) -> Result<(), Refusal> {
-    let ((start, n), (start_too, m)) = ((pile.as_ptr(), pile.len()), (answers.as_ptr(), answers.len()));
-    // SAFETY: see above.
-    Refusal::check(unsafe { raw::tb_pile_code(start, n, start_too, m) })
+    // SAFETY: see raw.
+    Refusal::check(unsafe { raw::tb_pile_code(pile.as_ptr(), pile.len(), answers.as_ptr(), answers.len()) })
 }
 
 /// The window of the record at `place`, where it is valid. The refusals are 15, also where the pile has no such record, then 16, 14 and
@@ -93,9 +90,8 @@ pub fn pile_code(pile: &[u8], answers: &[u8]) -> Result<(), Refusal> {
 /// assert_eq!(judge(&[0; RECORD_LENGTH], &[1, 1], 1).unwrap_err().code(), 15);
 /// ```
 pub fn judge(pile: &[u8], answers: &[u8], place: usize) -> Result<Window, Refusal> {
-    let ((start, n), (start_too, m)) = ((pile.as_ptr(), pile.len()), (answers.as_ptr(), answers.len()));
-    // SAFETY: see above.
-    let judged = unsafe { raw::tb_judge(start, n, start_too, m, place) };
+    // SAFETY: see raw.
+    let judged = unsafe { raw::tb_judge(pile.as_ptr(), pile.len(), answers.as_ptr(), answers.len(), place) };
     Refusal::check_wide(judged.code)?;
     // RADI has 32 bits, so nothing is lost.
     Ok(Window { midp: judged.midp, radi: judged.radi as u32, low: judged.low, high: judged.high })
@@ -105,13 +101,13 @@ pub fn judge(pile: &[u8], answers: &[u8], place: usize) -> Result<Window, Refusa
 /// It is not where that cannot be asked: the pile is not 1 to 16 whole records, it has no such record, there is none before it, one of the
 /// two lengths is above 2,000, or the request is bad.
 pub fn linked(pile: &[u8], place: usize) -> bool {
-    // SAFETY: see above.
+    // SAFETY: see raw.
     unsafe { raw::tb_linked(pile.as_ptr(), pile.len(), place) }
 }
 
 /// Whether the rand of the first record is all zero. It is not where the pile is not 1 to 16 whole records.
 pub fn first_rand_zero(pile: &[u8]) -> bool {
-    // SAFETY: see above.
+    // SAFETY: see raw.
     unsafe { raw::tb_first_rand_zero(pile.as_ptr(), pile.len()) }
 }
 
@@ -145,9 +141,8 @@ pub fn contradicts(earlier: &Window, later: &Window) -> bool {
 /// assert_eq!((refused.refusal.code(), refused.place), (15, None));
 /// ```
 pub fn check_report(pile: &[u8], answers: &[u8]) -> Result<Pair, ReportRefusal> {
-    let ((start, n), (start_too, m)) = ((pile.as_ptr(), pile.len()), (answers.as_ptr(), answers.len()));
-    // SAFETY: see above.
-    let checked = unsafe { raw::tb_check_report(start, n, start_too, m) };
+    // SAFETY: see raw.
+    let checked = unsafe { raw::tb_check_report(pile.as_ptr(), pile.len(), answers.as_ptr(), answers.len()) };
     match Refusal::check_wide(checked.code) {
         Ok(()) => Ok(Pair { first: checked.first as usize, second: checked.second as usize }),
         Err(refusal) => {
@@ -171,9 +166,9 @@ pub fn check_report(pile: &[u8], answers: &[u8]) -> Result<Pair, ReportRefusal> 
 /// assert_eq!(cut_run(&pile, &[1, 1], &mut out[1..]).unwrap_err().code(), 19);
 /// ```
 pub fn cut_run(pile: &[u8], answers: &[u8], out: &mut [u8]) -> Result<Run, Refusal> {
-    let ((start, n), (start_too, m)) = ((pile.as_ptr(), pile.len()), (answers.as_ptr(), answers.len()));
-    // SAFETY: see above.
-    let cut = unsafe { raw::tb_cut_run(start, n, start_too, m, out.as_mut_ptr(), out.len()) };
+    let (n, m, room) = (pile.len(), answers.len(), out.len());
+    // SAFETY: see raw.
+    let cut = unsafe { raw::tb_cut_run(pile.as_ptr(), n, answers.as_ptr(), m, out.as_mut_ptr(), room) };
     Refusal::check_wide(cut.code)?;
     Ok(Run { first: cut.first as usize, last: cut.last as usize })
 }

@@ -3,6 +3,10 @@
 //! A slice is passed as a pointer and then a length. The pointer must not be null, whatever the length.
 //! A reference to an array is a plain pointer to C, and says here how many bytes it must lead to.
 //! What is written to must be initialised, and must overlap nothing that is read.
+//!
+//! Why the safe functions of this package are sound: the library only reads its inputs, only writes within `out`, and keeps no pointer. A Rust
+//! slice's pointer is never null, also where the slice is empty; what it leads to is initialised; and a mutable one, or a new array that is
+//! filled with zeros first, overlaps no other.
 
 /// What [`tb_read_request`] answers.
 #[repr(C)]

@@ -27,9 +27,8 @@ pub struct Found<'a> {
 
 /// The first record with the mark `srv`, in the owner's list or else in the shipped one. The refusals are 21 and then 22.
 pub fn find_server<'a>(owner: &'a [u8], shipped: &'a [u8], srv: &Hash) -> Result<Found<'a>, Refusal> {
-    let ((start, n), (start_too, m)) = ((owner.as_ptr(), owner.len()), (shipped.as_ptr(), shipped.len()));
-    // SAFETY: the library only reads its inputs and keeps no pointer. A slice's pointer is never null, also where it is empty.
-    let found = unsafe { raw::tb_find_server(start, n, start_too, m, srv) };
+    // SAFETY: see raw.
+    let found = unsafe { raw::tb_find_server(owner.as_ptr(), owner.len(), shipped.as_ptr(), shipped.len(), srv) };
     Refusal::check_wide(found.code)?;
     let (list, bytes) = if found.list == 0 { (List::Owner, owner) } else { (List::Shipped, shipped) };
     // It is the offset of a part of a slice, so nothing is lost.

@@ -2,10 +2,6 @@
 //!
 //! Leaves, siblings and rows are bytes here, one hash of 32 bytes after the other.
 
-// Why each call below is sound. The library only reads its inputs, only writes within `out`, and keeps no pointer. A Rust
-// slice's pointer is never null, also where the slice is empty, which the library asks for. What a slice leads to is initialised,
-// and a mutable one overlaps no other.
-
 use crate::{raw, Hash, Refusal};
 
 /// The most leaves that a tree is built of.
@@ -35,13 +31,13 @@ pub struct Placed {
 /// Whether the siblings at `path` lead from `leaf` to `root`, and `indx` needs no more bits than there are siblings.
 /// Bytes that are not 0 to 32 whole siblings lead nowhere.
 pub fn leads(leaf: &Hash, indx: u32, path: &[u8], root: &Hash) -> bool {
-    // SAFETY: see above.
+    // SAFETY: see raw.
     unsafe { raw::tb_leads(leaf, indx, path.as_ptr(), path.len(), root) }
 }
 
 /// The root of the tree of `leaves`. The only refusal is 20.
 pub fn root(leaves: &[u8]) -> Result<Rooted, Refusal> {
-    // SAFETY: see above.
+    // SAFETY: see raw.
     let rooted = unsafe { raw::tb_root(leaves.as_ptr(), leaves.len()) };
     Refusal::check_wide(rooted.code)?;
     Ok(Rooted { depth: rooted.depth as usize, root: rooted.root })
@@ -50,14 +46,14 @@ pub fn root(leaves: &[u8]) -> Result<Rooted, Refusal> {
 /// Writes the siblings of the leaf at `place`, counted from 0 at the left, at the front of `out`, that beside the leaf first.
 /// What follows them stays. The refusals are 20 and then 19, and then all of `out` stays.
 pub fn path(leaves: &[u8], place: usize, out: &mut [u8]) -> Result<Placed, Refusal> {
-    // SAFETY: see above.
+    // SAFETY: see raw.
     placed(unsafe { raw::tb_path(leaves.as_ptr(), leaves.len(), place, out.as_mut_ptr(), out.len()) })
 }
 
 /// Writes all rows of the tree of `leaves` at the front of `out` and tells its depth: the leaves first, with every empty place
 /// filled, and the root last. What follows them stays. The refusals are 20 and then 19, and then all of `out` stays.
 pub fn rows(leaves: &[u8], out: &mut [u8]) -> Result<usize, Refusal> {
-    // SAFETY: see above.
+    // SAFETY: see raw.
     let laid = unsafe { raw::tb_rows(leaves.as_ptr(), leaves.len(), out.as_mut_ptr(), out.len()) };
     Refusal::check_wide(laid.code)?;
     Ok(laid.depth as usize)
@@ -66,7 +62,7 @@ pub fn rows(leaves: &[u8], out: &mut [u8]) -> Result<usize, Refusal> {
 /// What [`path`] does, without a hash: the siblings are read out of the rows that [`rows`] wrote for `count` leaves. Other rows are
 /// taken as they are. The refusals are 20, also where the rows are too short for that many leaves, and then 19.
 pub fn path_from(rows: &[u8], count: usize, place: usize, out: &mut [u8]) -> Result<Placed, Refusal> {
-    // SAFETY: see above.
+    // SAFETY: see raw.
     placed(unsafe { raw::tb_path_from(rows.as_ptr(), rows.len(), count, place, out.as_mut_ptr(), out.len()) })
 }
 
