@@ -66,8 +66,8 @@ void tb_parent(const uint8_t left[32], const uint8_t right[32], uint8_t out[32])
 /* What stands at a leaf of the tree where there is no packet: H(0x00). */
 void tb_empty_place(uint8_t out[32]);
 
-/* The mark by which a request names the server it is meant for: H(0xff, key), of the server's long-term public key. */
-void tb_server_mark(const uint8_t key[32], uint8_t out[32]);
+/* The SRV value, by which a request names the server it is meant for: H(0xff, key), of the server's long-term public key. */
+void tb_srv_value(const uint8_t key[32], uint8_t out[32]);
 
 /* The nonce that ties the next request of a chain to a response of n bytes: H(response, rand). */
 void tb_link(const uint8_t *response, size_t n, const uint8_t rand[32], uint8_t out[32]);
@@ -193,8 +193,8 @@ struct tb_found {
     uint64_t offset;
 };
 
-/* Looks up the server marked srv in the owner's list of n bytes, and then in the shipped one of m bytes. A list is records of 64
- * bytes, a long-term key and then its mark, and may be empty; the first match wins. The codes are 21 and 22. */
+/* Looks up the server with the SRV value srv in the owner's list of n bytes, and then in the shipped one of m bytes. A list is records of 64
+ * bytes, a long-term key and then its SRV value, and may be empty; the first match wins. The codes are 21 and 22. */
 struct tb_found tb_find_server(const uint8_t *owner, size_t n, const uint8_t *shipped, size_t m, const uint8_t srv[32]);
 
 /* ---- Piles and reports ---- */

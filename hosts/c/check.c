@@ -101,19 +101,19 @@ static void expect_hashes(void) {
     tb_parent(first, second, out);
     expect_hash("tb_parent", out, joined, 65);
     joined[0] = 0xff;
-    tb_server_mark(first, out);
-    expect_hash("tb_server_mark", out, joined, 33);
+    tb_srv_value(first, out);
+    expect_hash("tb_srv_value", out, joined, 33);
     tb_link(joined, 33, second, out);
     expect_hash("tb_link", out, joined, 65);
 }
 
 /* Writes a request, where there is room and where there is none, and reads it back. */
 static void expect_request(void) {
-    uint8_t key[32], nonce[32], mark[32] = {0}, out[TB_REQUEST_LENGTH + 8];
+    uint8_t key[32], nonce[32], srv[32] = {0}, out[TB_REQUEST_LENGTH + 8];
     memset(key, 0x11, sizeof key);
     memset(nonce, 0x22, sizeof nonce);
     memset(out, 0xee, sizeof out);
-    tb_server_mark(key, mark);
+    tb_srv_value(key, srv);
 
     expect_number("tb_write_request without room", tb_write_request(key, nonce, out, TB_REQUEST_LENGTH - 1), 19);
     expect_all("a buffer without room", out, 0xee, sizeof out);
@@ -124,7 +124,7 @@ static void expect_request(void) {
     expect_number("code of the request", read.code, 0);
     expect_number("with_srv of the request", read.with_srv, 1);
     expect_bytes("nonc of the request", read.nonc, nonce, sizeof nonce);
-    expect_bytes("srv of the request", read.srv, mark, sizeof mark);
+    expect_bytes("srv of the request", read.srv, srv, sizeof srv);
 }
 
 static void expect_refused_request(const uint8_t *packet, size_t n, uint32_t code) {
@@ -282,7 +282,7 @@ static void expect_found(const char *what, struct tb_found is, uint64_t code, ui
     expect_number(what, is.offset, offset);
 }
 
-/* Two lists of two records; the second mark of the owner's list is the first of the shipped one. */
+/* Two lists of two records; the second SRV value of the owner's list is the first of the shipped one. */
 static void expect_lookups(void) {
     uint8_t owner[128], shipped[128];
     for (size_t i = 0; i < 4; i++) memset(owner + 32 * i, (int)i, 32);

@@ -1,7 +1,7 @@
 //! Roughtime's hash, and each thing that the protocol makes of it.
 //!
 //! The protocol calls the first 32 bytes of SHA-512 H. A byte in front keeps the uses apart,
-//! so that no leaf of a tree can be taken for a node above it, nor a key's mark for either.
+//! so that no leaf of a tree can be taken for a node above it, nor a key's SRV value for either.
 
 use crate::sha512::Sha512;
 
@@ -40,8 +40,8 @@ pub fn empty_place() -> Hash {
     h(&[LEAF])
 }
 
-/// What a request names a server by: the mark of its long-term public key.
-pub fn server_mark(key: &[u8; 32]) -> Hash {
+/// What a request names a server by: the SRV value of its long-term public key.
+pub fn srv_value(key: &[u8; 32]) -> Hash {
     h(&[KEY, key])
 }
 
@@ -65,7 +65,7 @@ mod tests {
         assert_eq!(leaf(&packet), joined(&[&[0], &packet]));
         assert_eq!(parent(&a, &b), joined(&[&[1], &a, &b]));
         assert_eq!(empty_place(), joined(&[&[0]]));
-        assert_eq!(server_mark(&a), joined(&[&[255], &a]));
+        assert_eq!(srv_value(&a), joined(&[&[255], &a]));
         assert_eq!(link(&packet, &b), joined(&[&packet, &b]));
         println!("the five hashes: each compared with the digest of its joined parts");
     }

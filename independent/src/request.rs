@@ -13,7 +13,7 @@ pub const TYPE_OF_REQUEST: u32 = 0;
 pub struct Request {
     /// VER: the versions that the client knows, rising. Version 1 is among them.
     pub versions: Vec<u32>,
-    /// SRV: the mark of the key that the client expects, if it names one.
+    /// SRV: by which the client names the key that it expects, if it does.
     pub srv: Option<[u8; 32]>,
     /// NONC: the nonce.
     pub nonc: [u8; 32],

@@ -1,4 +1,4 @@
-//! Lists of servers, which are a house rule: records of 64 bytes, a long-term key and then its mark, with nothing around them.
+//! Lists of servers, which are a house rule: records of 64 bytes, a long-term key and then its SRV value, with nothing around them.
 
 use crate::refusal::Refusal;
 
@@ -43,7 +43,7 @@ pub fn find<'a>(owner: &'a [u8], shipped: &'a [u8], srv: &[u8; 32]) -> Result<Fo
 mod tests {
     use super::*;
 
-    /// A list of records with these keys and marks.
+    /// A list of records with these keys and SRV values.
     fn list(records: &[(u8, u8)]) -> Vec<u8> {
         records.iter().flat_map(|(key, srv)| [[*key; 32], [*srv; 32]].concat()).collect()
     }
@@ -66,7 +66,7 @@ mod tests {
         assert_eq!(found(&owner, &[], 20), Some((List::Owner, 64, 2)));
     }
 
-    /// Neither the key nor bytes across two records are a mark.
+    /// Neither the key nor bytes across two records are an SRV value.
     #[test]
     fn only_the_mark_is_sought() {
         assert_eq!(found(&[(7, 1), (7, 2)], &[(7, 3)], 7), None);

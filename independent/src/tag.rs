@@ -14,7 +14,7 @@ pub const fn named(bytes: &[u8; 4]) -> Tag {
 pub const SIG: Tag = named(b"SIG\0");
 /// A version, or in a request a list of them.
 pub const VER: Tag = named(b"VER\0");
-/// The mark of the key that the client expects.
+/// What names the key that the client expects.
 pub const SRV: Tag = named(b"SRV\0");
 /// The nonce.
 pub const NONC: Tag = named(b"NONC");

@@ -19,7 +19,7 @@ pub fn request(key: &[u8; 32], nonce: &[u8; 32]) -> Vec<u8> {
 pub fn padded_request(key: &[u8; 32], nonce: &[u8; 32], padding: usize) -> Vec<u8> {
     let pairs: [(_, &[u8]); 5] = [
         (VER, &VERSION.to_le_bytes()),
-        (SRV, &hash::server_mark(key)),
+        (SRV, &hash::srv_value(key)),
         (NONC, nonce),
         (TYPE, &TYPE_OF_REQUEST.to_le_bytes()),
         (ZZZZ, &vec![0; padding]),
@@ -48,7 +48,7 @@ mod tests {
             written[12..52].chunks(4).map(|word| u32::from_le_bytes(word.try_into().unwrap())).collect();
         assert_eq!(words, [5, 4, 36, 68, 72, VER, SRV, NONC, TYPE, ZZZZ]);
         assert_eq!(written[52..56], [1, 0, 0, 0]);
-        assert_eq!(written[56..88], hash::server_mark(&[1; 32]));
+        assert_eq!(written[56..88], hash::srv_value(&[1; 32]));
         assert_eq!(written[88..120], [2; 32]);
         assert!(written[120..].iter().all(|byte| *byte == 0));
     }
@@ -57,7 +57,7 @@ mod tests {
     fn what_was_written_is_read_back() {
         let read = request::read(&request(&[1; 32], &[2; 32])).unwrap();
         assert_eq!((read.versions, read.nonc), (vec![VERSION], [2; 32]));
-        assert_eq!(read.srv, Some(hash::server_mark(&[1; 32])));
+        assert_eq!(read.srv, Some(hash::srv_value(&[1; 32])));
     }
 
     #[test]

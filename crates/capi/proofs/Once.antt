@@ -20,8 +20,8 @@ use Rattle.capi.proofs.hashing.tb_parent.Kinds as tb-parent-kinds
 use Rattle.capi.proofs.hashing.tb_parent.Reads as tb-parent-reads
 use Rattle.capi.proofs.hashing.tb_empty_place.Kinds as tb-empty-place-kinds
 use Rattle.capi.proofs.hashing.tb_empty_place.Reads as tb-empty-place-reads
-use Rattle.capi.proofs.hashing.tb_server_mark.Kinds as tb-server-mark-kinds
-use Rattle.capi.proofs.hashing.tb_server_mark.Reads as tb-server-mark-reads
+use Rattle.capi.proofs.hashing.tb_srv_value.Kinds as tb-srv-value-kinds
+use Rattle.capi.proofs.hashing.tb_srv_value.Reads as tb-srv-value-reads
 use Rattle.capi.proofs.hashing.tb_link.Kinds as tb-link-kinds
 use Rattle.capi.proofs.hashing.tb_link.Reads as tb-link-reads
 use Rattle.capi.proofs.reading.tb_read_request.Kinds as tb-read-request-kinds
@@ -75,8 +75,8 @@ tb-parent-once κs a x e y f p q = p ∙ sym q
 pub tb-empty-place-once : SettlesExit 1 tb-empty-place-kinds.ps tb-empty-place-kinds.r tb-empty-place-reads.Post (λ κs e. e .0 .now)
 tb-empty-place-once κs a x e y f p q = p ∙ sym q
 
-pub tb-server-mark-once : SettlesExit 2 tb-server-mark-kinds.ps tb-server-mark-kinds.r tb-server-mark-reads.Post (λ κs e. e .1 .0 .now)
-tb-server-mark-once κs a x e y f p q = p ∙ sym q
+pub tb-srv-value-once : SettlesExit 2 tb-srv-value-kinds.ps tb-srv-value-kinds.r tb-srv-value-reads.Post (λ κs e. e .1 .0 .now)
+tb-srv-value-once κs a x e y f p q = p ∙ sym q
 
 pub tb-link-once : SettlesExit 3 tb-link-kinds.ps tb-link-kinds.r tb-link-reads.Post (λ κs e. e .1 .1 .0 .now)
 tb-link-once κs a x e y f p q = p ∙ sym q

@@ -1,7 +1,7 @@
 -- What reading answers, as structs for C.
 use Prim.Native.Nat.{ℕ}
 use mathlib.Core.Bool.{Bool, true, false}
-use Rattle.wire.specs.Request.{codeOf}
+use Rattle.wire.specs.Request.{answerNumber}
 use Rattle.wire.specs.declared.Request.{Request}
 use Rattle.wire.specs.declared.Response.{Response}
 use Rattle.capi.specs.declared.RequestRead.{RequestRead}
@@ -13,8 +13,8 @@ flagOf true = 1
 flagOf false = 0
 
 abbrev pub requestRead : Request → RequestRead
-requestRead q = record { code = codeOf (q .answer); «with_srv» = flagOf (q .«with_srv»); nonc = q .nonc; srv = q .srv }
+requestRead q = record { code = answerNumber (q .answer); «with_srv» = flagOf (q .«with_srv»); nonc = q .nonc; srv = q .srv }
 
 abbrev pub responseRead : Response → ResponseRead
 responseRead q =
-    record { midp = q .midp; code = codeOf (q .answer); indx = q .indx; radi = q .radi; nonc = q .nonc; root = q .root }
+    record { midp = q .midp; code = answerNumber (q .answer); indx = q .indx; radi = q .radi; nonc = q .nonc; root = q .root }

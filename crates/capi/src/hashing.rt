@@ -1,7 +1,7 @@
 // Hashes for hosts.
 ghost use mathlib.Core.Path.{_≡_};
 ghost use Rattle.sha512.specs.Computation.{Sha512};
-ghost use Rattle.hash.specs.Hashes.{leafOf, parentOf, emptyPlace, markOf, linkOf};
+ghost use Rattle.hash.specs.Hashes.{leafOf, parentOf, emptyPlace, srvOf, linkOf};
 
 // The SHA-512 digest of s.
 #[no_mangle]
@@ -41,10 +41,10 @@ pub extern "C" fn tb_empty_place(out: &mut [u8; 32])
 
 // The SRV value of the server with this long-term key: H(0xff, key).
 #[no_mangle]
-pub extern "C" fn tb_server_mark(key: &[u8; 32], out: &mut [u8; 32])
-    ensures { λ _. ⌜ now (out .exit) ≡ markOf (now (key .entry)) ⌝ }
+pub extern "C" fn tb_srv_value(key: &[u8; 32], out: &mut [u8; 32])
+    ensures { λ _. ⌜ now (out .exit) ≡ srvOf (now (key .entry)) ⌝ }
 {
-    let d = hash::server_mark(*key);
+    let d = hash::srv_value(*key);
     *out = d;
 }
 

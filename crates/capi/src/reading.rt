@@ -1,6 +1,6 @@
 // Requests and responses read for hosts.
 ghost use mathlib.Core.Path.{_≡_};
-ghost use Rattle.wire.specs.Request.{codeOf, requestOf};
+ghost use Rattle.wire.specs.Request.{answerNumber, requestOf};
 ghost use Rattle.wire.specs.Response.{responseOf};
 ghost use Rattle.capi.specs.Reading.{flagOf, requestRead, responseRead};
 use super::RequestRead;
@@ -45,7 +45,7 @@ pub extern "C" fn tb_read_response(packet: &[u8]) -> ResponseRead
 
 // Document 01's number of an answer.
 fn number(a: Answer) -> u32
-    ensures { λ r. ⌜ r ≡ codeOf a ⌝ }
+    ensures { λ r. ⌜ r ≡ answerNumber a ⌝ }
 {
     match a {
         Answer::Passed => 0,

@@ -1,6 +1,6 @@
 // What we write, for hosts.
 ghost use mathlib.Core.Path.{_≡_};
-ghost use Rattle.octets.specs.Written.{written, answered, codeOf};
+ghost use Rattle.octets.specs.Written.{written, answered, wroteNumber};
 ghost use Rattle.wire.specs.Response.{signedCode};
 ghost use Rattle.writer.specs.Asking.{requestBytes};
 ghost use Rattle.writer.specs.Signing.{delegationText, responseText, textAnswer, textLeft};
@@ -12,7 +12,7 @@ use writer::Text;
 // A request to the server with this long-term key, with this nonce, at the front of out: 0, or 19 where out is too short.
 #[no_mangle]
 pub extern "C" fn tb_write_request(key: &[u8; 32], nonce: &[u8; 32], out: &mut [u8]) -> u32
-    ensures { λ r. ⌜ r ≡ codeOf (answered (requestBytes (now (key .entry)) (now (nonce .entry))) (now (out .entry))) ⌝ }
+    ensures { λ r. ⌜ r ≡ wroteNumber (answered (requestBytes (now (key .entry)) (now (nonce .entry))) (now (out .entry))) ⌝ }
     ensures { λ _. ⌜ now (out .exit) ≡ written (requestBytes (now (key .entry)) (now (nonce .entry))) (now (out .entry)) ⌝ }
 {
     let w = writer::write_request(*key, *nonce, out);

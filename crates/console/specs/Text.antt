@@ -8,6 +8,7 @@ use Rattle.verdict.specs.declared.Verdict.{Verdict}
 use Rattle.verdict.specs.declared.Verdict.the-variants.{Valid, Refused}
 use Rattle.pile.specs.Pile.{recordsIn}
 use Rattle.report.specs.Report.{judged}
+use Rattle.report.specs.Taking.{takenNumber}
 use Rattle.report.specs.declared.Taken.{Taken}
 use Rattle.report.specs.declared.Taken.the-variants.{Run, Bad, Short, NoRun}
 
@@ -58,9 +59,9 @@ runLine first last = ascii "run" ++ spaced first ++ spaced last ++ ascii "\n"
 abbrev pub recordsText : List ℕ → List ℕ → List ℕ
 recordsText pile answers = countLine (recordsIn pile) ++ recordLines (judged pile answers) (recordsIn pile)
 
--- all of it, where the cutter answers this
+-- all of it, where the cutter answers this; `Short` it never answers, as the program lends it room for sixteen records and 15 comes before
 abbrev pub verdictText : List ℕ → List ℕ → Taken → List ℕ
 verdictText pile answers (Run i j) = recordsText pile answers ++ runLine i j
 verdictText pile answers NoRun = recordsText pile answers ++ ascii "run none\n"
-verdictText pile answers Bad = refusedLine 15
-verdictText pile answers Short = refusedLine 19
+verdictText pile answers Bad = refusedLine (takenNumber Bad)
+verdictText pile answers Short = refusedLine (takenNumber Short)

@@ -16,7 +16,8 @@ use Rattle.message.specs.Tags.{PATH}
 use Rattle.message.specs.Values.{valueOf}
 use Rattle.tree.specs.Check.{leadsOf}
 use Rattle.wire.specs.Packet.{body}
-use Rattle.verdict.specs.Check.{maxtIn, pathMisses, timeOutside, answersCode, agreementCode, checkCode, verdictOf, verdictCode}
+use Rattle.wire.specs.Response.{maxtIn}
+use Rattle.verdict.specs.Check.{pathMisses, timeOutside, answersCode, agreementCode, checkCode, verdictOf, verdictNumber}
 use Rattle.verdict.proofs.Exactly.{verdict-says}
 use Rattle.examples.specs.Claims.{Before10, Climbs, Late, Misses}
 
@@ -31,7 +32,7 @@ module _ (q p : List ℕ) (d s : Bool) (b : Before10 q p) where
       skip code 14 _ (sym (b .request)) refl
       (pass code _ refl (b .shape) (last (skip code 8 _ (sym (b .version)) refl (skip code 9 _ (sym (b .nonce)) refl refl))))
 
-  says-left : verdictCode (verdictOf q p d s) ≡ left
+  says-left : verdictNumber (verdictOf q p d s) ≡ left
   says-left = verdict-says q p d s ∙ sym from-10
 
 -- an INDX that needs more bits than there are siblings
@@ -42,7 +43,7 @@ module _ (i n : ℕ) (large : 2 ^ n ≤ i) where
       let q : length path / 32 ≡ n = omega arith in
       rw (q, le-ltb i (2 ^ n) large, and-false)
 
-  pub large-refused : (q p : List ℕ) (d s : Bool) → Climbs i n q p → verdictCode (verdictOf q p d s) ≡ 10
+  pub large-refused : (q p : List ℕ) (d s : Bool) → Climbs i n q p → verdictNumber (verdictOf q p d s) ≡ 10
   unfolding pathMisses firstOf whenOf
   large-refused q p d s c =
       let misses : pathMisses q (body p) ≡ true = rw (c .names, large-misses _ (valueOf (body p) PATH) _ (c .long)) in
@@ -56,7 +57,7 @@ module _ (q p : List ℕ) (k : ℕ) (c : Late k q p) where
       rw (le-ltb _ _ (c .from), c .above, or-false)
       (ltb-same (maxtIn (body p)) (maxtIn (body p) + k) 0 k (λ h. omega arith) (λ h. omega arith))
 
-  pub late-says : verdictCode (verdictOf q p true true) ≡ when (ltb 0 k) 11
+  pub late-says : verdictNumber (verdictOf q p true true) ≡ when (ltb 0 k) 11
   unfolding answersCode firstOf whenOf
   late-says = says-left q p true true (c .before) ∙ rw (c .leads, outside) (by (ltb 0 k))
     where

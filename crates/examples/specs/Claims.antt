@@ -5,17 +5,16 @@ use mathlib.Core.Bool.{Bool, true, false}
 use mathlib.Core.List.{List}
 use Prim.Native.Nat.{ℕ, _+_, _*_, _≤_, _<_}
 use lib.ListN.{length}
-use Rattle.laws.specs.Numbers.{le}
-use Rattle.message.specs.Tags.{PATH, INDX}
+use Rattle.message.specs.Tags.{PATH}
 use Rattle.message.specs.Values.{valueOf}
 use Rattle.wire.specs.Packet.{packetOf, body}
-use Rattle.wire.specs.Request.{requestOf, codeOf}
-use Rattle.wire.specs.Response.{responseCode, responseOf}
+use Rattle.wire.specs.Request.{requestOf, answerNumber}
+use Rattle.wire.specs.Response.{indxIn, midpIn, mintIn, maxtIn, responseCode, responseOf}
 use Rattle.tree.specs.Check.{leadsOf}
 use Rattle.tree.specs.Answers.{rootedOf, pathTold, pathBytes, placedTold}
 use Rattle.tree.specs.declared.Placed.the-variants.{Written}
 use Rattle.verdict.specs.Window.{windowOf}
-use Rattle.verdict.specs.Check.{midpIn, mintIn, maxtIn, requestBad, versionUnasked, nonceDiffers, pathMisses, verdictOf, verdictCode}
+use Rattle.verdict.specs.Check.{requestBad, versionUnasked, nonceDiffers, pathMisses, verdictOf, verdictNumber}
 use Rattle.verdict.specs.declared.Verdict.{Verdict}
 use Rattle.verdict.specs.declared.Window.{Window}
 use Rattle.pile.specs.Pile.{recordsIn}
@@ -87,7 +86,7 @@ pub record Before10 (q p : List ℕ) : Type 0 where
 -- such a response, with this INDX and so many siblings
 pub record Climbs (i siblings : ℕ) (q p : List ℕ) : Type 0 where
   pub before : Before10 q p
-  pub names : le 4 (valueOf (body p) INDX) 0 ≡ i
+  pub names : indxIn (body p) ≡ i
   pub long : length (valueOf (body p) PATH) ≡ 32 * siblings
 
 -- one to which 10 does not apply either, MIDP is not before MINT, and is k above MAXT
@@ -114,8 +113,8 @@ Claim (path leaves place i siblings) =
     (s : List ℕ) (room : ℕ) → length s ≡ 32 * leaves → 32 * siblings ≤ room
     → (placedTold (Written i siblings) ≡ pathTold s place room) × (length (pathBytes s place) ≡ 32 * siblings)
 Claim (indx i siblings code) =
-    Misses i siblings × ((q p : List ℕ) (d s : Bool) → Climbs i siblings q p → verdictCode (verdictOf q p d s) ≡ code)
-Claim (above-maxt k code) = (q p : List ℕ) → Late k q p → verdictCode (verdictOf q p true true) ≡ code
+    Misses i siblings × ((q p : List ℕ) (d s : Bool) → Climbs i siblings q p → verdictNumber (verdictOf q p d s) ≡ code)
+Claim (above-maxt k code) = (q p : List ℕ) → Late k q p → verdictNumber (verdictOf q p true true) ≡ code
 Claim (message m code) =
-    (codeOf (requestOf (packetOf m) .answer) ≡ code) × (codeOf (responseOf (packetOf m) .answer) ≡ code)
+    (answerNumber (requestOf (packetOf m) .answer) ≡ code) × (answerNumber (responseOf (packetOf m) .answer) ≡ code)
 Claim (r and s) = Claim r × Claim s

@@ -8,8 +8,8 @@ use Rattle.hash.proofs.parent.Kinds as parent-kinds
 use Rattle.hash.proofs.parent.Reads as parent-reads
 use Rattle.hash.proofs.empty_place.Kinds as empty-place-kinds
 use Rattle.hash.proofs.empty_place.Reads as empty-place-reads
-use Rattle.hash.proofs.server_mark.Kinds as server-mark-kinds
-use Rattle.hash.proofs.server_mark.Reads as server-mark-reads
+use Rattle.hash.proofs.srv_value.Kinds as srv-value-kinds
+use Rattle.hash.proofs.srv_value.Reads as srv-value-reads
 use Rattle.hash.proofs.link.Kinds as link-kinds
 use Rattle.hash.proofs.link.Reads as link-reads
 
@@ -22,8 +22,8 @@ parent-once κs a x e y f p q = p ∙ sym q
 pub empty-place-once : Settles 0 empty-place-kinds.ps empty-place-kinds.r empty-place-reads.Post
 empty-place-once κs a x e y f p q = p ∙ sym q
 
-pub server-mark-once : Settles 0 server-mark-kinds.ps server-mark-kinds.r server-mark-reads.Post
-server-mark-once κs a x e y f p q = p ∙ sym q
+pub srv-value-once : Settles 0 srv-value-kinds.ps srv-value-kinds.r srv-value-reads.Post
+srv-value-once κs a x e y f p q = p ∙ sym q
 
 pub link-once : Settles 1 link-kinds.ps link-kinds.r link-reads.Post
 link-once κs a x e y f p q = p ∙ sym q

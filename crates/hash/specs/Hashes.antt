@@ -1,4 +1,4 @@
--- H, and what it is taken of: a server's mark (draft 19, 5.1.4), leaves and parents (5.3), an empty place (document 01, house) and links (8.2).
+-- H, and what it is taken of: a server's SRV value (draft 19, 5.1.4), leaves and parents (5.3), an empty place (document 01, house) and links (8.2).
 -- A contract cannot use the name `H`, so it is `H32` here.
 use mathlib.Core.List.{List, [], _∷_, _++_}
 use Prim.Native.Nat.{ℕ}
@@ -22,8 +22,8 @@ unfoldable pub emptyPlace : List ℕ
 emptyPlace = H32 (0x00 ∷ [])
 
 -- the SRV value of the server with this long-term key
-unfoldable pub markOf : List ℕ → List ℕ
-markOf key = H32 (0xff ∷ key)
+unfoldable pub srvOf : List ℕ → List ℕ
+srvOf key = H32 (0xff ∷ key)
 
 -- the nonce that links a request to the response before it, with the request's own rand
 unfoldable pub linkOf : List ℕ → List ℕ → List ℕ

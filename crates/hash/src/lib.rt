@@ -1,7 +1,7 @@
 // H, the first 32 bytes of SHA-512 (draft 19, 5.1.4), over what Roughtime hashes.
 ghost use mathlib.Core.Path.{_≡_};
 ghost use lib.ListN.{take};
-ghost use Rattle.hash.specs.Hashes.{leafOf, parentOf, emptyPlace, markOf, linkOf};
+ghost use Rattle.hash.specs.Hashes.{leafOf, parentOf, emptyPlace, srvOf, linkOf};
 use octets::copy32;
 use octets::put;
 use sha512::sha512;
@@ -34,8 +34,8 @@ pub fn empty_place() -> [u8; 32]
 }
 
 // The SRV value of a server: H(0xff, key), of its long-term key.
-pub fn server_mark(key: [u8; 32]) -> [u8; 32]
-    ensures { λ r. ⌜ r ≡ markOf key ⌝ }
+pub fn srv_value(key: [u8; 32]) -> [u8; 32]
+    ensures { λ r. ⌜ r ≡ srvOf key ⌝ }
 {
     front(sha512_tagged(0xff, &key, b""))
 }

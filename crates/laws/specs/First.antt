@@ -5,7 +5,7 @@ use mathlib.Core.List.{List, [], _∷_}
 use mathlib.Core.Bool.{Bool, cond}
 use lib.Dec.{eqb}
 
--- a kind of refusal: the code that each says, 0 for none, and none itself. A code alone is one kind, a code with its place another.
+-- a kind of refusal: the code that each says, 0 for none, and none itself. A code alone is the only kind so far.
 pub record Kind (A : Type 0) : Type 0 where
   pub says : A → ℕ
   pub none : A
@@ -25,8 +25,10 @@ module _ {A : Type 0} (K : Kind A) where
 abbrev pub code : Kind ℕ
 code = record { says = λ n. n; none = 0; quiet = refl }
 
+-- of codes: the first that is not 0, and 0 where all checks pass
 abbrev pub first : List ℕ → ℕ
 first = firstOf code
 
+-- the code where the test holds, else 0
 abbrev pub when : Bool → ℕ → ℕ
 when = whenOf code

@@ -1,9 +1,18 @@
--- What a good length, a good header and a good frame say: what private functions ask of their callers.
+-- What a good length, a good header and a good frame say: what helpers ask of their callers.
 use Prim.Native.Nat.{ℕ, _-_, _*_, _%_, _≤_, _<_}
 use mathlib.Core.Path.{_≡_}
 use mathlib.Core.List.{List}
 use lib.ListN.{length}
-use Rattle.message.specs.Frame.{count, firstBadOffset}
+use Rattle.laws.specs.Least.{least}
+use Rattle.message.specs.Frame.{notAbove, count, offsetBad}
+
+-- the first k at which word k + 1, of the n from `at`, is not above word k; n - 1 where they all rise
+abbrev pub firstFall : List ℕ → ℕ → ℕ → ℕ
+firstFall s at n = least (notAbove s at) (n - 1)
+
+-- the first k at which offset k + 1 is wrong; N - 1 where there is none
+abbrev pub firstBadOffset : List ℕ → ℕ
+firstBadOffset m = least (offsetBad m) (count m - 1)
 
 pub record Sized (m : List ℕ) : Type 0 where
   pub four : 4 ≤ length m

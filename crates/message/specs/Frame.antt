@@ -6,7 +6,7 @@ use lib.ListN.{length}
 use lib.Dec.{ltb, leb, eqb}
 use Rattle.laws.specs.Any.{any}
 use Rattle.laws.specs.First.{first, when}
-use Rattle.laws.specs.Least.{least, somewhere}
+use Rattle.laws.specs.Least.{somewhere}
 use Rattle.laws.specs.Numbers.{le}
 
 -- word k of those that stand from `at`
@@ -16,10 +16,6 @@ word s at k = le 4 s (at + 4 * k)
 -- word k + 1 is not above word k
 abbrev pub notAbove : List ℕ → ℕ → ℕ → Bool
 notAbove s at k = leb (word s at (k + 1)) (word s at k)
-
--- the first such k below n - 1, and n - 1 where all n words rise
-abbrev pub firstFall : List ℕ → ℕ → ℕ → ℕ
-firstFall s at n = least (notAbove s at) (n - 1)
 
 -- N, the number of tags
 abbrev pub count : List ℕ → ℕ
@@ -33,11 +29,11 @@ offset m k = le 4 m (4 * k)
 abbrev pub tagAt : List ℕ → ℕ → ℕ
 tagAt m k = word m (4 * count m) k
 
--- the bytes of the value section, which stands behind the 8 N bytes of the header
+-- how many bytes the value section has; it stands behind the 8 N bytes of the header
 abbrev pub section : List ℕ → ℕ
 section m = length m - 8 * count m
 
--- where value k begins in the value section: the first at 0, the next at their offsets; and of k = N, where the last one ends
+-- where value k begins in the value section: the first at 0, each next at its offset; and of k = N, where the last one ends
 unfoldable pub edge : List ℕ → ℕ → ℕ
 edge m k = cond (eqb k 0) 0 (cond (ltb k (count m)) (offset m k) (section m))
 
@@ -57,10 +53,6 @@ offsetBad m k =
     ∷ ltb (offset m (k + 1)) (edge m k)
     ∷ ltb (section m) (offset m (k + 1))
     ∷ [])
-
--- the first such k, and N - 1 where there is none
-abbrev pub firstBadOffset : List ℕ → ℕ
-firstBadOffset m = least (offsetBad m) (count m - 1)
 
 -- some offset is wrong
 abbrev pub offsetsBad : List ℕ → Bool

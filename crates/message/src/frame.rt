@@ -2,8 +2,8 @@
 ghost use mathlib.Core.Path.{_≡_};
 ghost use Prim.Native.Nat.{_+_, _*_, _-_, _<_, _≤_};
 ghost use lib.ListN.{length};
-ghost use Rattle.message.specs.Frame.{count, firstFall, firstBadOffset, lengthBad, countBad, offsetsBad, tagsBad, frameCode};
-ghost use Rattle.message.specs.Facts.{Sized, Headed};
+ghost use Rattle.message.specs.Frame.{count, lengthBad, countBad, offsetsBad, tagsBad, frameCode};
+ghost use Rattle.message.specs.Facts.{firstFall, firstBadOffset, Sized, Headed};
 use octets::le32;
 
 // Codes 4 and 5 of a message, 0 where its frame is good.

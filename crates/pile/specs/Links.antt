@@ -17,7 +17,7 @@ use Rattle.pile.specs.Pile.{recordsIn, recordAt, randIn, requestLength, 
 unfoldable pub nonceLinks : List ℕ → List ℕ → Bool
 nonceLinks b r = same (valueOf (body (requestPacket r)) NONC) (linkOf (responsePacket b) (randIn r))
 
--- one of the two packets can't be read, since its length is above 2,000, or r's request is bad, so that it has no NONC
+-- the link can't be asked for: one of the two lengths is above 2,000, or r's request is bad (house: no NONC is taken from a bad request)
 unfoldable pub unreadable : List ℕ → List ℕ → Bool
 unreadable b r = any (ltb 2000 (requestLength r) ∷ ltb 2000 (responseLength b) ∷ requestBad (requestPacket r) ∷ [])
 

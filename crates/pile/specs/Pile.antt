@@ -21,10 +21,7 @@ recordAt pile k = take 4096 (drop (4096 * k) pile)
 
 -- ---- a record r
 
--- key 0-31, rand 32-63
-abbrev pub keyIn : List ℕ → List ℕ
-keyIn r = part 0 32 r
-
+-- rand 32-63; the key, 0-31, is for the host, who checks the signatures: nothing here reads it
 abbrev pub randIn : List ℕ → List ℕ
 randIn r = part 32 64 r
 

@@ -1,5 +1,5 @@
--- What is said of one record (document 01, "Piles and reports", and the order of codes): 16, then 14 and 1 to 13, else its window. Its rand
--- plays no part in that.
+-- What is said of one record (document 01, "Piles and reports", and the order of codes): 16, then 14 and 1 to 13, else its window; 15
+-- where there is no record to judge (document 01 has no code for a place past the last). Its rand plays no part in that.
 use Prim.Native.Nat.{ℕ, _+_, _*_}
 use mathlib.Core.Bool.{Bool, not, cond}
 use mathlib.Core.List.{List, [], _∷_}

@@ -64,7 +64,7 @@ fn follows_on<'a>(b: &'a [u8], r: &'a [u8]) -> bool
     nonce_links(b, r)
 }
 
-// A length is above 2,000, so that its packet can't be read, or the request of r is bad, so that its NONC can't.
+// A length is above 2,000, so that its packet can't be read, or the request of r is bad, and no NONC is taken from a bad request.
 fn out_of_reach<'a>(b: &'a [u8], r: &'a [u8]) -> bool
     requires { ⌜ (length (now b) ≡ 4096) × (length (now r) ≡ 4096) ⌝ }
     ensures { λ x. ⌜ x ≡ unreadable (now (b .entry)) (now (r .entry)) ⌝ }

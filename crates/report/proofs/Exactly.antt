@@ -16,7 +16,7 @@ use Rattle.pile.proofs.Exactly.{valid-exactly, window-of-its-own, linked-exactl
 use Rattle.runs.specs.Clash.{valid}
 use Rattle.runs.specs.Convict.{Contradiction}
 use Rattle.report.specs.Report.{judged, joined, Reports}
-use Rattle.report.specs.Meaning.{windowOf, IsReport, Accepts}
+use Rattle.report.specs.Meaning.{windowAt, IsReport, Accepts}
 use Rattle.report.specs.declared.Report.{Report}
 use Rattle.report.specs.declared.Report.the-variants.{Pair, Bad, Record, Unlinked, Clear}
 use Rattle.report.proofs.Runs.{joined-later}
@@ -35,10 +35,10 @@ joined-first pile = refl
 
 module _ (pile answers : List ℕ) where
   -- a record that is not refused has its response's window
-  pub windowed : (k : ℕ) → (T (not (valid (judged pile answers k))) → ⊥) → judged pile answers k ≡ Valid (windowOf pile k)
+  pub windowed : (k : ℕ) → (T (not (valid (judged pile answers k))) → ⊥) → judged pile answers k ≡ Valid (windowAt pile k)
   windowed k h = go (judged pile answers k) refl
     where
-      go : (x : Verdict) → judged pile answers k ≡ x → judged pile answers k ≡ Valid (windowOf pile k)
+      go : (x : Verdict) → judged pile answers k ≡ x → judged pile answers k ≡ Valid (windowAt pile k)
       go (Valid w) e = e ∙ ap Valid (window-of-its-own pile answers k w e)
       go (Refused code) e = absurd (h (subst (λ (y : Verdict). T (not (valid y))) (sym e) tt))
 
@@ -64,7 +64,7 @@ module _ (pile answers : List ℕ) where
   flagged d zero l = joined-first pile ∙ rand-exactly pile .1 (d .rand)
   flagged d (suc k) l = joined-later pile (suc k) (omega arith) ∙ linked-exactly pile (suc k) .1 (d .all-linked (suc k) (omega arith) l)
 
-  own : IsReport pile answers → (k : ℕ) → k < recordsIn pile → judged pile answers k ≡ Valid (windowOf pile k)
+  own : IsReport pile answers → (k : ℕ) → k < recordsIn pile → judged pile answers k ≡ Valid (windowAt pile k)
   own d k l = valid-exactly pile answers k .1 (d .all-valid k l)
 
   unrefused : IsReport pile answers → (k : ℕ) → k < recordsIn pile → T (not (valid (judged pile answers k))) → ⊥

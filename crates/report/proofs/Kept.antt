@@ -12,7 +12,7 @@ use Rattle.pile.specs.Pile.{recordsIn, recordAt, saidYes}
 use Rattle.pile.specs.Meaning.{GoodPile, ValidRecord, LinkedAt, ZeroRand}
 use Rattle.pile.proofs.Exactly.{undamaged-exactly}
 use Rattle.report.specs.Taking.{runBytes, runAnswers}
-use Rattle.report.specs.Meaning.{windowOf}
+use Rattle.report.specs.Meaning.{windowAt}
 use Rattle.report.proofs.Behind.{Alike, same-request, same-response, same-response-length, same-damage}
 use Rattle.report.proofs.Within.{length-run, records-run, record-later, record-alike, rand-run}
 
@@ -62,7 +62,7 @@ module _ (pile answers : List ℕ) (i j : ℕ) (good : GoodPile pile answers) (o
     here = omega (arith, count-run)
 
     -- record k of the run has the window of record i + k,
-    pub window-kept : windowOf (runBytes i j pile) k ≡ windowOf pile (i + k)
+    pub window-kept : windowAt (runBytes i j pile) k ≡ windowAt pile (i + k)
     window-kept = rw (same-response alike)
 
     -- is valid where that is,

@@ -18,7 +18,8 @@ use Rattle.runs.specs.declared.Span.the-variants.{Places, Nothing}
 use Rattle.runs.proofs.Find.{once}
 use Rattle.runs.proofs.Pair.{pair-of-run}
 use Rattle.report.specs.Scans.{IsFirst, Never}
-use Rattle.report.specs.Report.{judged, joined, refused, loose, Says, Reports, recordOf}
+use Rattle.report.specs.Report.{judged, joined, refused, loose, Says, Reports}
+use Rattle.report.specs.Within.{recordOf}
 use Rattle.report.specs.declared.Report.{Report}
 use Rattle.report.specs.declared.Report.the-variants.{Pair, Bad, Record, Unlinked, Clear}
 use Rattle.report.proofs.First.{first-once}

@@ -21,7 +21,7 @@ use Rattle.runs.specs.Ends.{Exposes}
 use Rattle.runs.proofs.Ends.{clean-part, least-ends}
 use Rattle.report.specs.Report.{judged, Reports}
 use Rattle.report.specs.Taking.{ConvictsIn, Takes, leaves, runBytes, runAnswers}
-use Rattle.report.specs.Meaning.{windowOf, IsReport}
+use Rattle.report.specs.Meaning.{windowAt, IsReport}
 use Rattle.report.specs.declared.Report.{Report}
 use Rattle.report.specs.declared.Report.the-variants.{Pair}
 use Rattle.report.specs.declared.Taken.the-variants.{Run}
@@ -52,7 +52,7 @@ module _ (pile answers : List ℕ) (i j : ℕ) (good : GoodPile pile answers) (l
 
   module _ (k : ℕ) (there : k ≤ j - i) where
     -- record i + k of the pile, and with it record k of the run, has its own window,
-    own : judged pile answers (i + k) ≡ Valid (windowOf pile (i + k))
+    own : judged pile answers (i + k) ≡ Valid (windowAt pile (i + k))
     own = windowed pile answers (i + k) (T-not (valid (judged pile answers (i + k))) (clean .all-valid (i + k) (omega arith) (omega (arith, order))))
 
     valid-in : ValidRecord (runBytes i j pile) (runAnswers i j answers) k

@@ -12,8 +12,8 @@ use Rattle.report.specs.declared.Report.{Report}
 use Rattle.report.specs.declared.Report.the-variants.{Pair, Bad, Record, Unlinked, Clear}
 
 -- the window of record k's response
-abbrev pub windowOf : List ℕ → ℕ → Window
-windowOf pile k = windowIn (body (responsePacket (recordAt pile k)))
+abbrev pub windowAt : List ℕ → ℕ → Window
+windowAt pile k = windowIn (body (responsePacket (recordAt pile k)))
 
 -- each record is valid and each after the first is linked, the first rand is all zero, and for some i < j the windows contradict
 pub record IsReport (pile answers : List ℕ) : Type 0 where
@@ -24,7 +24,7 @@ pub record IsReport (pile answers : List ℕ) : Type 0 where
   pub j : ℕ
   pub order : i < j
   pub inside : j < recordsIn pile
-  pub contradict : T (clash (windowOf pile i) (windowOf pile j))
+  pub contradict : T (clash (windowAt pile i) (windowAt pile j))
 
 -- the answer names a pair
 abbrev pub Accepts : Report → Type 0

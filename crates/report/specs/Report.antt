@@ -8,7 +8,7 @@ use Prim.Native.Nat.{ℕ}
 use lib.Dec.{eqb}
 use Rattle.laws.specs.Pairs.{IsLeast}
 use Rattle.verdict.specs.declared.Verdict.{Verdict}
-use Rattle.verdict.specs.declared.Verdict.the-variants.{Valid, Refused}
+use Rattle.verdict.specs.declared.Verdict.the-variants.{Refused}
 use Rattle.pile.specs.Pile.{recordsIn}
 use Rattle.pile.specs.Valid.{judgementOf}
 use Rattle.pile.specs.Links.{linkedOf, firstRandZero}
@@ -27,10 +27,11 @@ judged pile answers k = judgementOf pile answers k .verdict
 unfoldable pub joined : List ℕ → ℕ → Bool
 joined pile k = cond (eqb k 0) (firstRandZero pile) (linkedOf pile k)
 
--- of verdicts v and flags l: record k is refused, and its flag is not set
+-- of records with the verdicts v: record k is refused
 abbrev pub refused : (ℕ → Verdict) → ℕ → Bool
 refused v k = not (valid (v k))
 
+-- of records with the flags l: the flag of record k is not set
 abbrev pub loose : (ℕ → Bool) → ℕ → Bool
 loose l k = not (l k)
 
@@ -57,8 +58,3 @@ reportNumber Bad = 15
 reportNumber (Record code k) = code
 reportNumber (Unlinked k) = 17
 reportNumber Clear = 18
-
--- For the private functions: the answer that the verdict on the first refused record gives.
-abbrev pub recordOf : Verdict → ℕ → Report
-recordOf (Refused code) k = Record code k
-recordOf (Valid w) k = Clear

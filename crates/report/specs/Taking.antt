@@ -1,10 +1,10 @@
 -- What the cutter answers and leaves in the buffer (document 01, "Piles and reports"). A run taken out of a pile is its records with the first
 -- one's rand set to zero. The order is 15, 19, 18.
-use mathlib.Core.List.{List, _++_}
+use mathlib.Core.List.{List}
 use Prim.Native.Nat.{ℕ, _+_, _*_, _≤_, _<_}
-use lib.ListN.{length, drop, replicate}
+use lib.ListN.{length, replicate}
 use Rattle.laws.specs.Pairs.{IsLeast}
-use Rattle.laws.specs.Pasted.{part, pasted}
+use Rattle.laws.specs.Pasted.{part, pasted, fronted}
 use Rattle.pile.specs.Pile.{recordsIn}
 use Rattle.pile.specs.Links.{linkedOf}
 use Rattle.pile.specs.Meaning.{GoodPile}
@@ -41,7 +41,7 @@ runAnswers i j answers = part (2 * i) (2 * j + 2) answers
 
 -- the run at the front of the buffer out, whose later bytes stay
 abbrev pub runPut : ℕ → ℕ → List ℕ → List ℕ → List ℕ
-runPut i j pile out = runBytes i j pile ++ drop (length (runBytes i j pile)) out
+runPut i j pile out = fronted (runBytes i j pile) out
 
 -- what the buffer holds afterwards, by the answer: nothing is written on a refusal
 abbrev pub leaves : Taken → List ℕ → List ℕ → List ℕ

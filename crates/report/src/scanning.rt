@@ -2,8 +2,8 @@
 ghost use mathlib.Core.Path.{_≡_};
 ghost use Prim.Native.Nat.{_≤_, min};
 ghost use Rattle.runs.specs.Convict.{verdictAt, flagAt};
-ghost use Rattle.report.specs.Scans.{FirstAt};
-ghost use Rattle.report.specs.Report.{refused, loose, recordOf};
+ghost use Rattle.report.specs.Within.{FirstAt, recordOf};
+ghost use Rattle.report.specs.Report.{refused, loose};
 use super::Found;
 use super::Report;
 use verdict::Verdict;

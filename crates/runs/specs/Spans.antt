@@ -8,3 +8,8 @@ use Rattle.runs.specs.declared.Span.the-variants.{Places, Nothing}
 abbrev pub Answers : (ℕ → ℕ → Type 0) → Span → Type 0
 Answers P (Places a b) = IsLeast P a b
 Answers P Nothing = (a b : ℕ) → P a b → ⊥
+
+-- document 01's number of an answer, 0 where there are two places
+abbrev pub spanNumber : Span → ℕ
+spanNumber (Places a b) = 0
+spanNumber Nothing = 18

@@ -11,7 +11,7 @@ use lib.Dec.{ltb}
 use lib.ListN.{length, length-take, length-drop}
 use Rattle.laws.specs.Least.{least}
 use Rattle.laws.specs.Upto.{upto}
-use Rattle.servers.specs.Lists.{whole, recordAt, records, serves, firstMatch, handed, firstIn, known, sought, codeOf}
+use Rattle.servers.specs.Lists.{whole, recordAt, records, serves, firstMatch, handed, firstIn, known, sought, whereNumber}
 use Rattle.servers.specs.declared.Where.{Where}
 use Rattle.servers.specs.declared.Where.the-variants.{Owner, Shipped, Ragged, Unknown}
 
@@ -103,19 +103,19 @@ pub within-at : (o h s : List ℕ) {w : Where} → sought o h s ≡ w → Within
 within-at o h s e = subst (Within o h) e (sought-within o h s)
 
 -- The two calls agree: where the code is 0 the part is a record, and on a refusal it is empty.
-pub found-record : (o h s : List ℕ) → codeOf (sought o h s) ≡ 0 → length (handed o h s) ≡ 64
+pub found-record : (o h s : List ℕ) → whereNumber (sought o h s) ≡ 0 → length (handed o h s) ≡ 64
 found-record o h s e = rw (← handed-back o h s) (by (sought o h s) (sought-within o h s) e)
   where
-    by : (w : Where) → Within o h w → codeOf w ≡ 0 → length (partOf o h w) ≡ 64
+    by : (w : Where) → Within o h w → whereNumber w ≡ 0 → length (partOf o h w) ≡ 64
     by (Owner k) i e = record-long o k i
     by (Shipped k) i e = record-long h k i
     by Ragged i e = absurd (omega (arith, e))
     by Unknown i e = absurd (omega (arith, e))
 
-pub refused-empty : (o h s : List ℕ) → (codeOf (sought o h s) ≡ 0 → ⊥) → handed o h s ≡ []
+pub refused-empty : (o h s : List ℕ) → (whereNumber (sought o h s) ≡ 0 → ⊥) → handed o h s ≡ []
 refused-empty o h s r = rw (← handed-back o h s) (by (sought o h s) r)
   where
-    by : (w : Where) → (codeOf w ≡ 0 → ⊥) → partOf o h w ≡ []
+    by : (w : Where) → (whereNumber w ≡ 0 → ⊥) → partOf o h w ≡ []
     by (Owner k) r = absurd (r refl)
     by (Shipped k) r = absurd (r refl)
     by Ragged r = refl

@@ -51,11 +51,11 @@ sought owner shipped srv =
     Ragged
 
 -- document 01's number of each case, 0 where nothing was refused
-abbrev pub codeOf : Where → ℕ
-codeOf (Owner k) = 0
-codeOf (Shipped k) = 0
-codeOf Ragged = 21
-codeOf Unknown = 22
+abbrev pub whereNumber : Where → ℕ
+whereNumber (Owner k) = 0
+whereNumber (Shipped k) = 0
+whereNumber Ragged = 21
+whereNumber Unknown = 22
 
 -- the place n bytes after a place in memory, which is a block and an offset in it
 abbrev pub inside : ℕ × ℕ → ℕ → ℕ × ℕ

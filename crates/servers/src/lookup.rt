@@ -1,6 +1,6 @@
 // A server sought in both lists.
 ghost use mathlib.Core.Path.{_≡_};
-ghost use Rattle.servers.specs.Lists.{sought, handed, placeOf, codeOf};
+ghost use Rattle.servers.specs.Lists.{sought, handed, placeOf, whereNumber};
 use super::Where;
 use super::records::index_in;
 use super::records::record_of;
@@ -21,7 +21,7 @@ pub fn find_server<'a>(owner: &'a [u8], shipped: &'a [u8], srv: [u8; 32]) -> &'a
 
 // The code of a lookup of the same server in the same lists: 21 or 22, and 0 where its record is handed back.
 pub fn find_code<'a>(owner: &'a [u8], shipped: &'a [u8], srv: [u8; 32]) -> u8
-    ensures { λ r. ⌜ r ≡ codeOf (sought (now (owner .entry)) (now (shipped .entry)) srv) ⌝ }
+    ensures { λ r. ⌜ r ≡ whereNumber (sought (now (owner .entry)) (now (shipped .entry)) srv) ⌝ }
 {
     match search(owner, shipped, srv) {
         Where::Owner(_) => 0,

@@ -12,7 +12,7 @@ use Rattle.laws.proofs.Upto.{upto-length, upto-same}
 use Rattle.laws.proofs.Pasted.{pasted-none, pasted-more, length-pasted, Coming, coming-first, coming-next, coming-done}
 use Rattle.hash.specs.Hashes.{parentOf}
 use Rattle.tree.specs.Tree.{nodeIn, flat, nodeAt, beside, siblings}
-use Rattle.tree.specs.Laid.{levels, nodesOf, firstOf, laidAt, pathIn}
+use Rattle.tree.specs.Laid.{levels, nodesOf, levelStart, laidAt, pathIn}
 use Rattle.tree.specs.Answers.{most}
 use Rattle.tree.specs.Level.{Level, Parents, bytesOf}
 use Rattle.tree.proofs.Nodes.{whole-upto, flat-append, flat-more, flat-length, node-long}
@@ -179,7 +179,7 @@ module _ (rows : List ℕ) (d place : ℕ) (o : List ℕ) (held : 32 * nodesOf d
       let w = pow-half left n p (r .wide) in
       let long : length v ≡ 32 = ap length f ∙ node-long rows (first + i) (reading-beside first n left j at i out r p e) in
       let back : d - k ≡ left = omega (arith, r .under) in
-      let number : first + i ≡ firstOf d k + beside j = rw back (omega (arith, r .start, r .wide)) in
+      let number : first + i ≡ levelStart d k + beside j = rw back (omega (arith, r .start, r .wide)) in
       let is : v ≡ laidAt rows d k (beside j) = f ∙ ap (nodeIn rows) number in
       let later = siblings (laidAt rows d) (left - 1) (suc k) (j / 2) in
       let next-one : flat (siblings (laidAt rows d) left k j) ≡ v ++ flat later =

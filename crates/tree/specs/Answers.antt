@@ -1,10 +1,11 @@
 -- What the builders answer and leave in the lent buffer, refusals too (document 01, "Hash and tree" and "Refusal codes").
 use mathlib.Core.Bool.{cond, _&&_}
-use mathlib.Core.List.{List, [], _∷_, _++_}
+use mathlib.Core.List.{List, [], _∷_}
 use Prim.Native.Nat.{ℕ, zero, suc, _*_, _/_, _%_}
 use lib.Dec.{eqb, ltb, leb}
-use lib.ListN.{length, drop, replicate}
+use lib.ListN.{length, replicate}
 use Rattle.laws.specs.First.{first, when}
+use Rattle.laws.specs.Pasted.{fronted}
 use Rattle.tree.specs.Direction.{indxOf}
 use Rattle.tree.specs.Tree.{nodesIn, flat, depthOf, rootOf, pathOf}
 use Rattle.tree.specs.Laid.{levels, nodesOf, pathIn}
@@ -56,7 +57,7 @@ laidTold laid.Short = 19 ∷ []
 
 -- what a writer of p that answers so leaves in the buffer o: p at its front, and o as it was where it refused
 abbrev pub after : List ℕ → List ℕ → List ℕ → List ℕ
-after (zero ∷ values) p o = p ++ drop (length p) o
+after (zero ∷ values) p o = fronted p o
 after (suc code ∷ values) p o = o
 after [] p o = o
 

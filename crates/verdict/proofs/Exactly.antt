@@ -16,7 +16,8 @@ use Rattle.message.specs.Tags.{NONC}
 use Rattle.message.specs.Values.{valueOf}
 use Rattle.wire.specs.Packet.{body}
 use Rattle.wire.specs.Request.{requestCode}
-use Rattle.verdict.specs.Check.{midpIn, mintIn, maxtIn, requestBad, versionUnasked, nonceDiffers, pathMisses, timeOutside, answersCode, agreementCode, checkCode, windowIn, verdictOf, verdictCode}
+use Rattle.wire.specs.Response.{midpIn, mintIn, maxtIn}
+use Rattle.verdict.specs.Check.{requestBad, versionUnasked, nonceDiffers, pathMisses, timeOutside, answersCode, agreementCode, checkCode, windowIn, verdictOf, verdictNumber}
 use Rattle.verdict.specs.Passes.{Passes}
 use Rattle.verdict.specs.declared.Verdict.the-variants.{Valid, Refused}
 use Rattle.verdict.specs.declared.Window.{Window}
@@ -107,6 +108,6 @@ module _ (q p : List ℕ) (d s : Bool) where
   window-own w e = passed w e .1
 
   -- the answer says the code, in document 01's numbers: a refusal is the first in its order
-  pub verdict-says : verdictCode (verdictOf q p d s) ≡ checkCode q p d s
+  pub verdict-says : verdictNumber (verdictOf q p d s) ≡ checkCode q p d s
   unfolding verdictOf
-  verdict-says = answer-says verdictCode (Valid (windowIn (body p))) (Refused (checkCode q p d s)) (checkCode q p d s) refl refl
+  verdict-says = answer-says verdictNumber (Valid (windowIn (body p))) (Refused (checkCode q p d s)) (checkCode q p d s) refl refl

@@ -1,4 +1,4 @@
--- The response check as a row of checks, in document 01's order: 14, then 1 to 13.
+-- The response check (draft 19, 5.4) as a row of checks, in document 01's order: 14, then 1 to 13.
 use Prim.Native.Nat.{ℕ}
 use mathlib.Core.List.{List, [], _∷_}
 use mathlib.Core.Bool.{Bool, not, cond}
@@ -6,42 +6,24 @@ use lib.Dec.{eqb, ltb}
 use Rattle.hash.specs.Hashes.{leafOf}
 use Rattle.laws.specs.Any.{any}
 use Rattle.laws.specs.First.{first, when}
-use Rattle.laws.specs.Numbers.{le}
 use Rattle.laws.specs.Same.{same}
-use Rattle.message.specs.Tags.{VER, NONC, PATH, RADI, MIDP, MINT, ROOT, MAXT, INDX}
+use Rattle.message.specs.Tags.{VER, NONC, PATH, ROOT}
 use Rattle.message.specs.Values.{valueOf}
 use Rattle.tree.specs.Check.{leadsOf}
 use Rattle.wire.specs.Packet.{body}
 use Rattle.wire.specs.Request.{requestCode}
-use Rattle.wire.specs.Response.{srep, dele, responseCode}
+use Rattle.wire.specs.Response.{srep, indxIn, verIn, radiIn, midpIn, mintIn, maxtIn, responseCode}
 use Rattle.wire.specs.Versions.{lacksVersion}
 use Rattle.verdict.specs.Window.{windowOf}
 use Rattle.verdict.specs.declared.Verdict.{Verdict}
 use Rattle.verdict.specs.declared.Verdict.the-variants.{Valid, Refused}
 use Rattle.verdict.specs.declared.Window.{Window}
 
--- ---- what a request's message a and a response's message b say
-
-abbrev pub midpIn : List ℕ → ℕ
-midpIn b = le 8 (valueOf (srep b) MIDP) 0
-
-abbrev pub radiIn : List ℕ → ℕ
-radiIn b = le 4 (valueOf (srep b) RADI) 0
-
-abbrev pub mintIn : List ℕ → ℕ
-mintIn b = le 8 (valueOf (dele b) MINT) 0
-
-abbrev pub maxtIn : List ℕ → ℕ
-maxtIn b = le 8 (valueOf (dele b) MAXT) 0
-
-abbrev pub verIn : List ℕ → ℕ
-verIn b = le 4 (valueOf (srep b) VER) 0
-
 -- PATH leads from the leaf of the whole request packet q to ROOT, and INDX needs no more bits than it has siblings
 abbrev pub pathLeads : List ℕ → List ℕ → Bool
-pathLeads q b = leadsOf (leafOf q) (le 4 (valueOf b INDX) 0) (valueOf b PATH) (valueOf (srep b) ROOT)
+pathLeads q b = leadsOf (leafOf q) (indxIn b) (valueOf b PATH) (valueOf (srep b) ROOT)
 
--- ---- the checks
+-- ---- the checks, of a request's message a and a response's message b
 
 -- 14: the request lent with a response is bad
 unfoldable pub requestBad : List ℕ → Bool
@@ -84,13 +66,15 @@ checkCode q p d s = first (when (requestBad q) 14 ∷ responseCode p ∷ agreeme
 
 -- ---- the answer
 
+-- the window of a response, of its message
 unfoldable pub windowIn : List ℕ → Window
 windowIn b = windowOf (midpIn b) (radiIn b)
 
+-- what the check answers to the response packet p to the request packet q
 unfoldable pub verdictOf : List ℕ → List ℕ → Bool → Bool → Verdict
 verdictOf q p d s = cond (eqb (checkCode q p d s) 0) (Valid (windowIn (body p))) (Refused (checkCode q p d s))
 
 -- document 01's number of an answer, 0 where nothing was refused
-abbrev pub verdictCode : Verdict → ℕ
-verdictCode (Valid w) = 0
-verdictCode (Refused code) = code
+abbrev pub verdictNumber : Verdict → ℕ
+verdictNumber (Valid w) = 0
+verdictNumber (Refused code) = code

@@ -7,9 +7,9 @@ use Rattle.message.specs.Tags.{VER, NONC}
 use Rattle.message.specs.Values.{valueOf}
 use Rattle.wire.specs.Packet.{body}
 use Rattle.wire.specs.Request.{requestCode}
-use Rattle.wire.specs.Response.{responseCode}
+use Rattle.wire.specs.Response.{verIn, midpIn, mintIn, maxtIn, responseCode}
 use Rattle.wire.specs.Versions.{lacksVersion}
-use Rattle.verdict.specs.Check.{midpIn, mintIn, maxtIn, verIn, pathLeads}
+use Rattle.verdict.specs.Check.{pathLeads}
 
 -- the response packet p to the request packet q, where d and s say whether the delegation's and the response's signatures verify
 pub record Passes (q p : List ℕ) (d s : Bool) : Type 0 where

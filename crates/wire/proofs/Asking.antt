@@ -10,7 +10,7 @@ use Rattle.laws.proofs.First.{head-passes, untrue, answer-says}
 use Rattle.message.proofs.Kept.{message-good, kept-length, kept-length-if}
 use Rattle.wire.specs.Facts.{Asks}
 use Rattle.wire.specs.Packet.{packetCode, body}
-use Rattle.wire.specs.Request.{requestMessageCode, requestCode, codeOf, noRequest, requestIn, requestOf}
+use Rattle.wire.specs.Request.{requestMessageCode, requestCode, answerNumber, noRequest, requestIn, requestOf}
 use Rattle.wire.specs.Tables.{requestTable}
 use Rattle.wire.specs.declared.Request.{Request}
 
@@ -38,6 +38,6 @@ request-body p e =
     (packet-long p _ refl (a .0), head-passes code _ _ (a .1) .0)
 
 -- the answer says the packet's code, in document 01's numbers
-pub request-says : (p : List ℕ) → codeOf (requestOf p .answer) ≡ requestCode p
+pub request-says : (p : List ℕ) → answerNumber (requestOf p .answer) ≡ requestCode p
 unfolding requestOf requestIn
-request-says p = answer-says (λ (r : Request). codeOf (r .answer)) (requestIn (body p)) (noRequest (requestCode p)) (requestCode p) refl refl
+request-says p = answer-says (λ (r : Request). answerNumber (r .answer)) (requestIn (body p)) (noRequest (requestCode p)) (requestCode p) refl refl

@@ -9,7 +9,7 @@ use Rattle.laws.proofs.First.{head-passes, answer-says}
 use Rattle.message.proofs.Kept.{message-good, kept-length}
 use Rattle.wire.specs.Facts.{Shaped}
 use Rattle.wire.specs.Packet.{body}
-use Rattle.wire.specs.Request.{codeOf}
+use Rattle.wire.specs.Request.{answerNumber}
 use Rattle.wire.specs.Response.{srep, cert, dele, shapeCode, signedCode, responseMessageCode, responseCode, noResponse, responseIn, responseOf}
 use Rattle.wire.specs.Tables.{rootTable, srepTable, certTable, deleTable}
 use Rattle.wire.specs.declared.Response.{Response}
@@ -54,6 +54,6 @@ signed-body p x e z =
     (packet-long p _ refl (a .0), shaped (body p) _ refl (head-passes code _ _ (a .1) .0))
 
 -- the answer says the packet's code, in document 01's numbers
-pub response-says : (p : List ℕ) → codeOf (responseOf p .answer) ≡ responseCode p
+pub response-says : (p : List ℕ) → answerNumber (responseOf p .answer) ≡ responseCode p
 unfolding responseOf responseIn
-response-says p = answer-says (λ (r : Response). codeOf (r .answer)) (responseIn (body p)) (noResponse (responseCode p)) (responseCode p) refl refl
+response-says p = answer-says (λ (r : Response). answerNumber (r .answer)) (responseIn (body p)) (noResponse (responseCode p)) (responseCode p) refl refl

@@ -30,9 +30,9 @@ unfoldable pub requestCode : List ℕ → ℕ
 requestCode p = first (packetCode p ∷ requestMessageCode (body p) ∷ [])
 
 -- document 01's number of an answer, 0 where nothing was refused
-abbrev pub codeOf : Answer → ℕ
-codeOf Passed = 0
-codeOf (Refused code) = code
+abbrev pub answerNumber : Answer → ℕ
+answerNumber Passed = 0
+answerNumber (Refused code) = code
 
 -- what stands for bytes that are not there
 abbrev pub noBytes : List ℕ
@@ -52,5 +52,6 @@ requestIn m =
       srv = cond (has m SRV) (valueOf m SRV) noBytes;
     }
 
+-- what reading a request packet answers
 unfoldable pub requestOf : List ℕ → Request
 requestOf p = cond (eqb (requestCode p) 0) (requestIn (body p)) (noRequest (requestCode p))

@@ -6,7 +6,7 @@ use lib.Dec.{eqb}
 use Rattle.laws.specs.First.{first, when}
 use Rattle.laws.specs.Numbers.{le}
 use Rattle.message.specs.Rules.{messageCode}
-use Rattle.message.specs.Tags.{VER, NONC, DELE, TYPE, RADI, MIDP, SREP, ROOT, CERT, INDX}
+use Rattle.message.specs.Tags.{VER, NONC, DELE, TYPE, RADI, MIDP, SREP, MINT, ROOT, CERT, MAXT, INDX}
 use Rattle.message.specs.Values.{valueOf}
 use Rattle.wire.specs.Packet.{packetCode, body}
 use Rattle.wire.specs.Request.{noBytes}
@@ -23,6 +23,28 @@ cert m = valueOf m CERT
 
 abbrev pub dele : List ℕ → List ℕ
 dele m = valueOf (cert m) DELE
+
+-- what they say in numbers (5.2.3, 5.2.5, 5.2.6, 5.2.7)
+abbrev pub typeIn : List ℕ → ℕ
+typeIn m = le 4 (valueOf m TYPE) 0
+
+abbrev pub indxIn : List ℕ → ℕ
+indxIn m = le 4 (valueOf m INDX) 0
+
+abbrev pub verIn : List ℕ → ℕ
+verIn m = le 4 (valueOf (srep m) VER) 0
+
+abbrev pub radiIn : List ℕ → ℕ
+radiIn m = le 4 (valueOf (srep m) RADI) 0
+
+abbrev pub midpIn : List ℕ → ℕ
+midpIn m = le 8 (valueOf (srep m) MIDP) 0
+
+abbrev pub mintIn : List ℕ → ℕ
+mintIn m = le 8 (valueOf (dele m) MINT) 0
+
+abbrev pub maxtIn : List ℕ → ℕ
+maxtIn m = le 8 (valueOf (dele m) MAXT) 0
 
 -- codes 4 to 7 of the message m: the root's, then SREP's, CERT's, DELE's
 unfoldable pub shapeCode : List ℕ → ℕ
@@ -43,8 +65,8 @@ unfoldable pub responseMessageCode : List ℕ → ℕ
 responseMessageCode m =
     first
     (shapeCode m
-    ∷ when (not (eqb (le 4 (valueOf m TYPE) 0) 1)) 8
-    ∷ when (not (eqb (le 4 (valueOf (srep m) VER) 0) 1)) 8
+    ∷ when (not (eqb (typeIn m) 1)) 8
+    ∷ when (not (eqb (verIn m) 1)) 8
     ∷ [])
 
 -- codes 1 to 8 of a response packet
@@ -61,11 +83,12 @@ responseIn m =
     record {
       answer = Passed;
       nonc = valueOf m NONC;
-      indx = le 4 (valueOf m INDX) 0;
-      midp = le 8 (valueOf (srep m) MIDP) 0;
-      radi = le 4 (valueOf (srep m) RADI) 0;
+      indx = indxIn m;
+      midp = midpIn m;
+      radi = radiIn m;
       root = valueOf (srep m) ROOT;
     }
 
+-- what reading a response packet answers
 unfoldable pub responseOf : List ℕ → Response
 responseOf p = cond (eqb (responseCode p) 0) (responseIn (body p)) (noResponse (responseCode p))

@@ -6,7 +6,7 @@ use mathlib.Core.List.{List, _++_}
 use borrow.Author.Tests.{le-leb, lt-leb, ne-eqb}
 use lib.ListN.{length, drop}
 use native.Mathlib.Omega.{arith}
-use Rattle.laws.specs.Pasted.{Front}
+use Rattle.laws.specs.Pasted.{fronted, Front}
 use Rattle.writer.specs.Signing.{textAnswer, textLeft}
 use Rattle.writer.specs.declared.Text.{Text}
 use Rattle.writer.specs.declared.Text.the-variants.{Wrote, Refused}
@@ -22,11 +22,11 @@ unfolding textAnswer
 text-short text out h = simp (lt-leb _ _ h)
 
 -- it is written
-pub text-wrote : {n : ℕ} {text out d : List ℕ} → n ≡ length text → n ≤ length out → Front out text d → (Wrote n ≡ textAnswer 0 text out) × (d ≡ text ++ drop n out)
+pub text-wrote : {n : ℕ} {text out d : List ℕ} → n ≡ length text → n ≤ length out → Front out text d → (Wrote n ≡ textAnswer 0 text out) × (d ≡ fronted text out)
 unfolding textAnswer
 text-wrote {n} {text} {out} e h f =
     let fits : length text ≤ length out = omega arith in
-    (simp (le-leb (length text) (length out) fits) (ap Wrote e), f .is ∙ ap (λ (k : ℕ). text ++ drop k out) (sym e))
+    (simp (le-leb (length text) (length out) fits) (ap Wrote e), f .is)
 
 -- what is written for a packet with code 0, where the value is said of that packet
 pub text-of : {x code : ℕ} (context value said out d : List ℕ) (r : Text) → x ≡ code → x ≡ 0 → value ≡ said

@@ -1,4 +1,4 @@
--- Reading what we write gives that nonce and the mark of that server: over the reader's own definition, by the format's theorem.
+-- Reading what we write gives that nonce and the SRV value of that server: over the reader's own definition, by the format's theorem.
 -- Assumes nothing.
 use Prim.Native.Nat.{ℕ, zero, suc, _+_, _%_, _^_, _<_, _≤_}
 use mathlib.Core.Path.{_≡_, refl, sym, ap, _∙_}
@@ -7,8 +7,8 @@ use mathlib.Core.List.{List, [], _∷_, _++_}
 use native.Mathlib.Omega.{arith}
 use borrow.Author.Tests.{eq-eqb, le-leb}
 use lib.ListN.{length, getD, take, drop}
-use Rattle.hash.specs.Hashes.{markOf}
-use Rattle.hash.proofs.Lengths.{length-mark}
+use Rattle.hash.specs.Hashes.{srvOf}
+use Rattle.hash.proofs.Lengths.{length-srv}
 use Rattle.laws.specs.Any.{any}
 use Rattle.laws.specs.First.{code}
 use Rattle.laws.specs.Least.{least, somewhere}
@@ -53,7 +53,7 @@ module _ (key nonce : List ℕ) (n32 : length nonce ≡ 32) where
   whole-fours : (k : ℕ) → k < 5 → length (field fs k .value) % 4 ≡ 0
   unfolding leBytes
   whole-fours zero h = refl
-  whole-fours (suc zero) h = rw (length-mark key)
+  whole-fours (suc zero) h = rw (length-srv key)
   whole-fours (suc (suc zero)) h = rw n32
   whole-fours (suc (suc (suc zero))) h = refl
   whole-fours (suc (suc (suc (suc zero)))) h = refl
@@ -61,7 +61,7 @@ module _ (key nonce : List ℕ) (n32 : length nonce ≡ 32) where
 
   offsets-are : offsets fs ≡ 4 ∷ 36 ∷ 68 ∷ 72 ∷ []
   unfolding offsets starts leBytes
-  offsets-are = rw (length-mark key, n32)
+  offsets-are = rw (length-srv key, n32)
 
   near : (k : ℕ) → k < 4 → getD (4 ∷ 36 ∷ 68 ∷ 72 ∷ []) k 0 < 2 ^ 32
   near zero h = omega arith
@@ -82,9 +82,9 @@ module _ (key nonce : List ℕ) (n32 : length nonce ≡ 32) where
 
   -- each row of a request's table is kept
   rows : (k : ℕ) → k < 4 → Keeps fs requestTable k
-  unfolding among valueAmong valueBad versionsBad any least leBytes
+  unfolding among valueAmong valueBad versionsBad any least somewhere leBytes
   rows zero h = record { there = refl; right = refl }
-  rows (suc zero) h = record { there = refl; right = rw (length-mark key) }
+  rows (suc zero) h = record { there = refl; right = rw (length-srv key) }
   rows (suc (suc zero)) h = record { there = refl; right = rw n32 }
   rows (suc (suc (suc zero))) h = record { there = refl; right = refl }
   rows (suc (suc (suc (suc k)))) h = absurd (omega arith)
@@ -110,14 +110,14 @@ module _ (key nonce : List ℕ) (n32 : length nonce ≡ 32) where
       (pass code _ refl (ap requestMessageCode (body-packed (encode fs)) ∙ sym message-good) (done code refl))
 
   -- what is written is read back
-  pub read-back : requestOf (requestBytes key nonce) ≡ record { answer = Passed; nonc = nonce; «with_srv» = true; srv = markOf key }
+  pub read-back : requestOf (requestBytes key nonce) ≡ record { answer = Passed; nonc = nonce; «with_srv» = true; srv = srvOf key }
   unfolding requestOf requestIn requestBytes among valueAmong
   read-back =
       rw (eq-eqb (requestCode (requestBytes key nonce)) 0 (sym request-good), body-packed, has-encoded fs kept SRV, value-encoded fs kept NONC, value-encoded fs kept SRV)
 
   -- and it stands in the first 1,036 bytes of every buffer that has room for it, so that reading these gives the same
   pub front-reads-back : (out : List ℕ) → 1036 ≤ length out
-      → requestOf (take 1036 (written (requestBytes key nonce) out)) ≡ record { answer = Passed; nonc = nonce; «with_srv» = true; srv = markOf key }
+      → requestOf (take 1036 (written (requestBytes key nonce) out)) ≡ record { answer = Passed; nonc = nonce; «with_srv» = true; srv = srvOf key }
   unfolding written
   front-reads-back out room =
       let n = length-request key nonce n32 in

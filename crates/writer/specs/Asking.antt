@@ -2,21 +2,22 @@
 use mathlib.Core.List.{List, [], _∷_}
 use Prim.Native.Nat.{ℕ}
 use lib.ListN.{replicate}
-use Rattle.hash.specs.Hashes.{markOf}
+use Rattle.hash.specs.Hashes.{srvOf}
 use Rattle.laws.specs.Numbers.{leBytes}
 use Rattle.message.specs.Encode.{Field, encode}
 use Rattle.message.specs.Tags.{VER, SRV, NONC, TYPE, ZZZZ}
 use Rattle.wire.specs.Packet.{packetOf}
 
--- version 1, the server's mark, the nonce, TYPE 0, and 912 zero bytes
+-- version 1, the server's SRV value, the nonce, TYPE 0, and 912 zero bytes
 abbrev pub requestFields : List ℕ → List ℕ → List Field
 requestFields key nonce =
     record { tag = VER; value = leBytes 4 1 }
-    ∷ record { tag = SRV; value = markOf key }
+    ∷ record { tag = SRV; value = srvOf key }
     ∷ record { tag = NONC; value = nonce }
     ∷ record { tag = TYPE; value = leBytes 4 0 }
     ∷ record { tag = ZZZZ; value = replicate 912 0 }
     ∷ []
 
+-- the whole packet, of 1,036 bytes
 unfoldable pub requestBytes : List ℕ → List ℕ → List ℕ
 requestBytes key nonce = packetOf (encode (requestFields key nonce))

@@ -3,8 +3,9 @@ use mathlib.Core.Bool.{cond}
 use mathlib.Core.List.{List, [], _∷_, _++_}
 use Prim.Native.Nat.{ℕ}
 use lib.Dec.{eqb, leb}
-use lib.ListN.{length, drop}
+use lib.ListN.{length}
 use Rattle.laws.specs.Ascii.{ascii}
+use Rattle.laws.specs.Pasted.{fronted}
 use Rattle.wire.specs.Packet.{body}
 use Rattle.wire.specs.Response.{srep, dele}
 use Rattle.writer.specs.declared.Text.{Text}
@@ -30,10 +31,10 @@ textAnswer code text out = cond (eqb code 0) (cond (leb (length text) (length ou
 
 -- what is left in the buffer, by the answer
 abbrev pub textLeft : Text → List ℕ → List ℕ → List ℕ
-textLeft (Wrote n) text out = text ++ drop n out
+textLeft (Wrote n) text out = fronted text out
 textLeft (Refused code) text out = out
 
 -- document 01's number of an answer, 0 where nothing was refused
-abbrev pub textCode : Text → ℕ
-textCode (Wrote n) = 0
-textCode (Refused code) = code
+abbrev pub textNumber : Text → ℕ
+textNumber (Wrote n) = 0
+textNumber (Refused code) = code

@@ -2,7 +2,7 @@
 ghost use mathlib.Core.Path.{_≡_};
 ghost use Rattle.octets.specs.Written.{written, answered};
 ghost use Rattle.writer.specs.Asking.{requestBytes};
-use hash::server_mark;
+use hash::srv_value;
 use octets::Wrote;
 use octets::put;
 use octets::zero;
@@ -21,7 +21,7 @@ pub fn write_request(key: [u8; 32], nonce: [u8; 32], out: &mut [u8]) -> Wrote
     if out.len() < 1036 {
         return Wrote::Short;
     }
-    let srv = server_mark(key);
+    let srv = srv_value(key);
     put(out, 0, &MARK);
     put(out, 8, &HEAD);
     put(out, 56, &srv);

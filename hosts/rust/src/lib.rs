@@ -13,7 +13,7 @@
 //!
 //! let request = trawlbeacon::read_request(&packet)?;
 //! assert_eq!(request.nonc, nonce);
-//! assert_eq!(request.srv, Some(trawlbeacon::server_mark(&key)));
+//! assert_eq!(request.srv, Some(trawlbeacon::srv_value(&key)));
 //!
 //! // A request is no response: it has no SIG, which is a refusal with the code 6.
 //! assert_eq!(trawlbeacon::read_response(&packet).unwrap_err().code(), 6);
@@ -80,11 +80,11 @@ pub fn empty_place() -> Hash {
     out
 }
 
-/// The mark by which a request names the server it is meant for: H(0xff, key), of the server's long-term public key.
-pub fn server_mark(key: &[u8; 32]) -> Hash {
+/// The SRV value, by which a request names the server it is meant for: H(0xff, key), of the server's long-term public key.
+pub fn srv_value(key: &[u8; 32]) -> Hash {
     let mut out = [0; 32];
     // SAFETY: see raw.
-    unsafe { raw::tb_server_mark(key, &mut out) };
+    unsafe { raw::tb_srv_value(key, &mut out) };
     out
 }
 

@@ -10,7 +10,7 @@ pub const REQUEST_LENGTH: usize = 1036;
 pub struct Request {
     /// NONC: the nonce.
     pub nonc: [u8; 32],
-    /// SRV: the mark of the key that the client expects, if it names one.
+    /// SRV: by which the client names the key that it expects, if it does.
     pub srv: Option<Hash>,
 }
 

@@ -165,8 +165,8 @@ extern "C" {
     pub fn tb_parent(left: &[u8; 32], right: &[u8; 32], out: &mut [u8; 32]);
     /// A leaf without a packet.
     pub fn tb_empty_place(out: &mut [u8; 32]);
-    /// The mark of a server's key.
-    pub fn tb_server_mark(key: &[u8; 32], out: &mut [u8; 32]);
+    /// The SRV value of a server's key.
+    pub fn tb_srv_value(key: &[u8; 32], out: &mut [u8; 32]);
     /// The nonce of the next request of a chain.
     pub fn tb_link(response: *const u8, n: usize, rand: &[u8; 32], out: &mut [u8; 32]);
 

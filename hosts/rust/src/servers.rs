@@ -1,4 +1,4 @@
-//! Lists of servers: records of 64 bytes, a long-term key and then its mark, with nothing around them.
+//! Lists of servers: records of 64 bytes, a long-term key and then its SRV value, with nothing around them.
 
 use crate::{raw, Hash, Refusal};
 
@@ -21,11 +21,11 @@ pub struct Found<'a> {
     pub list: List,
     /// How many bytes of that list stand before its record.
     pub offset: usize,
-    /// Its record, which is a part of that list: the key, then its mark.
+    /// Its record, which is a part of that list: the key, then its SRV value.
     pub record: &'a [u8],
 }
 
-/// The first record with the mark `srv`, in the owner's list or else in the shipped one. The refusals are 21 and then 22.
+/// The first record with the SRV value `srv`, in the owner's list or else in the shipped one. The refusals are 21 and then 22.
 pub fn find_server<'a>(owner: &'a [u8], shipped: &'a [u8], srv: &Hash) -> Result<Found<'a>, Refusal> {
     // SAFETY: see raw.
     let found = unsafe { raw::tb_find_server(owner.as_ptr(), owner.len(), shipped.as_ptr(), shipped.len(), srv) };

@@ -47,13 +47,13 @@ fn parents() {
 }
 
 #[test]
-fn server_marks() {
+fn srv_values() {
     let mut random = Xorshift::new(0x5eed_0014);
     for i in 0..5000 {
         let key = random.array();
-        assert_eq!(trawlbeacon::server_mark(&key), hash::server_mark(&key), "key {i}");
+        assert_eq!(trawlbeacon::srv_value(&key), hash::srv_value(&key), "key {i}");
     }
-    println!("server marks: 5000 keys, ours compared with independent");
+    println!("SRV values: 5000 keys, ours compared with independent");
 }
 
 #[test]

@@ -31,7 +31,7 @@ impl Said for Found {
     }
 }
 
-/// Two lists, and the mark that is sought in them.
+/// Two lists, and the SRV value that is sought in them.
 struct Lookup {
     owner: Vec<u8>,
     shipped: Vec<u8>,
@@ -82,7 +82,7 @@ impl Lookup {
     fn unseen_fields(&self, due: &Result<Found, u32>) -> Option<String> {
         let Lookup { owner, shipped, srv } = self;
         let ((start, n), (start_too, m)) = ((owner.as_ptr(), owner.len()), (shipped.as_ptr(), shipped.len()));
-        // SAFETY: the library only reads both lists and the mark.
+        // SAFETY: the library only reads both lists and the SRV value.
         let found = unsafe { raw::tb_find_server(start, n, start_too, m, srv) };
         let due = match due {
             Ok(due) => raw::Found { code: 0, list: due.list.into(), offset: due.offset as u64 },
@@ -117,25 +117,25 @@ impl Comparison {
         }
     }
 
-    /// A list of `count` records, all of whose keys differ, with marks out of `marks`.
-    fn list(&mut self, count: usize, marks: &[[u8; 32]]) -> Vec<u8> {
+    /// A list of `count` records, all of whose keys differ, with SRV values out of `srvs`.
+    fn list(&mut self, count: usize, srvs: &[[u8; 32]]) -> Vec<u8> {
         let random = &mut self.random;
-        (0..count).flat_map(|_| [random.array(), random.pick(marks)].concat()).collect()
+        (0..count).flat_map(|_| [random.array(), random.pick(srvs)].concat()).collect()
     }
 
-    fn marks(&mut self, count: usize) -> Vec<[u8; 32]> {
+    fn srvs(&mut self, count: usize) -> Vec<[u8; 32]> {
         (0..count).map(|_| self.random.array()).collect()
     }
 }
 
-/// Lists of any lengths, with so few marks that many stand several times, in one list or in both.
+/// Lists of any lengths, with so few SRV values that many stand several times, in one list or in both.
 fn duplicates(seen: &mut Comparison) {
     for _ in 0..6_000 {
         let count = 1 + seen.random.below(12);
-        let marks = seen.marks(count);
+        let srvs = seen.srvs(count);
         let (few, many) = (seen.random.below(4), seen.random.below(24));
-        let (owner, shipped) = (seen.list(few, &marks), seen.list(many, &marks));
-        let srv = seen.random.pick(&marks);
+        let (owner, shipped) = (seen.list(few, &srvs), seen.list(many, &srvs));
+        let srv = seen.random.pick(&srvs);
         seen.ask(&Lookup { owner: owner.clone(), shipped: shipped.clone(), srv });
         seen.ask(&Lookup { owner: shipped, shipped: owner, srv });
     }
@@ -144,23 +144,23 @@ fn duplicates(seen: &mut Comparison) {
 /// The one match at every place of either list.
 fn every_place(seen: &mut Comparison) {
     for (owners, shippeds) in [(1, 0), (0, 1), (1, 1), (7, 5), (40, 60), (600, 400)] {
-        let marks = seen.marks(1_000);
-        let (mut owner, mut shipped) = (seen.list(owners, &marks), seen.list(shippeds, &marks));
-        let records = owner.chunks_mut(RECORD).chain(shipped.chunks_mut(RECORD)).zip(&marks);
-        // Every mark stands once, so that no place is hidden by an earlier one.
-        records.for_each(|(record, mark)| record[32..].copy_from_slice(mark));
-        for srv in &marks[..owners + shippeds] {
+        let srvs = seen.srvs(1_000);
+        let (mut owner, mut shipped) = (seen.list(owners, &srvs), seen.list(shippeds, &srvs));
+        let records = owner.chunks_mut(RECORD).chain(shipped.chunks_mut(RECORD)).zip(&srvs);
+        // Every SRV value stands once, so that no place is hidden by an earlier one.
+        records.for_each(|(record, srv)| record[32..].copy_from_slice(srv));
+        for srv in &srvs[..owners + shippeds] {
             seen.ask(&Lookup { owner: owner.clone(), shipped: shipped.clone(), srv: *srv });
         }
     }
 }
 
-/// Marks that stand in no record, or only where no mark stands: at a key, across a record, or off by one bit.
+/// SRV values that stand in no record, or only where none stands: at a key, across a record, or off by one bit.
 fn no_match(seen: &mut Comparison) {
     for round in 0..300 {
-        let marks = seen.marks(5);
+        let srvs = seen.srvs(5);
         let (few, many) = (round % 5, 1 + round % 7);
-        let (owner, shipped) = (seen.list(few, &marks), seen.list(many, &marks));
+        let (owner, shipped) = (seen.list(few, &srvs), seen.list(many, &srvs));
         let mut ask = |srv: [u8; 32]| seen.ask(&Lookup { owner: owner.clone(), shipped: shipped.clone(), srv });
         ask([0; 32]);
         ask([0xff; 32]);
@@ -168,7 +168,7 @@ fn no_match(seen: &mut Comparison) {
             ask(shipped[start..start + 32].try_into().expect("it has 32 bytes"));
         }
         for bit in (round % 8..256).step_by(8) {
-            let mut srv = marks[0];
+            let mut srv = srvs[0];
             srv[bit / 8] ^= 1 << (bit % 8);
             ask(srv);
         }
@@ -178,10 +178,10 @@ fn no_match(seen: &mut Comparison) {
 /// Lists of every length up to some records, and far longer ones, with a whole list beside them that has what is sought.
 fn ragged(seen: &mut Comparison) {
     for length in (0..=330).chain([4095, 4096, 4097, 65_535, 65_536]) {
-        let marks = seen.marks(2);
-        let whole = seen.list(3, &marks);
+        let srvs = seen.srvs(2);
+        let whole = seen.list(3, &srvs);
         let any = seen.random.bytes(length);
-        let srv = marks[0];
+        let srv = srvs[0];
         seen.ask(&Lookup { owner: any.clone(), shipped: whole.clone(), srv });
         seen.ask(&Lookup { owner: whole.clone(), shipped: any.clone(), srv });
         seen.ask(&Lookup { owner: any.clone(), shipped: any.clone(), srv });
@@ -193,12 +193,12 @@ fn ragged(seen: &mut Comparison) {
     }
 }
 
-/// Lists and marks may start anywhere.
+/// Lists and SRV values may start anywhere.
 fn unaligned(seen: &mut Comparison) {
     for start in 0..16 {
-        let marks = seen.marks(3);
-        let (owner, shipped) = (seen.list(2, &marks[..2]), seen.list(4, &marks));
-        let srv = marks[2];
+        let srvs = seen.srvs(3);
+        let (owner, shipped) = (seen.list(2, &srvs[..2]), seen.list(4, &srvs));
+        let srv = srvs[2];
         let lookup = Lookup { owner, shipped, srv };
         let due = lookup.due();
         let Lookup { owner, shipped, .. } = lookup;

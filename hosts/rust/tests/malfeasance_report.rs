@@ -54,7 +54,7 @@ fn both_sides_read_all_six_packets() {
         let response = agreed(answers::read_response(&entry.response), "response");
         show(index, entry, &request, &response);
         compare_texts(index, entry);
-        assert_eq!(request.srv, Some(trawlbeacon::server_mark(&entry.key)), "entry {index}: SRV is the key's mark");
+        assert_eq!(request.srv, Some(trawlbeacon::srv_value(&entry.key)), "entry {index}: SRV is the key's");
         assert_eq!(response.nonc, request.nonc, "entry {index}: the response answers the request");
         // With no siblings the leaf is the root.
         assert_eq!(response.root, trawlbeacon::leaf(&entry.request), "entry {index}: ROOT is the request's leaf");

@@ -38,7 +38,7 @@ fn write_requests(tally: &mut Tally) {
 
 fn read_back(packet: &[u8], key: &[u8; 32], nonce: &[u8; 32]) {
     let both = answers::read_request(packet);
-    let due = trawlbeacon::Request { nonc: *nonce, srv: Some(independent::hash::server_mark(key)) };
+    let due = trawlbeacon::Request { nonc: *nonce, srv: Some(independent::hash::srv_value(key)) };
     assert_eq!((both.ours, both.independent), (Ok(due), Ok(due)));
 }
 

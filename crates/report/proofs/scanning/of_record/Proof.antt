@@ -2,7 +2,7 @@
 -- Assumes nothing.
 use mathlib.Core.Path.{sym, ap}
 use Rattle.verdict.specs.declared.Verdict.{Verdict}
-use Rattle.report.specs.Report.{recordOf}
+use Rattle.report.specs.Within.{recordOf}
 use borrow.Author.Needs.{needs}
 use Rattle.report.proofs.scanning.of_record.Statement.{statement}
 use Rattle.report.proofs.scanning.of_record.Tie as tie

@@ -11,8 +11,8 @@ use Rattle.laws.proofs.Any.{any-here}
 use Rattle.laws.specs.Numbers.{le}
 use Rattle.message.specs.Tags.{MIDP, MINT, MAXT}
 use Rattle.message.specs.Values.{valueOf}
-use Rattle.wire.specs.Response.{srep, dele}
-use Rattle.verdict.specs.Check.{midpIn, mintIn, maxtIn, timeOutside}
+use Rattle.wire.specs.Response.{srep, dele, midpIn, mintIn, maxtIn}
+use Rattle.verdict.specs.Check.{timeOutside}
 use borrow.Author.Needs.{needs}
 use Rattle.verdict.proofs.agreement.time_outside.Statement.{statement}
 use Rattle.verdict.proofs.agreement.time_outside.Tie as tie

@@ -3,8 +3,8 @@
 use mathlib.Core.Path.{_≡_, refl, ap, _∙_}
 use native.Mathlib.Omega.{arith}
 use lib.ListN.{length, length-append, replicate}
-use Rattle.hash.specs.Hashes.{markOf}
-use Rattle.hash.proofs.Lengths.{length-mark}
+use Rattle.hash.specs.Hashes.{srvOf}
+use Rattle.hash.proofs.Lengths.{length-srv}
 use Rattle.laws.specs.Numbers.{leBytes}
 use Rattle.laws.specs.Pasted.{pasted}
 use Rattle.laws.proofs.Pasted.{front-none, front-put}
@@ -40,9 +40,9 @@ returns-2 c =
     let n = length-request key nonce n32 in
     let f1 = front-put mark 0 (front-none (s .args .out .now)) refl (p1 .put .ensures) in
     let f2 = front-put head 8 f1 refl (p2 .put2 .ensures) in
-    let f3 = front-put (markOf key) 56 f2 refl (p3 .put3 .ensures ∙ ap (pasted _ 56) (m .server-mark .ensures)) in
-    let f4 = front-put nonce 88 f3 (simp (length-mark key)) (p4 .put4 .ensures) in
-    let f5 = front-put (replicate 916 0) 120 f4 (simp (length-append, length-mark key, n32)) (z .zero .ensures) in
+    let f3 = front-put (srvOf key) 56 f2 refl (p3 .put3 .ensures ∙ ap (pasted _ 56) (m .srv-value .ensures)) in
+    let f4 = front-put nonce 88 f3 (simp (length-srv key)) (p4 .put4 .ensures) in
+    let f5 = front-put (replicate 916 0) 120 f4 (simp (length-append, length-srv key, n32)) (z .zero .ensures) in
     done (requestBytes key nonce) (omega arith) (rw (request-is key nonce n32) f5)
 
 pub write-request-spec : {M : Type 1} → statement M

@@ -1,17 +1,17 @@
--- `hash::server_mark` meets its contract.
+-- `hash::srv_value` meets its contract.
 -- Assumes nothing.
 use mathlib.Core.List.{append-nil}
-use Rattle.hash.specs.Hashes.{H32, markOf}
+use Rattle.hash.specs.Hashes.{H32, srvOf}
 use borrow.Author.Needs.{needs}
-use Rattle.hash.proofs.server_mark.Statement.{statement}
-use Rattle.hash.proofs.server_mark.Tie as tie
+use Rattle.hash.proofs.srv_value.Statement.{statement}
+use Rattle.hash.proofs.srv_value.Tie as tie
 
 returns : tie.Need-returns
-unfolding markOf H32
+unfolding srvOf H32
 returns c = cc (append-nil (c .before .before .before .before .args .t1))
 
-pub server-mark-spec : {M : Type 1} → statement M
-server-mark-spec =
+pub srv-value-spec : {M : Type 1} → statement M
+srv-value-spec =
     tie.close
     (tie.spec
     (λ c. search needs)
