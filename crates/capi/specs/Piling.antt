@@ -6,7 +6,7 @@ use Rattle.pile.specs.declared.Judgement.{Judgement}
 use Rattle.report.specs.Report.{Reports, reportNumber}
 use Rattle.report.specs.declared.Report.{Report}
 use Rattle.report.specs.declared.Report.the-variants.{Pair, Bad, Record, Unlinked, Clear}
-use Rattle.capi.specs.Judging.{judged}
+use Rattle.capi.specs.Judging.{verdictTold}
 use Rattle.capi.specs.declared.Judged.{Judged}
 use Rattle.capi.specs.declared.RecordJudged.{RecordJudged}
 use Rattle.capi.specs.declared.ReportChecked.{ReportChecked}
@@ -16,7 +16,7 @@ abbrev pub placed : ℕ → Judged → RecordJudged
 placed k v = record { code = v .code; place = k; midp = v .midp; radi = v .radi; low = v .low; high = v .high }
 
 abbrev pub recordJudged : Judgement → RecordJudged
-recordJudged j = placed (j .place) (judged (j .verdict))
+recordJudged j = placed (j .place) (verdictTold (j .verdict))
 
 -- a refusal of a report, with the place that it carries, and 0 where it carries none
 abbrev pub refusedAt : ℕ → ℕ → ReportChecked

@@ -1,7 +1,7 @@
 // The response check for hosts.
 ghost use mathlib.Core.Path.{_≡_};
 ghost use Rattle.verdict.specs.Check.{verdictOf};
-ghost use Rattle.capi.specs.Judging.{judged};
+ghost use Rattle.capi.specs.Judging.{verdictTold};
 use super::Judged;
 use verdict::Verdict;
 
@@ -13,14 +13,14 @@ pub extern "C" fn tb_check_response<'a>(
     delegation: bool,
     signature: bool,
 ) -> Judged
-    ensures { λ r. ⌜ r ≡ judged (verdictOf (now (request .entry)) (now (response .entry)) delegation signature) ⌝ }
+    ensures { λ r. ⌜ r ≡ verdictTold (verdictOf (now (request .entry)) (now (response .entry)) delegation signature) ⌝ }
 {
     verdict_told(verdict::check_response(request, response, delegation, signature))
 }
 
 // A verdict, as a struct.
 pub fn verdict_told(v: Verdict) -> Judged
-    ensures { λ r. ⌜ r ≡ judged v ⌝ }
+    ensures { λ r. ⌜ r ≡ verdictTold v ⌝ }
 {
     match v {
         Verdict::Valid(w) => Judged {

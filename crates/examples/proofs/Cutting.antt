@@ -11,7 +11,7 @@ use Rattle.verdict.specs.declared.Verdict.{Verdict}
 use Rattle.pile.specs.Links.{linkedOf}
 use Rattle.pile.specs.Meaning.{GoodPile}
 use Rattle.runs.specs.Spans.{Answers}
-use Rattle.runs.specs.Convict.{Convicts, verdictAt}
+use Rattle.runs.specs.Convict.{Convicts, verdictIn}
 use Rattle.runs.specs.declared.Span.{Span}
 use Rattle.runs.specs.declared.Span.the-variants.{Places, Nothing}
 use Rattle.runs.proofs.Find.{runOf, run-exists}
@@ -21,11 +21,11 @@ use Rattle.report.specs.Taking.{ConvictsIn, Takes}
 use Rattle.report.specs.declared.Taken.{Taken}
 use Rattle.report.specs.declared.Taken.the-variants.{Run, NoRun}
 use Rattle.report.proofs.Moved.{after-first}
-use Rattle.examples.specs.Claims.{Finds, Cuts}
+use Rattle.examples.specs.Claims.{Finds, CutterSays}
 
 -- the run of a linked pile with these verdicts
 abbrev pub runOn : List Verdict → Span
-runOn verdicts = runOf (verdictAt verdicts) (λ k. true) (length verdicts)
+runOn verdicts = runOf (verdictIn verdicts) (λ k. true) (length verdicts)
 
 -- the cutter's answer that it gives
 abbrev takenOf : Span → Taken
@@ -38,9 +38,9 @@ takes pile answers room g l (Places i j) a = (g, l, a)
 takes pile answers room g l Nothing a = (g, l, a)
 
 finds : (vs : List Verdict) → Finds vs (runOn vs)
-finds vs = run-exists (verdictAt vs) (λ k. true) (length vs)
+finds vs = run-exists (verdictIn vs) (λ k. true) (length vs)
 
-cuts : (vs : List Verdict) → Cuts vs (takenOf (runOn vs))
+cuts : (vs : List Verdict) → CutterSays vs (takenOf (runOn vs))
 cuts vs pile answers room h l =
     let n = length vs in
     let v = judged pile answers in
@@ -48,7 +48,7 @@ cuts vs pile answers room h l =
     takes pile answers room (h .good) l (runOn vs)
     (subst (λ (m : ℕ). Answers (Convicts v (linkedOf pile) m) (runOn vs)) (sym (h .many))
     (after-first v all (linkedOf pile) n (λ k z u. sym (h .links k z u)) (runOn vs)
-    (same-answer (verdictAt vs) v all all n (λ k u. sym (h .same k u)) (λ k u. refl) (runOn vs) (finds vs))))
+    (same-answer (verdictIn vs) v all all n (λ k u. sym (h .same k u)) (λ k u. refl) (runOn vs) (finds vs))))
 
 -- the run is from i to j, and there is none
 abbrev pub isFrom : Span → ℕ → ℕ → Bool
@@ -69,11 +69,11 @@ is-none : (s : Span) → T (isNone s) → s ≡ Nothing
 is-none (Places a b) t = absurd t
 is-none Nothing t = refl
 
-found : (vs : List Verdict) (s : Span) → runOn vs ≡ s → Finds vs s × Cuts vs (takenOf s)
-found vs s e = subst (λ (x : Span). Finds vs x × Cuts vs (takenOf x)) e (finds vs, cuts vs)
+found : (vs : List Verdict) (s : Span) → runOn vs ≡ s → Finds vs s × CutterSays vs (takenOf s)
+found vs s e = subst (λ (x : Span). Finds vs x × CutterSays vs (takenOf x)) e (finds vs, cuts vs)
 
-pub run-found : (vs : List Verdict) (i j : ℕ) → T (isFrom (runOn vs) i j) → Finds vs (Places i j) × Cuts vs (Run i j)
+pub run-found : (vs : List Verdict) (i j : ℕ) → T (isFrom (runOn vs) i j) → Finds vs (Places i j) × CutterSays vs (Run i j)
 run-found vs i j t = found vs (Places i j) (is-from (runOn vs) i j t)
 
-pub none-found : (vs : List Verdict) → T (isNone (runOn vs)) → Finds vs Nothing × Cuts vs NoRun
+pub none-found : (vs : List Verdict) → T (isNone (runOn vs)) → Finds vs Nothing × CutterSays vs NoRun
 none-found vs t = found vs Nothing (is-none (runOn vs) t)

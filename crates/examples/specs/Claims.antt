@@ -22,7 +22,7 @@ use Rattle.pile.specs.Links.{linkedOf}
 use Rattle.pile.specs.Meaning.{GoodPile}
 use Rattle.runs.specs.Clash.{clash}
 use Rattle.runs.specs.Spans.{Answers}
-use Rattle.runs.specs.Convict.{Convicts, verdictAt}
+use Rattle.runs.specs.Convict.{Convicts, verdictIn}
 use Rattle.runs.specs.declared.Span.{Span}
 use Rattle.runs.specs.declared.Span.the-variants.{Places, Nothing}
 use Rattle.report.specs.Report.{judged}
@@ -65,16 +65,16 @@ pub data Row : Type 0 where
 pub record Linked (pile answers : List ℕ) (verdicts : List Verdict) : Type 0 where
   pub good : GoodPile pile answers
   pub many : recordsIn pile ≡ length verdicts
-  pub same : (k : ℕ) → k < length verdicts → judged pile answers k ≡ verdictAt verdicts k
+  pub same : (k : ℕ) → k < length verdicts → judged pile answers k ≡ verdictIn verdicts k
   pub links : (k : ℕ) → 0 < k → k < length verdicts → linkedOf pile k ≡ true
 
 -- what the search for a run answers where all are linked,
 abbrev pub Finds : List Verdict → Span → Type 0
-Finds verdicts answer = Answers (Convicts (verdictAt verdicts) (λ k. true) (length verdicts)) answer
+Finds verdicts answer = Answers (Convicts (verdictIn verdicts) (λ k. true) (length verdicts)) answer
 
 -- and what the cutter answers to each such pile, where the buffer has room for it
-abbrev pub Cuts : List Verdict → Taken → Type 0
-Cuts verdicts answer = (pile answers : List ℕ) (room : ℕ) → Linked pile answers verdicts → length pile ≤ room → Takes pile answers room answer
+abbrev pub CutterSays : List Verdict → Taken → Type 0
+CutterSays verdicts answer = (pile answers : List ℕ) (room : ℕ) → Linked pile answers verdicts → length pile ≤ room → Takes pile answers room answer
 
 -- the response p to the request q: none of 14 and 1 to 9 applies
 pub record Before10 (q p : List ℕ) : Type 0 where
@@ -106,8 +106,8 @@ abbrev pub Claim : Row → Type 0
 Claim (low-end w n) = w .low ≡ n
 Claim (high-end w n) = w .high ≡ n
 Claim (contradicts a b answer) = clash a b ≡ answer
-Claim (run verdicts i j) = Finds verdicts (Places i j) × Cuts verdicts (Run i j)
-Claim (no-run verdicts code) = Finds verdicts Nothing × Cuts verdicts NoRun × (takenNumber NoRun ≡ code)
+Claim (run verdicts i j) = Finds verdicts (Places i j) × CutterSays verdicts (Run i j)
+Claim (no-run verdicts code) = Finds verdicts Nothing × CutterSays verdicts NoRun × (takenNumber NoRun ≡ code)
 Claim (depth leaves d) = (s : List ℕ) → length s ≡ 32 * leaves → (rootedOf s .code ≡ 0) × (rootedOf s .depth ≡ d)
 Claim (path leaves place i siblings) =
     (s : List ℕ) (room : ℕ) → length s ≡ 32 * leaves → 32 * siblings ≤ room

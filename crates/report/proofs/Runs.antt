@@ -11,7 +11,7 @@ use Rattle.pile.specs.Links.{linkedOf}
 use Rattle.pile.specs.Meaning.{GoodPile}
 use Rattle.verdict.specs.declared.Verdict.{Verdict}
 use Rattle.runs.specs.Spans.{Answers}
-use Rattle.runs.specs.Convict.{verdictAt, flagAt, Convicts}
+use Rattle.runs.specs.Convict.{verdictIn, flagIn, Convicts}
 use Rattle.runs.specs.declared.Span.{Span}
 use Rattle.runs.specs.declared.Span.the-variants.{Places}
 use Rattle.runs.proofs.Find.{run-settled}
@@ -29,14 +29,14 @@ joined-later pile k l = rw (ne-eqb k 0 (λ z. omega arith)) refl
 
 -- the run of the arrays vs and ls is the run of the pile that they are of
 pub run-of : (pile answers : List ℕ) (vs : List Verdict) (ls : List Bool) (r : Span) → GoodPile pile answers
-    → ((k : ℕ) → k < 16 → verdictAt vs k ≡ judged pile answers k) → ((k : ℕ) → k < 16 → flagAt ls k ≡ joined pile k)
-    → Answers (Convicts (verdictAt vs) (flagAt ls) (min (recordsIn pile) 16)) r → Answers (ConvictsIn pile answers) r
+    → ((k : ℕ) → k < 16 → verdictIn vs k ≡ judged pile answers k) → ((k : ℕ) → k < 16 → flagIn ls k ≡ joined pile k)
+    → Answers (Convicts (verdictIn vs) (flagIn ls) (min (recordsIn pile) 16)) r → Answers (ConvictsIn pile answers) r
 run-of pile answers vs ls r g e f a =
     let whole : min (recordsIn pile) 16 ≡ recordsIn pile = omega (arith, g .pile-whole .to) in
     after-first (judged pile answers) (joined pile) (linkedOf pile) (recordsIn pile) (λ i z u. joined-later pile i z) r
-    (same-answer (verdictAt vs) (judged pile answers) (flagAt ls) (joined pile) (recordsIn pile)
+    (same-answer (verdictIn vs) (judged pile answers) (flagIn ls) (joined pile) (recordsIn pile)
     (λ i u. e i (omega (arith, g .pile-whole .to))) (λ i u. f i (omega (arith, g .pile-whole .to))) r
-    (subst (λ (m : ℕ). Answers (Convicts (verdictAt vs) (flagAt ls) m) r) whole a))
+    (subst (λ (m : ℕ). Answers (Convicts (verdictIn vs) (flagIn ls) m) r) whole a))
 
 module _ (pile answers : List ℕ) (room : ℕ) where
   pub takes-once : (r s : Taken) → Takes pile answers room r → Takes pile answers room s → r ≡ s

@@ -1,7 +1,7 @@
 // The check of a report: 15; then the first record that is refused; then the first that is not linked; then the pair that contradicts.
 ghost use mathlib.Core.Path.{_≡_};
 ghost use Prim.Native.Nat.{_≤_};
-ghost use Rattle.runs.specs.Convict.{verdictAt, flagAt};
+ghost use Rattle.runs.specs.Convict.{verdictIn, flagIn};
 ghost use Rattle.report.specs.Report.{Says, Reports};
 use super::Found;
 use super::Report;
@@ -32,7 +32,7 @@ pub fn check_report<'a>(pile: &'a [u8], answers: &'a [u8]) -> Report
 // The same of n records of which the verdicts and flags are known. Where none is refused and none loose, the shortest run is the pair.
 fn said_of(verdicts: [Verdict; 16], flags: [bool; 16], n: usize) -> Report
     requires { ⌜ n ≤ 16 ⌝ }
-    ensures { λ r. ⌜ Says (verdictAt verdicts) (flagAt flags) n r ⌝ }
+    ensures { λ r. ⌜ Says (verdictIn verdicts) (flagIn flags) n r ⌝ }
 {
     match first_refused(verdicts, n) {
         Found::At(k) => {

@@ -1,7 +1,7 @@
 // What is known of the records of a pile, each judged once and each link hashed once.
 ghost use mathlib.Core.Path.{_≡_};
 ghost use Prim.Native.Nat.{ℕ, _<_};
-ghost use Rattle.runs.specs.Convict.{verdictAt, flagAt};
+ghost use Rattle.runs.specs.Convict.{verdictIn, flagIn};
 ghost use Rattle.report.specs.Report.{judged, joined};
 use pile::first_rand_zero;
 use pile::judge;
@@ -13,7 +13,7 @@ pub const RECORD: usize = 4096;
 
 // The verdicts. A place without a record holds a refusal.
 pub fn verdicts_of<'a>(pile: &'a [u8], answers: &'a [u8]) -> [Verdict; 16]
-    ensures { λ r. ⌜ ((k : ℕ) → k < 16 → verdictAt r k ≡ judged (now (pile .entry)) (now (answers .entry)) k) ⌝ }
+    ensures { λ r. ⌜ ((k : ℕ) → k < 16 → verdictIn r k ≡ judged (now (pile .entry)) (now (answers .entry)) k) ⌝ }
 {
     let blank = Verdict::Refused(15);
     let mut verdicts = [blank; 16];
@@ -29,7 +29,7 @@ pub fn verdicts_of<'a>(pile: &'a [u8], answers: &'a [u8]) -> [Verdict; 16]
 
 // Whether each record stands as it must behind what comes before it.
 pub fn flags_of(pile: &[u8]) -> [bool; 16]
-    ensures { λ r. ⌜ ((k : ℕ) → k < 16 → flagAt r k ≡ joined (now (pile .entry)) k) ⌝ }
+    ensures { λ r. ⌜ ((k : ℕ) → k < 16 → flagIn r k ≡ joined (now (pile .entry)) k) ⌝ }
 {
     let mut flags = [false; 16];
     let mut k: usize = 0;

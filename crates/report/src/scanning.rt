@@ -1,7 +1,7 @@
 // The first record of which something is wrong.
 ghost use mathlib.Core.Path.{_≡_};
 ghost use Prim.Native.Nat.{_≤_, min};
-ghost use Rattle.runs.specs.Convict.{verdictAt, flagAt};
+ghost use Rattle.runs.specs.Convict.{verdictIn, flagIn};
 ghost use Rattle.report.specs.Within.{FirstAt, recordOf};
 ghost use Rattle.report.specs.Report.{refused, loose};
 use super::Found;
@@ -11,7 +11,7 @@ use verdict::Verdict;
 // The first of n records that is refused.
 pub fn first_refused(verdicts: [Verdict; 16], n: usize) -> Found
     requires { ⌜ n ≤ 16 ⌝ }
-    ensures { λ r. ⌜ FirstAt (refused (verdictAt verdicts)) n r ⌝ }
+    ensures { λ r. ⌜ FirstAt (refused (verdictIn verdicts)) n r ⌝ }
 {
     for k in 0..n {
         let v = verdicts[k];
@@ -28,7 +28,7 @@ pub fn first_refused(verdicts: [Verdict; 16], n: usize) -> Found
 // The first of n records whose flag is not set.
 pub fn first_loose(flags: [bool; 16], n: usize) -> Found
     requires { ⌜ n ≤ 16 ⌝ }
-    ensures { λ r. ⌜ FirstAt (loose (flagAt flags)) n r ⌝ }
+    ensures { λ r. ⌜ FirstAt (loose (flagIn flags)) n r ⌝ }
 {
     for k in 0..n {
         if !flags[k] {

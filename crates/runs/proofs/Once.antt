@@ -3,7 +3,7 @@
 use mathlib.Core.Path.{sym, _∙_}
 use Prim.Native.Nat.{min}
 use Rattle.laws.proofs.Once.{Settles}
-use Rattle.runs.specs.Convict.{verdictAt, flagAt}
+use Rattle.runs.specs.Convict.{verdictIn, flagIn}
 use Rattle.runs.proofs.Find.{run-settled}
 use Rattle.runs.proofs.compare.contradicts.Kinds as contradicts-kinds
 use Rattle.runs.proofs.compare.contradicts.Reads as contradicts-reads
@@ -14,4 +14,4 @@ pub contradicts-once : Settles 0 contradicts-kinds.ps contradicts-kinds.r contra
 contradicts-once κs a x e y f p q = p ∙ sym q
 
 pub shortest-run-once : Settles 0 shortest-run-kinds.ps shortest-run-kinds.r shortest-run-reads.Post
-shortest-run-once κs a x e y f p q = run-settled (verdictAt (a .0)) (flagAt (a .1 .0)) (min (a .1 .1 .0) 16) x y p q
+shortest-run-once κs a x e y f p q = run-settled (verdictIn (a .0)) (flagIn (a .1 .0)) (min (a .1 .1 .0) 16) x y p q

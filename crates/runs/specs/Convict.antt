@@ -11,11 +11,11 @@ use Rattle.verdict.specs.declared.Verdict.the-variants.{Valid}
 use Rattle.runs.specs.Clash.{valid, contradicting}
 
 -- what an array holds at a place; past its end, which is never read, the value that has only zeros
-abbrev pub verdictAt : List Verdict → ℕ → Verdict
-verdictAt vs k = getD vs k (Valid (record { midp = 0; radi = 0; low = 0; high = 0 }))
+abbrev pub verdictIn : List Verdict → ℕ → Verdict
+verdictIn vs k = getD vs k (Valid (record { midp = 0; radi = 0; low = 0; high = 0 }))
 
-abbrev pub flagAt : List Bool → ℕ → Bool
-flagAt ls k = getD ls k false
+abbrev pub flagIn : List Bool → ℕ → Bool
+flagIn ls k = getD ls k false
 
 -- each record from a to b is valid, and each after a is linked
 pub record Clean (v : ℕ → Verdict) (linked : ℕ → Bool) (a b : ℕ) : Type 0 where

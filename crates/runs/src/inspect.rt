@@ -1,7 +1,7 @@
 // One run, looked at: whether it is clean and its ends contradict.
 ghost use Prim.Native.Nat.{_≤_, _<_};
 ghost use Rattle.laws.specs.Told.{Tells};
-ghost use Rattle.runs.specs.Convict.{verdictAt, flagAt, Clean};
+ghost use Rattle.runs.specs.Convict.{verdictIn, flagIn, Clean};
 ghost use Rattle.runs.specs.Ends.{Exposes};
 use super::compare::both_contradict;
 use super::compare::is_valid;
@@ -10,7 +10,7 @@ use verdict::Verdict;
 // Whether the run from a to b is clean, and its first and last record contradict.
 pub fn exposes(verdicts: [Verdict; 16], linked: [bool; 16], a: usize, b: usize) -> bool
     requires { ⌜ (a ≤ b) × (b < 16) ⌝ }
-    ensures { λ r. ⌜ Tells r (Exposes (verdictAt verdicts) (flagAt linked) a b) ⌝ }
+    ensures { λ r. ⌜ Tells r (Exposes (verdictIn verdicts) (flagIn linked) a b) ⌝ }
 {
     if !is_clean(verdicts, linked, a, b) {
         return false;
@@ -23,7 +23,7 @@ pub fn exposes(verdicts: [Verdict; 16], linked: [bool; 16], a: usize, b: usize) 
 // Whether each record from a to b is valid, and each after a linked.
 fn is_clean(verdicts: [Verdict; 16], linked: [bool; 16], a: usize, b: usize) -> bool
     requires { ⌜ (a ≤ b) × (b < 16) ⌝ }
-    ensures { λ r. ⌜ Tells r (Clean (verdictAt verdicts) (flagAt linked) a b) ⌝ }
+    ensures { λ r. ⌜ Tells r (Clean (verdictIn verdicts) (flagIn linked) a b) ⌝ }
 {
     let v = verdicts[a];
     if !is_valid(v) {

@@ -4,7 +4,7 @@
 ghost use mathlib.Core.Path.{_≡_};
 ghost use Prim.Native.Nat.{_≤_, min};
 ghost use Rattle.runs.specs.Spans.{Answers};
-ghost use Rattle.runs.specs.Convict.{verdictAt, flagAt, Convicts};
+ghost use Rattle.runs.specs.Convict.{verdictIn, flagIn, Convicts};
 ghost use Rattle.runs.specs.Ends.{Exposes, FirstStart};
 use super::Span;
 use super::inspect::exposes;
@@ -12,7 +12,7 @@ use verdict::Verdict;
 
 // The shortest run of the first n records that convicts, and of those as short the one that starts first. No more than 16 are looked at.
 pub fn shortest_run(verdicts: [Verdict; 16], linked: [bool; 16], n: usize) -> Span
-    ensures { λ r. ⌜ Answers (Convicts (verdictAt verdicts) (flagAt linked) (min n 16)) r ⌝ }
+    ensures { λ r. ⌜ Answers (Convicts (verdictIn verdicts) (flagIn linked) (min n 16)) r ⌝ }
 {
     let m = capped(n);
     for gap in 1..m {
@@ -35,7 +35,7 @@ fn capped(n: usize) -> usize
 // The first start of a run whose ends lie gap apart and contradict, and m - gap where no such run ends below m.
 fn first_start(verdicts: [Verdict; 16], linked: [bool; 16], m: usize, gap: usize) -> usize
     requires { ⌜ (gap ≤ m) × (m ≤ 16) ⌝ }
-    ensures { λ r. ⌜ FirstStart (Exposes (verdictAt verdicts) (flagAt linked)) m gap r ⌝ }
+    ensures { λ r. ⌜ FirstStart (Exposes (verdictIn verdicts) (flagIn linked)) m gap r ⌝ }
 {
     let starts = m - gap;
     for start in 0..starts {

@@ -15,7 +15,7 @@ use Rattle.laws.proofs.Split.{split}
 use Rattle.tree.specs.Direction.{indxOf}
 use Rattle.tree.specs.Tree.{nodeIn, nodesIn, flat, nodeAt, depthOf, rootOf, pathOf}
 use Rattle.tree.specs.Laid.{levels, nodesOf, pathIn}
-use Rattle.tree.specs.Answers.{most, countOf, leavesIn, heightOf, heldOf, answer, placedTold, laidTold, rootedOf, placeTold, pathBytes, fromBytes, rowsTold, rowsBytes}
+use Rattle.tree.specs.Answers.{most, countOf, leavesIn, depthIn, heldOf, answer, placedTold, laidTold, rootedOf, placeTold, pathBytes, fromBytes, rowsTold, rowsBytes}
 use Rattle.tree.specs.declared.Placed.{Placed}
 use Rattle.tree.specs.declared.Placed.the-variants as placed
 use Rattle.tree.specs.declared.Laid.{Laid}
@@ -103,10 +103,10 @@ module _ (s : List ℕ) {n : ℕ} (e : n ≡ countOf (length s)) where
 
   pub rows-20 : (room : ℕ) → n ≡ 0 → 20 ∷ [] ≡ rowsTold s room
   unfolding rowsTold
-  rows-20 room z = ap (λ (x : ℕ). answer x (heightOf s ∷ [])) (halt code 20 _ tt refl (eq-eqb _ _ (sym e ∙ z)))
+  rows-20 room z = ap (λ (x : ℕ). answer x (depthIn s ∷ [])) (halt code 20 _ tt refl (eq-eqb _ _ (sym e ∙ z)))
 
   module _ {d : ℕ} (some : n ≡ 0 → ⊥) (deep : d ≡ depthOf n) where
-    height : heightOf s ≡ d
+    height : depthIn s ≡ d
     height = ap depthOf (sym e) ∙ sym deep
 
     count : eqb (countOf (length s)) 0 ≡ false
@@ -120,16 +120,16 @@ module _ (s : List ℕ) {n : ℕ} (e : n ≡ countOf (length s)) where
     unfolding rowsTold
     rows-19 room h =
         let k = height in
-        ap (λ (x : ℕ). answer x (heightOf s ∷ []))
-        (skip code 20 _ refl count (halt-lt code room (32 * nodesOf (heightOf s)) 19 [] tt (rw k h)))
+        ap (λ (x : ℕ). answer x (depthIn s ∷ []))
+        (skip code 20 _ refl count (halt-lt code room (32 * nodesOf (depthIn s)) 19 [] tt (rw k h)))
 
     pub rows-0 : (room : ℕ) → 32 * nodesOf d ≤ room → 0 ∷ d ∷ [] ≡ rowsTold s room
     unfolding rowsTold
     rows-0 room h =
         let k = height in
         ap (λ (x : ℕ). 0 ∷ x ∷ []) (sym k)
-        ∙ ap (λ (x : ℕ). answer x (heightOf s ∷ []))
-        (skip code 20 _ refl count (skip-lt code room (32 * nodesOf (heightOf s)) 19 [] (rw k h) (done code refl)))
+        ∙ ap (λ (x : ℕ). answer x (depthIn s ∷ []))
+        (skip code 20 _ refl count (skip-lt code room (32 * nodesOf (depthIn s)) 19 [] (rw k h) (done code refl)))
 
     -- what is written of all rows
     rows-are : flat (levels (nodesIn n s) d 0) ≡ rowsBytes s
@@ -154,7 +154,7 @@ module _ (s : List ℕ) {n : ℕ} (e : n ≡ countOf (length s)) where
         → Front o (flat (pathIn nodes d place)) out → out ≡ pathBytes s place ++ drop (length (pathBytes s place)) o
     unfolding pathBytes
     path-left {place} {o = o} h f g =
-        let bytes : flat (pathIn _ d place) ≡ flat (pathOf (leavesIn s) (heightOf s) place) =
+        let bytes : flat (pathIn _ d place) ≡ flat (pathOf (leavesIn s) (depthIn s) place) =
         ap flat (ap (λ (l : List ℕ). pathIn l d place) (f .is) ∙ path-laid (nodesIn n s) long _ d place h ∙ (rw (deep, e))) in
         g .is ∙ ap (λ (p : List ℕ). p ++ drop (length p) o) bytes
 
@@ -186,7 +186,7 @@ place-written n place room i d e = split n place
     absurd (omega arith)))
 
 -- all rows are written only where there are leaves and room, and say the depth
-pub rows-written : (s : List ℕ) (room d : ℕ) → 0 ∷ d ∷ [] ≡ rowsTold s room → (0 < countOf (length s)) × (d ≡ heightOf s) × (32 * nodesOf d ≤ room)
+pub rows-written : (s : List ℕ) (room d : ℕ) → 0 ∷ d ∷ [] ≡ rowsTold s room → (0 < countOf (length s)) × (d ≡ depthIn s) × (32 * nodesOf d ≤ room)
 rows-written s room d e = split (countOf (length s)) 0
     (λ h.
     let q = e ∙ sym (rows-20 s refl room (omega arith)) in
@@ -194,10 +194,10 @@ rows-written s room d e = split (countOf (length s)) 0
     absurd (omega arith))
     (λ some.
     let live : countOf (length s) ≡ 0 → ⊥ = λ z. omega arith in
-    split (32 * nodesOf (heightOf s)) room
+    split (32 * nodesOf (depthIn s)) room
     (λ h.
     let q = e ∙ sym (rows-0 s refl live refl room h) in
-    let k : d ≡ heightOf s = cc in
+    let k : d ≡ depthIn s = cc in
     (some, k, rw k h))
     (λ h.
     let q = e ∙ sym (rows-19 s refl live refl room h) in

@@ -29,8 +29,8 @@ countOf size = cond (eqb (size % 32) 0 && leb (size / 32) most) (size / 32) 0
 abbrev pub leavesIn : List ℕ → List (List ℕ)
 leavesIn s = nodesIn (countOf (length s)) s
 
-abbrev pub heightOf : List ℕ → ℕ
-heightOf s = depthOf (countOf (length s))
+abbrev pub depthIn : List ℕ → ℕ
+depthIn s = depthOf (countOf (length s))
 
 -- of how many leaves so many bytes are the rows, where count is asked for: of count, or of 0 where that is above `most` or the bytes are too few
 unfoldable pub heldOf : ℕ → ℕ → ℕ
@@ -67,7 +67,7 @@ unfoldable pub rootedOf : List ℕ → Rooted
 rootedOf s =
     cond (eqb (countOf (length s)) 0)
     (record { code = 20; depth = 0; root = replicate 32 0 })
-    (record { code = 0; depth = heightOf s; root = rootOf (leavesIn s) (heightOf s) })
+    (record { code = 0; depth = depthIn s; root = rootOf (leavesIn s) (depthIn s) })
 
 -- ---- The path of the leaf at a place of n leaves, where there is room for so many bytes: 20 where there is no such leaf, then 19
 
@@ -80,7 +80,7 @@ unfoldable pub pathTold : List ℕ → ℕ → ℕ → List ℕ
 pathTold s place room = placeTold (countOf (length s)) place room
 
 unfoldable pub pathBytes : List ℕ → ℕ → List ℕ
-pathBytes s place = flat (pathOf (leavesIn s) (heightOf s) place)
+pathBytes s place = flat (pathOf (leavesIn s) (depthIn s) place)
 
 -- of count leaves whose rows the bytes are
 unfoldable pub fromTold : List ℕ → ℕ → ℕ → ℕ → List ℕ
@@ -93,7 +93,7 @@ fromBytes rows count place = flat (pathIn rows (depthOf count) place)
 
 unfoldable pub rowsTold : List ℕ → ℕ → List ℕ
 rowsTold s room =
-    answer (first (when (eqb (countOf (length s)) 0) 20 ∷ when (ltb room (32 * nodesOf (heightOf s))) 19 ∷ [])) (heightOf s ∷ [])
+    answer (first (when (eqb (countOf (length s)) 0) 20 ∷ when (ltb room (32 * nodesOf (depthIn s))) 19 ∷ [])) (depthIn s ∷ [])
 
 unfoldable pub rowsBytes : List ℕ → List ℕ
-rowsBytes s = flat (levels (leavesIn s) (heightOf s) 0)
+rowsBytes s = flat (levels (leavesIn s) (depthIn s) 0)

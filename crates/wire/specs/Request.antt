@@ -34,13 +34,13 @@ abbrev pub answerNumber : Answer → ℕ
 answerNumber Passed = 0
 answerNumber (Refused code) = code
 
--- what stands for bytes that are not there
-abbrev pub noBytes : List ℕ
-noBytes = replicate 32 0
+-- what a refusal, or an absent SRV, hands out in the place of 32 bytes
+abbrev pub zeros32 : List ℕ
+zeros32 = replicate 32 0
 
 -- the answer to a refused request
 abbrev pub noRequest : ℕ → Request
-noRequest code = record { answer = Refused code; nonc = noBytes; «with_srv» = false; srv = noBytes }
+noRequest code = record { answer = Refused code; nonc = zeros32; «with_srv» = false; srv = zeros32 }
 
 -- the answer to a good one, of its message
 unfoldable pub requestIn : List ℕ → Request
@@ -49,7 +49,7 @@ requestIn m =
       answer = Passed;
       nonc = valueOf m NONC;
       «with_srv» = has m SRV;
-      srv = cond (has m SRV) (valueOf m SRV) noBytes;
+      srv = cond (has m SRV) (valueOf m SRV) zeros32;
     }
 
 -- what reading a request packet answers

@@ -9,7 +9,7 @@ use Rattle.message.specs.Rules.{messageCode}
 use Rattle.message.specs.Tags.{VER, NONC, DELE, TYPE, RADI, MIDP, SREP, MINT, ROOT, CERT, MAXT, INDX}
 use Rattle.message.specs.Values.{valueOf}
 use Rattle.wire.specs.Packet.{packetCode, body}
-use Rattle.wire.specs.Request.{noBytes}
+use Rattle.wire.specs.Request.{zeros32}
 use Rattle.wire.specs.Tables.{rootTable, srepTable, certTable, deleTable}
 use Rattle.wire.specs.declared.Answer.the-variants.{Passed, Refused}
 use Rattle.wire.specs.declared.Response.{Response}
@@ -75,7 +75,7 @@ responseCode p = first (packetCode p ∷ responseMessageCode (body p) ∷ [])
 
 -- the answer to a refused response
 abbrev pub noResponse : ℕ → Response
-noResponse code = record { answer = Refused code; nonc = noBytes; indx = 0; midp = 0; radi = 0; root = noBytes }
+noResponse code = record { answer = Refused code; nonc = zeros32; indx = 0; midp = 0; radi = 0; root = zeros32 }
 
 -- the answer to a good one, of its message
 unfoldable pub responseIn : List ℕ → Response

@@ -5,7 +5,7 @@ use native.Mathlib.Omega.{arith}
 use Rattle.pile.specs.Meaning.{GoodPile}
 use Rattle.pile.specs.Pile.{recordsIn}
 use Rattle.pile.proofs.Exactly.{code-exactly}
-use Rattle.runs.specs.Convict.{verdictAt, flagAt}
+use Rattle.runs.specs.Convict.{verdictIn, flagIn}
 use Rattle.report.specs.Report.{judged, joined}
 use Rattle.report.proofs.Moved.{says-moved}
 use Rattle.report.proofs.Says.{good-says}
@@ -37,7 +37,7 @@ returns-2 c =
     let a = start .args .answers .now in
     let g = good-of passed in
     good-says p a g (c .said-of .result)
-    (says-moved (verdictAt (verdicts .result)) (judged p a) (flagAt (flags .result)) (joined p) (recordsIn p)
+    (says-moved (verdictIn (verdicts .result)) (judged p a) (flagIn (flags .result)) (joined p) (recordsIn p)
     (λ i l. verdicts .ensures i (omega (arith, g .pile-whole .to))) (λ i l. flags .ensures i (omega (arith, g .pile-whole .to)))
     (c .said-of .result) (c .said-of .ensures))
 

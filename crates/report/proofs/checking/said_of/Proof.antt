@@ -4,7 +4,7 @@ use mathlib.Core.Path.{_≡_, subst}
 use Prim.Native.Nat.{ℕ, min}
 use native.Mathlib.Omega.{arith}
 use Rattle.runs.specs.Spans.{Answers}
-use Rattle.runs.specs.Convict.{verdictAt, flagAt, Convicts}
+use Rattle.runs.specs.Convict.{verdictIn, flagIn, Convicts}
 use Rattle.runs.specs.declared.Span.{Span}
 use Rattle.runs.specs.declared.Span.the-variants.{Places, Nothing}
 use Rattle.report.specs.Scans.{IsFirst}
@@ -15,7 +15,7 @@ use Rattle.report.proofs.checking.said_of.Statement.{statement}
 use Rattle.report.proofs.checking.said_of.Tie as tie
 
 -- where a record is refused: the first such
-first-of : (c : tie.After-k) → IsFirst (refused (verdictAt (c .before .before .before .args .t1))) (c .before .before .before .args .n) (c .k .given .0 .0)
+first-of : (c : tie.After-k) → IsFirst (refused (verdictIn (c .before .before .before .args .t1))) (c .before .before .before .args .n) (c .k .given .0 .0)
 first-of c = rw (c .k .given .1) at (c .before .before .first-refused .ensures)
 
 mul-v : tie.Need-mul-v
@@ -27,13 +27,13 @@ array-copy-out-v c = omega (arith, (first-of (c .before)) .inside)
 -- where the run is sought: what its answer comes to
 run-says : (c : tie.After-shortest-run) (s : Span) → c .shortest-run .result ≡ s
     → let start = c .before .before .before .before .before .before .before in
-    Says (verdictAt (start .args .t1)) (flagAt (start .args .flags)) (start .args .n) (spanReport s)
+    Says (verdictIn (start .args .t1)) (flagIn (start .args .flags)) (start .args .n) (spanReport s)
 run-says c s e =
     let told = c .before in
     let earlier = told .before .before .before in
     let start = earlier .before .before .before in
-    let v = verdictAt (start .args .t1) in
-    let l = flagAt (start .args .flags) in
+    let v = verdictIn (start .args .t1) in
+    let l = flagIn (start .args .flags) in
     let whole : min (start .args .n) 16 ≡ start .args .n = omega arith in
     span-says v l (start .args .n)
     (rw (earlier .enum-told .given .1) at (earlier .before .before .first-refused .ensures))
@@ -44,7 +44,7 @@ returns : tie.Need-returns
 returns c =
     let at = c .before .before .before in
     let start = at .before .before .before in
-    record-says (verdictAt (start .args .t1)) (flagAt (start .args .flags)) (start .args .n) (at .k .given .0 .0) (c .of-record .result)
+    record-says (verdictIn (start .args .t1)) (flagIn (start .args .flags)) (start .args .n) (at .k .given .0 .0) (c .of-record .result)
     (first-of at) (c .of-record .ensures)
 
 returns-2 : tie.Need-returns-2

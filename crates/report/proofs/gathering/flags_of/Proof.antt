@@ -6,14 +6,14 @@ use Prim.Native.Nat.{ℕ, _-_, _≤_, _<_}
 use native.Mathlib.Omega.{arith}
 use lib.ListN.{length, length-set}
 use Rattle.laws.proofs.Fill.{fill-next}
-use Rattle.runs.specs.Convict.{flagAt}
+use Rattle.runs.specs.Convict.{flagIn}
 use Rattle.report.specs.Report.{joined}
 use borrow.Author.Needs.{needs}
 use Rattle.report.proofs.gathering.flags_of.Statement.{statement}
 use Rattle.report.proofs.gathering.flags_of.Tie as tie
 
 abbrev Inv-loop : tie.InvT-loop
-Inv-loop pile flags₀ k₀ flags k = (k ≤ 16) × (length flags ≡ 16) × ((i : ℕ) → i < k → flagAt flags i ≡ joined pile i)
+Inv-loop pile flags₀ k₀ flags k = (k ≤ 16) × (length flags ≡ 16) × ((i : ℕ) → i < k → flagIn flags i ≡ joined pile i)
 
 abbrev μ-loop : tie.MeasureT-loop
 μ-loop pile flags₀ k₀ flags k = 16 - k

@@ -7,7 +7,7 @@ use native.Mathlib.Omega.{arith}
 use lib.ListN.{length, length-set}
 use Rattle.laws.proofs.Fill.{fill-next}
 use Rattle.pile.specs.declared.Judgement.{Judgement}
-use Rattle.runs.specs.Convict.{verdictAt}
+use Rattle.runs.specs.Convict.{verdictIn}
 use Rattle.report.specs.Report.{judged}
 use borrow.Author.Needs.{needs}
 use Rattle.report.proofs.gathering.verdicts_of.Statement.{statement}
@@ -15,7 +15,7 @@ use Rattle.report.proofs.gathering.verdicts_of.Tie as tie
 
 abbrev Inv-loop : tie.InvT-loop
 Inv-loop pile answers verdicts₀ k₀ verdicts k =
-    (k ≤ 16) × (length verdicts ≡ 16) × ((i : ℕ) → i < k → verdictAt verdicts i ≡ judged pile answers i)
+    (k ≤ 16) × (length verdicts ≡ 16) × ((i : ℕ) → i < k → verdictIn verdicts i ≡ judged pile answers i)
 
 abbrev μ-loop : tie.MeasureT-loop
 μ-loop pile answers verdicts₀ k₀ verdicts k = 16 - k
@@ -29,7 +29,7 @@ loop-again c =
     let start = c .before .before .before .before .before in (
       omega arith,
       simp length-set (loop .inv .1),
-      fill-next (judged (start .args .pile .now) (start .args .answers .now)) (verdictAt [] 0) (loop .verdicts) (loop .k) (c .judge .result .verdict)
+      fill-next (judged (start .args .pile .now) (start .args .answers .now)) (verdictIn [] 0) (loop .verdicts) (loop .k) (c .judge .result .verdict)
           (omega arith) (loop .inv .2) (ap (λ (j : Judgement). j .verdict) (c .judge .ensures)),
     )
 

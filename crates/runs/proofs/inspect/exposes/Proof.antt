@@ -3,7 +3,7 @@
 use borrow.Author.Tests.{not-true, not-false}
 use Rattle.laws.proofs.Told.{told-true, told-false, tells-test}
 use Rattle.runs.specs.Clash.{contradicting}
-use Rattle.runs.specs.Convict.{verdictAt, flagAt}
+use Rattle.runs.specs.Convict.{verdictIn, flagIn}
 use Rattle.runs.specs.Ends.{Exposes}
 use borrow.Author.Needs.{needs}
 use Rattle.runs.proofs.inspect.exposes.Statement.{statement}
@@ -17,8 +17,8 @@ returns-2 : tie.Need-returns-2
 returns-2 c =
     let called = c .before .before .before .before in
     let args = called .before .args in
-    tells-test (Exposes (verdictAt (args .t1)) (flagAt (args .linked)) (args .a) (args .b)) (c .both-contradict .result)
-    (contradicting (verdictAt (args .t1) (args .a)) (verdictAt (args .t1) (args .b))) (c .both-contradict .ensures)
+    tells-test (Exposes (verdictIn (args .t1)) (flagIn (args .linked)) (args .a) (args .b)) (c .both-contradict .result)
+    (contradicting (verdictIn (args .t1) (args .a)) (verdictIn (args .t1) (args .b))) (c .both-contradict .ensures)
     (λ t. record {
       clean = told-true (called .is-clean .result) (called .is-clean .ensures) (not-false _ (c .before .before .before .if1 .left));
       clash = t;

@@ -4,14 +4,14 @@ use mathlib.Core.Path.{_≡_, refl}
 use Prim.Native.Nat.{_+_, _-_, _≤_}
 use native.Mathlib.Omega.{arith}
 use Rattle.laws.proofs.Told.{not-is-true, not-is-false}
-use Rattle.runs.specs.Convict.{Clean, verdictAt, flagAt}
+use Rattle.runs.specs.Convict.{Clean, verdictIn, flagIn}
 use Rattle.runs.proofs.Ends.{clean-one, clean-more}
 use borrow.Author.Needs.{needs}
 use Rattle.runs.proofs.inspect.is_clean.Statement.{statement}
 use Rattle.runs.proofs.inspect.is_clean.Tie as tie
 
 abbrev Inv-loop : tie.InvT-loop
-Inv-loop a b verdicts linked k₀ k = (a ≤ k) × (k ≤ b) × Clean (verdictAt verdicts) (flagAt linked) a k
+Inv-loop a b verdicts linked k₀ k = (a ≤ k) × (k ≤ b) × Clean (verdictIn verdicts) (flagIn linked) a k
 
 abbrev μ-loop : tie.MeasureT-loop
 μ-loop a b verdicts linked k₀ k = b - k
@@ -26,7 +26,7 @@ loop-holds c =
     let start = c .before .before .before in (
       omega arith,
       omega arith,
-      clean-one (verdictAt (start .args .t1)) (flagAt (start .args .t2)) (start .args .a) (not-is-true (c .before .is-valid .ensures) (c .if1 .left)),
+      clean-one (verdictIn (start .args .t1)) (flagIn (start .args .t2)) (start .args .a) (not-is-true (c .before .is-valid .ensures) (c .if1 .left)),
     )
 
 returns-2 : tie.Need-returns-2 Inv-loop μ-loop
@@ -39,7 +39,7 @@ returns-3 c = λ h.
     let inner = c .before .before .before .before .before in
     let start = inner .before .before .before .before in
     let k = inner .loop .k in
-    not-is-false {r = flagAt (start .args .t2) (k + 1)} refl (c .if3 .taken) (h .all-linked (k + 1) (omega arith) (omega arith))
+    not-is-false {r = flagIn (start .args .t2) (k + 1)} refl (c .if3 .taken) (h .all-linked (k + 1) (omega arith) (omega arith))
 
 loop-again : tie.Need-loop-again Inv-loop μ-loop
 loop-again c =
@@ -48,9 +48,9 @@ loop-again c =
     let k = inner .loop .k in (
       omega arith,
       omega arith,
-      clean-more (verdictAt (start .args .t1)) (flagAt (start .args .t2)) (start .args .a) k (inner .loop .inv .2)
+      clean-more (verdictIn (start .args .t1)) (flagIn (start .args .t2)) (start .args .a) k (inner .loop .inv .2)
           (not-is-true (c .before .before .is-valid2 .ensures) (c .before .if2 .left))
-          (not-is-true {r = flagAt (start .args .t2) (k + 1)} refl (c .if3 .left)),
+          (not-is-true {r = flagIn (start .args .t2) (k + 1)} refl (c .if3 .left)),
     )
 
 returns-4 : tie.Need-returns-4 Inv-loop μ-loop

@@ -4,7 +4,7 @@ use Prim.Native.Nat.{ℕ, _+_, _-_, _≤_, _<_}
 use native.Mathlib.Omega.{arith}
 use borrow.Author.Count.{below-more}
 use Rattle.laws.proofs.Told.{told-true, told-false}
-use Rattle.runs.specs.Convict.{verdictAt, flagAt}
+use Rattle.runs.specs.Convict.{verdictIn, flagIn}
 use Rattle.runs.specs.Ends.{Exposes}
 use borrow.Author.Needs.{needs}
 use Rattle.runs.proofs.search.first_start.Statement.{statement}
@@ -12,7 +12,7 @@ use Rattle.runs.proofs.search.first_start.Tie as tie
 
 abbrev Inv-loop : tie.InvT-loop
 Inv-loop verdicts linked m gap starts start₀ start =
-    ((k : ℕ) → k < start → Exposes (verdictAt verdicts) (flagAt linked) k (k + gap) → ⊥) × (start ≤ starts)
+    ((k : ℕ) → k < start → Exposes (verdictIn verdicts) (flagIn linked) k (k + gap) → ⊥) × (start ≤ starts)
 
 abbrev μ-loop : tie.MeasureT-loop
 μ-loop verdicts linked m gap starts start₀ start = starts - start
@@ -34,7 +34,7 @@ loop-again c =
     let called = c .before in
     let loop = called .before .before .loop in
     let args = called .before .before .before .args in (
-      below-more (λ (k : ℕ). Exposes (verdictAt (args .verdicts)) (flagAt (args .linked)) k (k + args .gap) → ⊥) (loop .start) (loop .inv .0)
+      below-more (λ (k : ℕ). Exposes (verdictIn (args .verdicts)) (flagIn (args .linked)) k (k + args .gap) → ⊥) (loop .start) (loop .inv .0)
           (told-false (called .exposes .result) (called .exposes .ensures) (c .if1 .left)),
       omega arith,
     )

@@ -2,7 +2,7 @@
 -- Assumes nothing.
 use Prim.Native.Nat.{_-_}
 use Rattle.laws.proofs.Pairs.{Passed, begin, next, found, nothing}
-use Rattle.runs.specs.Convict.{verdictAt, flagAt}
+use Rattle.runs.specs.Convict.{verdictIn, flagIn}
 use Rattle.runs.specs.Ends.{Exposes}
 use Rattle.runs.proofs.Ends.{along, least-run, no-run}
 use borrow.Author.Needs.{needs}
@@ -10,7 +10,7 @@ use Rattle.runs.proofs.search.shortest_run.Statement.{statement}
 use Rattle.runs.proofs.search.shortest_run.Tie as tie
 
 abbrev Inv-loop : tie.InvT-loop
-Inv-loop verdicts linked n m gap₀ gap = Passed (Exposes (verdictAt verdicts) (flagAt linked)) m gap 0
+Inv-loop verdicts linked n m gap₀ gap = Passed (Exposes (verdictIn verdicts) (flagIn linked)) m gap 0
 
 abbrev μ-loop : tie.MeasureT-loop
 μ-loop verdicts linked n m gap₀ gap = m - gap
