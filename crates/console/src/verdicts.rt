@@ -11,14 +11,13 @@ use super::lines::put_record;
 use super::lines::put_run;
 use super::pieces::put_word;
 use libc::STDOUT_FILENO;
+use pile::RECORD;
 use pile::judge;
 use report::Taken;
 use report::cut_run;
 
-// The length of a record, and that of sixteen, the most that a pile has.
-const RECORD: usize = 4096;
-
-const LONGEST: usize = 65536;
+// The length of sixteen records, the most that a pile has.
+const LONGEST: usize = 16 * RECORD;
 
 // Tells of any pile and any answers. The page has room for sixteen records, and is written at once.
 pub fn tell<'a>(pile: &'a [u8], answers: &'a [u8]) {

@@ -10,6 +10,7 @@ pub use judging::judge;
 pub use linking::first_rand_zero;
 pub use linking::linked;
 pub use piles::pile_code;
+pub use records::RECORD;
 use verdict::Verdict;
 
 // What is said of one record: its place, from 0, and its window or the code of its refusal.

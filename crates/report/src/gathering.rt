@@ -8,9 +8,6 @@ use pile::judge;
 use pile::linked;
 use verdict::Verdict;
 
-// The length of a record.
-pub const RECORD: usize = 4096;
-
 // The verdicts. A place without a record holds a refusal.
 pub fn verdicts_of<'a>(pile: &'a [u8], answers: &'a [u8]) -> [Verdict; 16]
     ensures { λ r. ⌜ ((k : ℕ) → k < 16 → verdictIn r k ≡ judged (now (pile .entry)) (now (answers .entry)) k) ⌝ }
