@@ -5,7 +5,8 @@ use crate::sides::{work, Side, Subject, Work};
 use independent::hash;
 use std::hint::black_box;
 
-/// Where ours may be no slower than the limit allows against sha2: a request with its header, which a server hashes for each client.
+/// Where ours may be no slower than the limit allows against sha2: a request with its header, which
+/// a server hashes for each client.
 const PACKET: usize = 1036;
 
 /// Bytes without a pattern, though SHA-512 takes the same time over any.

@@ -22,7 +22,8 @@ impl Limits {
     }
 }
 
-/// A limit from the environment, or its default. What is no number stops the program, lest a slip of the hand lift the limit.
+/// A limit from the environment, or its default. What is no number stops the program, lest a slip
+/// of the hand lift the limit.
 fn limit(name: &str, default: f64) -> f64 {
     match env::var(name) {
         Err(_) => default,

@@ -1,9 +1,12 @@
-//! Times the proved library against the independent implementation and, built through benchmarks/peer, against RustCrypto's sha2.
+//! Times the proved library against the independent implementation and, built through
+//! benchmarks/peer, against RustCrypto's sha2.
 //!
-//! All sides run in this one process, on the same bytes, in turns, and the best of many turns counts: whatever else
-//! the machine does then hits all of them alike, and the best turn is the one that it hit least.
+//! All sides run in this one process, on the same bytes, in turns, and the best of many turns
+//! counts: whatever else the machine does then hits all of them alike, and the best turn is the one
+//! that it hit least.
 //!
-//! A ratio is our time by the other's: below 1 ours is the faster. The program fails where a ratio is above its limit.
+//! A ratio is our time by the other's: below 1 ours is the faster. The program fails where a ratio
+//! is above its limit.
 
 mod hashes;
 mod limits;
@@ -24,11 +27,19 @@ struct Table {
     show: fn(usize, f64) -> f64,
 }
 
-const HASHES: Table =
-    Table { width: 22, unit: "MB/s", sides: SIDES, show: |length, seconds| length as f64 / seconds / 1e6 };
+const HASHES: Table = Table {
+    width: 22,
+    unit: "MB/s",
+    sides: SIDES,
+    show: |length, seconds| length as f64 / seconds / 1e6,
+};
 
-const PILES: Table =
-    Table { width: 40, unit: "us", sides: &[Side::Ours, Side::Independent], show: |_, seconds| seconds * 1e6 };
+const PILES: Table = Table {
+    width: 40,
+    unit: "us",
+    sides: &[Side::Ours, Side::Independent],
+    show: |_, seconds| seconds * 1e6,
+};
 
 impl Table {
     /// The names of the columns: a measure for each side, then a ratio for each side but ours.
@@ -43,20 +54,31 @@ impl Table {
         cells.fold(format!("{name:<width$}"), |line, cell| line + &format!("{cell:>18}"))
     }
 
-    /// Times one subject on each side that has it, prints its line, and adds what is above its limit to `above`.
+    /// Times one subject on each side that has it, prints its line, and adds what is above its
+    /// limit to `above`.
     fn report(&self, mut subject: Subject, above: &mut Vec<String>) {
         let times = timing::best_times(&mut subject.works);
-        let time_of = |side: Side| times.iter().find(|(timed, _)| *timed == side).map(|(_, time)| *time);
+        let time_of =
+            |side: Side| times.iter().find(|(timed, _)| *timed == side).map(|(_, time)| *time);
         let ours = time_of(Side::Ours).expect("every subject has our side");
-        let shown = |number: Option<f64>, digits: usize| number.map_or("-".into(), |n| format!("{n:.digits$}"));
-        let measures =
-            self.sides.iter().map(|side| shown(time_of(*side).map(|time| (self.show)(subject.length, time)), 1));
-        let ratios = self.sides[1..].iter().map(|side| shown(time_of(*side).map(|time| ours / time), 3));
+        let shown = |number: Option<f64>, digits: usize| {
+            number.map_or("-".into(), |n| format!("{n:.digits$}"))
+        };
+        let measures = self
+            .sides
+            .iter()
+            .map(|side| shown(time_of(*side).map(|time| (self.show)(subject.length, time)), 1));
+        let ratios =
+            self.sides[1..].iter().map(|side| shown(time_of(*side).map(|time| ours / time), 3));
         println!("{}", self.line(&subject.name, measures.chain(ratios)));
         for (side, limit) in &subject.limits {
             let ratio = time_of(*side).map(|time| ours / time);
             if let Some(ratio) = ratio.filter(|ratio| ratio > limit) {
-                above.push(format!("{}: ours/{} is {ratio:.3}, above {limit}", subject.name, side.name()));
+                above.push(format!(
+                    "{}: ours/{} is {ratio:.3}, above {limit}",
+                    subject.name,
+                    side.name()
+                ));
             }
         }
     }
@@ -66,13 +88,19 @@ fn main() -> ExitCode {
     let limits = Limits::read();
     let mut above = Vec::new();
     println!("the best of several turns; a ratio is of times, so below 1 ours is the faster");
-    println!("limits for sha512: ours/independent {}, ours/sha2 {} at 1,036 bytes", limits.independent, limits.sha2);
+    println!(
+        "limits for sha512: ours/independent {}, ours/sha2 {} at 1,036 bytes",
+        limits.independent, limits.sha2
+    );
     println!("{}", HASHES.header());
     let data = hashes::bytes(64 << 20);
     for subject in hashes::subjects(&data, &limits) {
         HASHES.report(subject, &mut above);
     }
-    println!("limit for a full pile: ours/independent {}; no buffer is cleared between runs", limits.piles);
+    println!(
+        "limit for a full pile: ours/independent {}; no buffer is cleared between runs",
+        limits.piles
+    );
     println!("{}", PILES.header());
     for plan in &piles::plans() {
         PILES.report(plan.subject(&limits), &mut above);

@@ -1,6 +1,7 @@
 //! The piles that are timed: valid and linked records, as full as a packet may be or smaller.
 //!
-//! The buffer that the cutter writes into is not cleared between runs: each run writes over what the one before it left.
+//! The buffer that the cutter writes into is not cleared between runs: each run writes over what
+//! the one before it left.
 
 use crate::limits::Limits;
 use crate::sides::{work, Side, Subject, Work};
@@ -21,8 +22,8 @@ pub struct Shape {
 const FULL: Shape = Shape { records: pile::MOST_RECORDS, siblings: 32, packet: packet::MOST };
 
 impl Shape {
-    /// The window of a record. Only the first and the last contradict each other, so that every other run is tried before the one
-    /// that is found, and the whole pile is cut.
+    /// The window of a record. Only the first and the last contradict each other, so that every
+    /// other run is tried before the one that is found, and the whole pile is cut.
     fn window(self, place: usize) -> (u64, u32) {
         match place {
             0 => (1000, 10),
@@ -35,7 +36,12 @@ impl Shape {
         let link = |place: usize| {
             let (midp, radi) = self.window(place);
             let Shape { siblings, packet, .. } = self;
-            Link { siblings, request_size: packet, response_size: packet, ..Link::new(place as u8, midp, radi) }
+            Link {
+                siblings,
+                request_size: packet,
+                response_size: packet,
+                ..Link::new(place as u8, midp, radi)
+            }
         };
         making::chain(&(0..self.records).map(link).collect::<Vec<_>>())
     }
@@ -76,8 +82,10 @@ fn ours<'a>(operation: Operation, made: &'a Made) -> Work<'a> {
                 let _ = black_box(trawlbeacon::judge(pile, answers, place));
             }
         }
-        let pair = operation.has(Operation::Report).then(|| trawlbeacon::check_report(pile, answers));
-        let run = operation.has(Operation::Cutter).then(|| trawlbeacon::cut_run(pile, answers, &mut out));
+        let pair =
+            operation.has(Operation::Report).then(|| trawlbeacon::check_report(pile, answers));
+        let run =
+            operation.has(Operation::Cutter).then(|| trawlbeacon::cut_run(pile, answers, &mut out));
         black_box(&out);
         (pair, run)
     })
@@ -97,12 +105,20 @@ fn independents<'a>(operation: Operation, made: &'a Made) -> Work<'a> {
     })
 }
 
-fn subject<'a>(name: String, operation: Operation, made: &'a Made, limit: Option<f64>) -> Subject<'a> {
+fn subject<'a>(
+    name: String,
+    operation: Operation,
+    made: &'a Made,
+    limit: Option<f64>,
+) -> Subject<'a> {
     Subject {
         name,
         length: made.pile.len(),
         limits: limit.map(|limit| (Side::Independent, limit)).into_iter().collect(),
-        works: vec![(Side::Ours, ours(operation, made)), (Side::Independent, independents(operation, made))],
+        works: vec![
+            (Side::Ours, ours(operation, made)),
+            (Side::Independent, independents(operation, made)),
+        ],
     }
 }
 
@@ -119,11 +135,15 @@ pub fn plans() -> Vec<Plan> {
         .map(|operation| (operation, FULL));
     let fewer = [1, 2, 4, 8].map(|records| Shape { records, ..FULL });
     let shallower = [0, 8, 16, 24].map(|siblings| Shape { siblings, ..FULL });
-    // With no sibling a response takes 404 bytes, so that packets of every one of these sizes can be had.
-    // Of 2,000 bytes and no sibling it is one of those above.
+    // With no sibling a response takes 404 bytes, so that packets of every one of these sizes can
+    // be had. Of 2,000 bytes and no sibling it is one of those above.
     let smaller = [500, 750, 1000, 1500].map(|packet| Shape { packet, siblings: 0, ..FULL });
-    let partly = [fewer, shallower, smaller].concat().into_iter().map(|shape| (Operation::Whole, shape));
-    full.into_iter().chain(partly).map(|(operation, shape)| Plan { shape, operation, made: shape.made() }).collect()
+    let partly =
+        [fewer, shallower, smaller].concat().into_iter().map(|shape| (Operation::Whole, shape));
+    full.into_iter()
+        .chain(partly)
+        .map(|(operation, shape)| Plan { shape, operation, made: shape.made() })
+        .collect()
 }
 
 impl Plan {

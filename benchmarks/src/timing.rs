@@ -3,8 +3,8 @@
 use crate::sides::{Side, Work};
 use std::time::{Duration, Instant};
 
-/// How long one turn of one side is to take: long beside the clock's own cost, short beside a scheduler's slice,
-/// so that some turn is likely to run undisturbed.
+/// How long one turn of one side is to take: long beside the clock's own cost, short beside a
+/// scheduler's slice, so that some turn is likely to run undisturbed.
 const TURN: Duration = Duration::from_millis(4);
 
 /// How many turns each side has. One that takes longer than a turn's time by itself has fewer.
@@ -19,7 +19,8 @@ fn time(work: &mut Work, calls: u32) -> Duration {
     start.elapsed()
 }
 
-/// How many calls of `work` fill a turn. The count is doubled until it does, which warms the caches up as well.
+/// How many calls of `work` fill a turn. The count is doubled until it does, which warms the caches
+/// up as well.
 fn calls_for_a_turn(work: &mut Work) -> u32 {
     let mut calls = 1;
     while time(work, calls) < TURN {
@@ -30,7 +31,8 @@ fn calls_for_a_turn(work: &mut Work) -> u32 {
 
 /// The best time of one call on each side, in seconds.
 ///
-/// Each round gives every side one turn, and each round starts with another side, so that none always runs behind the same one.
+/// Each round gives every side one turn, and each round starts with another side, so that none
+/// always runs behind the same one.
 pub fn best_times(works: &mut [(Side, Work)]) -> Vec<(Side, f64)> {
     // One count for all sides, so that all have turns of the same work.
     let calls = works.iter_mut().map(|(_, work)| calls_for_a_turn(work)).max().unwrap_or(1);
@@ -42,5 +44,9 @@ pub fn best_times(works: &mut [(Side, Work)]) -> Vec<(Side, f64)> {
             best[at] = best[at].min(time(&mut works[at].1, calls));
         }
     }
-    works.iter().zip(best).map(|((side, _), best)| (*side, best.as_secs_f64() / f64::from(calls))).collect()
+    works
+        .iter()
+        .zip(best)
+        .map(|((side, _), best)| (*side, best.as_secs_f64() / f64::from(calls)))
+        .collect()
 }

@@ -1,9 +1,11 @@
 /* Calls the proved library from C, and so shows that the header declares it as it was compiled.
  *
- * It hashes "abc" and the empty message and compares the digests with NIST's, then holds each other function to what the header
- * says of it: a hash by the digest of its parts joined, a tree of three leaves by its nodes, a reader and the check by a request of
- * ours and by a response that draft 19 prints, a lookup by the place of the record, a pile by the times it was made of, a writer by what
- * it leaves in a buffer. Whether all of that is right on every input is for the tests of hosts/rust.
+ * It hashes "abc" and the empty message and compares the digests with NIST's, then holds each other
+ * function to what the header says of it: a hash by the digest of its parts joined, a tree of three
+ * leaves by its nodes, a reader and the check by a request of ours and by a response that draft 19
+ * prints, a lookup by the place of the record, a pile by the times it was made of, a writer by what
+ * it leaves in a buffer, the words of a code by some of them. Whether all of that is right on every
+ * input is for the tests of hosts/rust.
  */
 #include "response.h"
 #include "trawlbeacon.h"
@@ -20,12 +22,16 @@ static const char EMPTY[] = "cf83e1357eefb8bdf1542850d66d8007d620e4050b5715dc83f
 
 enum { RESPONSE_LENGTH = sizeof RESPONSE };
 
-/* Where things stand in that response. */
-enum { NONC_AT = 132, SREP_AT = 168, SREP_LENGTH = 92, RADI_AT = 212, MIDP_AT = 216, ROOT_AT = 228 };
-enum { DELE_AT = 340, DELE_LENGTH = 72, MINT_AT = 396, MAXT_AT = 404 };
+/* Where things stand in that response. In another one they may stand elsewhere: a host that reads
+ * them at these places can be deceived. */
+enum { SIG_AT = 68, NONC_AT = 132, TYPE_AT = 164 };
+enum { SREP_AT = 168, SREP_LENGTH = 92, RADI_AT = 212, MIDP_AT = 216, ROOT_AT = 228 };
+enum { CERT_SIG_AT = 276, DELE_AT = 340, DELE_LENGTH = 72 };
+enum { PUBK_AT = 364, MINT_AT = 396, MAXT_AT = 404 };
 
 /* Where things stand in a record of a pile. */
-enum { RAND_AT = 32, REQUEST_LENGTH_AT = 64, RESPONSE_LENGTH_AT = 68, GAP_AT = 72, REQUEST_AT = 96, RESPONSE_AT = 2096 };
+enum { RAND_AT = 32, REQUEST_LENGTH_AT = 64, RESPONSE_LENGTH_AT = 68, GAP_AT = 72 };
+enum { REQUEST_AT = 96, RESPONSE_AT = 2096 };
 
 static int compared, differing;
 
@@ -47,7 +53,8 @@ static void from_hex(const char *text, uint8_t *bytes, size_t n) {
 static void expect_number(const char *what, uint64_t is, uint64_t should) {
     compared++;
     if (is == should) return;
-    printf("%s differs: it is %llu, and it should be %llu\n", what, (unsigned long long)is, (unsigned long long)should);
+    printf("%s differs: it is %llu, and it should be %llu\n", what, (unsigned long long)is,
+           (unsigned long long)should);
     differing++;
 }
 
@@ -70,21 +77,25 @@ static void expect_all(const char *what, const uint8_t *is, uint8_t should, size
 }
 
 /* Compares a digest of 64 bytes with the hex that it should be. */
-static void expect_digest(const char *what, const uint8_t *message, size_t n, const char *expected) {
+static void expect_digest(const char *what, const uint8_t *message, size_t n,
+                          const char *expected) {
     uint8_t out[64] = {0}, should[64];
     tb_sha512(message, n, out);
     from_hex(expected, should, sizeof should);
     expect_bytes(what, out, should, sizeof out);
 }
 
-/* Compares a hash of 32 bytes with the start of the digest of the message that it should be the hash of. */
-static void expect_hash(const char *what, const uint8_t hash[32], const uint8_t *message, size_t n) {
+/* Compares a hash of 32 bytes with the start of the digest of the message that it should be the
+ * hash of. */
+static void expect_hash(const char *what, const uint8_t hash[32], const uint8_t *message,
+                        size_t n) {
     uint8_t digest[64] = {0};
     tb_sha512(message, n, digest);
     expect_bytes(what, hash, digest, 32);
 }
 
-/* Each function over parts that stand one after the other in one array, beside the hash of that array. */
+/* Each function over parts that stand one after the other in one array, beside the hash of that
+ * array. */
 static void expect_hashes(void) {
     uint8_t joined[1 + 64], out[32] = {0};
     for (size_t i = 0; i < sizeof joined; i++) joined[i] = (uint8_t)(37 * i + 11);
@@ -115,9 +126,13 @@ static void expect_request(void) {
     memset(out, 0xee, sizeof out);
     tb_srv_value(key, srv);
 
-    expect_number("tb_write_request without room", tb_write_request(key, nonce, out, TB_REQUEST_LENGTH - 1), 19);
+    struct tb_wrote wrote = tb_write_request(key, nonce, out, TB_REQUEST_LENGTH - 1);
+    expect_number("tb_write_request without room", wrote.code, 19);
+    expect_number("length of a request without room", wrote.length, 0);
     expect_all("a buffer without room", out, 0xee, sizeof out);
-    expect_number("tb_write_request", tb_write_request(key, nonce, out, sizeof out), 0);
+    wrote = tb_write_request(key, nonce, out, sizeof out);
+    expect_number("tb_write_request", wrote.code, 0);
+    expect_number("length of a request", wrote.length, TB_REQUEST_LENGTH);
     expect_all("what follows the request", out + TB_REQUEST_LENGTH, 0xee, 8);
 
     struct tb_request read = tb_read_request(out, TB_REQUEST_LENGTH);
@@ -161,14 +176,45 @@ static void expect_response(const uint8_t *packet) {
     expect_refused_response(packet, 0, 1);
 }
 
-typedef struct tb_text writer(const uint8_t *packet, size_t n, uint8_t *out, size_t m);
+static void expect_refused_parts(const uint8_t *packet, size_t n, uint32_t code) {
+    struct tb_parts parts = tb_signed_parts(packet, n);
+    expect_number("code of refused parts", parts.code, code);
+    expect_all("signature of refused parts", parts.signature, 0, sizeof parts.signature);
+    expect_all("delegation of refused parts", parts.delegation, 0, sizeof parts.delegation);
+    expect_all("pubk of refused parts", parts.pubk, 0, sizeof parts.pubk);
+}
 
-/* Writes a text, where there is room and where there is none: the context with its zero byte, then the value. */
-static void expect_text(writer *write, const uint8_t *packet, const char *context, const uint8_t *value, size_t n) {
+/* What is verified in the response. A wrong TYPE stops nothing; a request has no SIG. */
+static void expect_parts(const uint8_t *packet) {
+    uint8_t other[RESPONSE_LENGTH], request[TB_REQUEST_LENGTH] = {0};
+    struct tb_parts parts = tb_signed_parts(packet, RESPONSE_LENGTH);
+    expect_number("code of the parts", parts.code, 0);
+    expect_bytes("signature of the parts", parts.signature, packet + SIG_AT,
+                 sizeof parts.signature);
+    expect_bytes("delegation of the parts", parts.delegation, packet + CERT_SIG_AT,
+                 sizeof parts.delegation);
+    expect_bytes("pubk of the parts", parts.pubk, packet + PUBK_AT, sizeof parts.pubk);
+    memcpy(other, packet, sizeof other);
+    other[TYPE_AT] = 7;
+    expect_number("code of the parts with another TYPE", tb_signed_parts(other, sizeof other).code,
+                  0);
+    tb_write_request(KEY, packet + NONC_AT, request, sizeof request);
+    expect_refused_parts(request, sizeof request, 6);
+    expect_refused_parts(packet, RESPONSE_LENGTH - 4, 3);
+    expect_refused_parts(packet, 0, 1);
+}
+
+typedef struct tb_wrote writer(const uint8_t *packet, size_t packet_len, uint8_t *out,
+                               size_t out_len);
+
+/* Writes a text, where there is room and where there is none: the context with its zero byte, then
+ * the value. */
+static void expect_text(writer *write, const uint8_t *packet, const char *context,
+                        const uint8_t *value, size_t n) {
     uint8_t out[200];
     size_t front = strlen(context) + 1;
     memset(out, 0xee, sizeof out);
-    struct tb_text text = write(packet, RESPONSE_LENGTH, out, front + n - 1);
+    struct tb_wrote text = write(packet, RESPONSE_LENGTH, out, front + n - 1);
     expect_number("code of a text without room", text.code, 19);
     expect_number("length of a text without room", text.length, 0);
     text = write(packet, 12, out, sizeof out);
@@ -184,8 +230,8 @@ static void expect_text(writer *write, const uint8_t *packet, const char *contex
     expect_all("what follows a text", out + front + n, 0xee, sizeof out - front - n);
 }
 
-/* The nodes of the tree of three leaves, in the order of its rows: four leaves, of which the last is an empty place, their two parents and
- * the root. */
+/* The nodes of the tree of three leaves, in the order of its rows: four leaves, of which the last
+ * is an empty place, their two parents and the root. */
 static void lay_three(uint8_t nodes[7][32]) {
     for (uint8_t i = 0; i < 3; i++) memset(nodes[i], 0x31 + i, 32);
     tb_empty_place(nodes[3]);
@@ -194,7 +240,8 @@ static void lay_three(uint8_t nodes[7][32]) {
     tb_parent(nodes[4], nodes[5], nodes[6]);
 }
 
-static void expect_placed(const char *what, struct tb_placed is, uint64_t code, uint64_t indx, uint64_t depth) {
+static void expect_placed(const char *what, struct tb_placed is, uint64_t code, uint64_t indx,
+                          uint64_t depth) {
     expect_number(what, is.code, code);
     expect_number(what, is.indx, indx);
     expect_number(what, is.depth, depth);
@@ -214,7 +261,8 @@ static void expect_paths(uint8_t nodes[7][32]) {
     expect_placed("tb_path without room", tb_path(leaves, 96, 0, out, 63), 19, 0, 0);
     expect_placed("tb_path past the last leaf", tb_path(leaves, 96, 3, out, sizeof out), 20, 0, 0);
     expect_placed("tb_path of no whole leaves", tb_path(leaves, 95, 0, out, sizeof out), 20, 0, 0);
-    expect_placed("tb_path_from of short rows", tb_path_from(leaves, 223, 3, 0, out, sizeof out), 20, 0, 0);
+    expect_placed("tb_path_from of short rows", tb_path_from(leaves, 223, 3, 0, out, sizeof out),
+                  20, 0, 0);
     expect_placed("tb_path_from without room", tb_path_from(leaves, 224, 3, 0, out, 63), 19, 0, 0);
     expect_all("the buffer of a refused path", out, 0xee, sizeof out);
     expect_placed("tb_path", tb_path(leaves, 96, 0, out, sizeof out), 0, 3, 2);
@@ -254,10 +302,27 @@ static void expect_tree(void) {
 
 static void expect_verdict(const char *what, struct tb_verdict is, struct tb_verdict should) {
     expect_number(what, is.code, should.code);
-    expect_number(what, is.midp, should.midp);
     expect_number(what, is.radi, should.radi);
+    expect_number(what, is.midp, should.midp);
     expect_number(what, is.low, should.low);
     expect_number(what, is.high, should.high);
+}
+
+/* Numbers that are not 1, among them what a library may answer to say that it failed: each is a
+ * no. */
+static const uint32_t NOES[] = {0,   (uint32_t)-1, (uint32_t)-2, 2,         3,
+                                256, 257,          0x01000000,   0x80000001};
+
+static void expect_noes(const uint8_t *request, size_t n, const uint8_t *response, size_t m) {
+    struct tb_verdict delegation = {.code = 12}, signature = {.code = 13};
+    for (size_t i = 0; i < sizeof NOES / sizeof NOES[0]; i++) {
+        uint32_t no = NOES[i];
+        expect_verdict("no delegation", tb_check_response(request, n, response, m, no, 1),
+                       delegation);
+        expect_verdict("no signature", tb_check_response(request, n, response, m, 1, no),
+                       signature);
+        expect_verdict("neither", tb_check_response(request, n, response, m, no, no), delegation);
+    }
 }
 
 /* The request that the response answers is the one that we write with its nonce. */
@@ -265,57 +330,65 @@ static void expect_checks(const uint8_t *packet) {
     uint8_t request[TB_REQUEST_LENGTH] = {0};
     size_t n = sizeof request, m = RESPONSE_LENGTH;
     tb_write_request(KEY, packet + NONC_AT, request, n);
-    struct tb_verdict valid = {0, 1773685571, 3, 1773685568, 1773685574};
-    expect_verdict("a valid response", tb_check_response(request, n, packet, m, true, true), valid);
-    struct tb_verdict delegation = {.code = 12}, signature = {.code = 13}, bad = {.code = 14}, cut = {.code = 3}, other = {.code = 9};
-    expect_verdict("no delegation", tb_check_response(request, n, packet, m, false, true), delegation);
-    expect_verdict("no signature", tb_check_response(request, n, packet, m, true, false), signature);
-    expect_verdict("a bad request", tb_check_response(request, n - 1, packet, m - 1, false, false), bad);
-    expect_verdict("a response cut short", tb_check_response(request, n, packet, m - 1, false, false), cut);
+    struct tb_verdict valid = {0, 3, 1773685571, 1773685568, 1773685574};
+    expect_verdict("a valid response", tb_check_response(request, n, packet, m, 1, 1), valid);
+    struct tb_verdict bad = {.code = 14}, cut = {.code = 3}, other = {.code = 9};
+    expect_noes(request, n, packet, m);
+    expect_verdict("a bad request", tb_check_response(request, n - 1, packet, m - 1, 0, 0), bad);
+    expect_verdict("a response cut short", tb_check_response(request, n, packet, m - 1, 0, 0), cut);
     tb_write_request(KEY, KEY, request, n);
-    expect_verdict("another request", tb_check_response(request, n, packet, m, true, true), other);
+    expect_verdict("another request", tb_check_response(request, n, packet, m, 1, 1), other);
 }
 
-static void expect_found(const char *what, struct tb_found is, uint64_t code, uint64_t list, uint64_t offset) {
+static void expect_found(const char *what, struct tb_found is, uint64_t code, uint64_t list,
+                         uint64_t offset) {
     expect_number(what, is.code, code);
     expect_number(what, is.list, list);
     expect_number(what, is.offset, offset);
 }
 
-/* Two lists of two records; the second SRV value of the owner's list is the first of the shipped one. */
+/* Two lists of two records; the second SRV value of the owner's list is the first of the shipped
+ * one. */
 static void expect_lookups(void) {
     uint8_t owner[128], shipped[128];
     for (size_t i = 0; i < 4; i++) memset(owner + 32 * i, (int)i, 32);
     for (size_t i = 0; i < 4; i++) memset(shipped + 32 * i, (int)i + 2, 32);
     const uint8_t *first = owner + 32, *second = owner + 96, *last = shipped + 96, *key = shipped;
-    expect_found("the first of the owner's", tb_find_server(owner, 128, shipped, 128, first), 0, 0, 0);
+    expect_found("the first of the owner's", tb_find_server(owner, 128, shipped, 128, first), 0, 0,
+                 0);
     expect_found("one in both lists", tb_find_server(owner, 128, shipped, 128, second), 0, 0, 64);
-    expect_found("one in both lists, without the owner's", tb_find_server(owner, 0, shipped, 128, second), 0, 1, 0);
-    expect_found("the last of the shipped", tb_find_server(owner, 128, shipped, 128, last), 0, 1, 64);
+    expect_found("one in both lists, without the owner's",
+                 tb_find_server(owner, 0, shipped, 128, second), 0, 1, 0);
+    expect_found("the last of the shipped", tb_find_server(owner, 128, shipped, 128, last), 0, 1,
+                 64);
     expect_found("a key", tb_find_server(owner, 128, shipped, 128, key), 22, 0, 0);
     expect_found("a broken list", tb_find_server(owner, 128, shipped, 127, first), 21, 0, 0);
 }
 
-/* Document 01's fifth example: what four records say of the time. The last contradicts the two before it, and the run is 2 to 3. */
+/* Document 01's fifth example: what four records say of the time. The last contradicts the two
+ * before it, and the run is 2 to 3. */
 enum { RECORDS = 4, PILE_LENGTH = RECORDS * TB_RECORD_LENGTH };
 static const struct tb_verdict TIMES[RECORDS] = {
-    {0, 1000, 10, 990, 1010},
-    {0, 1500, 10, 1490, 1510},
-    {0, 1495, 1, 1494, 1496},
-    {0, 1400, 10, 1390, 1410},
+    {0, 10, 1000, 990, 1010},
+    {0, 10, 1500, 1490, 1510},
+    {0, 1, 1495, 1494, 1496},
+    {0, 10, 1400, 1390, 1410},
 };
-static const uint8_t YES[2 * (TB_MOST_RECORDS + 1)] = {1, 1, 1, 1, 1, 1, 1, 1, 1, 1, 1, 1, 1, 1, 1, 1, 1,
-                                                       1, 1, 1, 1, 1, 1, 1, 1, 1, 1, 1, 1, 1, 1, 1, 1, 1};
+static const uint8_t YES[2 * (TB_MOST_RECORDS + 1)] = {1, 1, 1, 1, 1, 1, 1, 1, 1, 1, 1, 1,
+                                                       1, 1, 1, 1, 1, 1, 1, 1, 1, 1, 1, 1,
+                                                       1, 1, 1, 1, 1, 1, 1, 1, 1, 1};
 
 /* Writes a number in n bytes, least significant first. */
 static void put_number(uint8_t *at, uint64_t number, size_t n) {
     for (size_t i = 0; i < n; i++) at[i] = (uint8_t)(number >> 8 * i);
 }
 
-/* Makes record k of a pile of the response: a request with the nonce that links it to the record before, and the response with that
- * nonce, with the request as the only leaf of its tree, and with another time, which a delegation for all times allows. */
+/* Makes record k of a pile of the response: a request with the nonce that links it to the record
+ * before, and the response with that nonce, with the request as the only leaf of its tree, and with
+ * another time, which a delegation for all times allows. */
 static void lay_record(uint8_t *record, size_t k, struct tb_verdict time) {
-    uint8_t *rand = record + RAND_AT, *request = record + REQUEST_AT, *response = record + RESPONSE_AT, nonce[32] = {0};
+    uint8_t *rand = record + RAND_AT, *request = record + REQUEST_AT,
+            *response = record + RESPONSE_AT, nonce[32] = {0};
     memset(record, 0, TB_RECORD_LENGTH);
     memcpy(record, KEY, sizeof KEY);
     memset(rand, (int)k, 32);
@@ -332,27 +405,31 @@ static void lay_record(uint8_t *record, size_t k, struct tb_verdict time) {
     put_number(response + MAXT_AT, UINT64_MAX, 8);
 }
 
-static void expect_judged(const char *what, struct tb_judged is, uint64_t place, struct tb_verdict should) {
-    struct tb_verdict verdict = {is.code, is.midp, is.radi, is.low, is.high};
+static void expect_judged(const char *what, struct tb_judged is, uint64_t place,
+                          struct tb_verdict should) {
+    struct tb_verdict verdict = {is.code, is.radi, is.midp, is.low, is.high};
     expect_number(what, is.place, place);
     expect_verdict(what, verdict, should);
 }
 
-static void expect_reported(const char *what, struct tb_reported is, uint64_t code, uint64_t place, uint64_t first, uint64_t second) {
+static void expect_reported(const char *what, struct tb_reported is, uint64_t code, uint64_t place,
+                            uint64_t first, uint64_t second) {
     expect_number(what, is.code, code);
     expect_number(what, is.place, place);
     expect_number(what, is.first, first);
     expect_number(what, is.second, second);
 }
 
-static void expect_cut(const char *what, struct tb_cut is, uint64_t code, uint64_t first, uint64_t last) {
+static void expect_cut(const char *what, struct tb_cut is, uint64_t code, uint64_t first,
+                       uint64_t last) {
     expect_number(what, is.code, code);
     expect_number(what, is.first, first);
     expect_number(what, is.last, last);
 }
 
-/* Holds every function to 15, or to no where it answers with a bool. */
-static void expect_bad_pile(const char *what, const uint8_t *pile, size_t n, const uint8_t *answers, size_t m) {
+/* Holds every function that takes answers to 15. */
+static void expect_bad_pile(const char *what, const uint8_t *pile, size_t n, const uint8_t *answers,
+                            size_t m) {
     static uint8_t out[(TB_MOST_RECORDS + 1) * TB_RECORD_LENGTH];
     struct tb_verdict bad = {.code = 15};
     memset(out, 0xee, sizeof out);
@@ -377,8 +454,10 @@ static void expect_bad_piles(const uint8_t *pile) {
     expect_bad_pile("an answer that is neither", pile, PILE_LENGTH, neither, sizeof neither);
     expect_number("tb_linked in 17 records", tb_linked(many, sizeof many, 1), 0);
     expect_number("tb_first_rand_zero of 17 records", tb_first_rand_zero(many, sizeof many), 0);
-    expect_number("tb_first_rand_zero of 16 records", tb_first_rand_zero(many, sizeof many - TB_RECORD_LENGTH), 1);
-    expect_number("tb_pile_code of 16 records", tb_pile_code(many, sizeof many - TB_RECORD_LENGTH, YES, sizeof YES - 2), 0);
+    expect_number("tb_first_rand_zero of 16 records",
+                  tb_first_rand_zero(many, sizeof many - TB_RECORD_LENGTH), 1);
+    expect_number("tb_pile_code of 16 records",
+                  tb_pile_code(many, sizeof many - TB_RECORD_LENGTH, YES, sizeof YES - 2), 0);
 }
 
 /* The four records one by one, and the place behind them. */
@@ -388,26 +467,33 @@ static void expect_records(const uint8_t *pile) {
         expect_judged("a record", tb_judge(pile, PILE_LENGTH, YES, 2 * RECORDS, k), k, TIMES[k]);
         expect_number("tb_linked", tb_linked(pile, PILE_LENGTH, k), k > 0);
     }
-    expect_judged("no record", tb_judge(pile, PILE_LENGTH, YES, 2 * RECORDS, RECORDS), RECORDS, nothing);
+    expect_judged("no record", tb_judge(pile, PILE_LENGTH, YES, 2 * RECORDS, RECORDS), RECORDS,
+                  nothing);
     expect_number("tb_linked of no record", tb_linked(pile, PILE_LENGTH, RECORDS), 0);
     expect_number("tb_first_rand_zero", tb_first_rand_zero(pile, PILE_LENGTH), 1);
-    expect_number("tb_first_rand_zero of another rand", tb_first_rand_zero(pile + TB_RECORD_LENGTH, TB_RECORD_LENGTH), 0);
+    expect_number("tb_first_rand_zero of another rand",
+                  tb_first_rand_zero(pile + TB_RECORD_LENGTH, TB_RECORD_LENGTH), 0);
     expect_number("tb_contradicts, just not", tb_contradicts(1000, 5, 990, 5), 0);
     expect_number("tb_contradicts, just", tb_contradicts(1000, 5, 990, 4), 1);
     expect_number("tb_contradicts below 0", tb_contradicts(3, 10, 0, 0), 0);
-    expect_number("tb_contradicts above 2^64 - 1", tb_contradicts(UINT64_MAX, 0, UINT64_MAX - 1, 1), 0);
+    expect_number("tb_contradicts above 2^64 - 1", tb_contradicts(UINT64_MAX, 0, UINT64_MAX - 1, 1),
+                  0);
 }
 
-/* The run of the four records: where there is room for it, and where there would be only if out need not be as long as the pile. */
+/* The run of the four records: where there is room for it, and where there would be only if out
+ * need not be as long as the pile. */
 static void expect_run(const uint8_t *pile) {
     static uint8_t out[PILE_LENGTH + 8];
     const uint8_t *first = pile + 2 * TB_RECORD_LENGTH;
     size_t n = 2 * TB_RECORD_LENGTH, rest = RAND_AT + 32;
     memset(out, 0xee, sizeof out);
-    expect_cut("tb_cut_run without room", tb_cut_run(pile, PILE_LENGTH, YES, 2 * RECORDS, out, PILE_LENGTH - 1), 19, 0, 0);
-    expect_cut("tb_cut_run of a record", tb_cut_run(pile, TB_RECORD_LENGTH, YES, 2, out, sizeof out), 18, 0, 0);
+    expect_cut("tb_cut_run without room",
+               tb_cut_run(pile, PILE_LENGTH, YES, 2 * RECORDS, out, PILE_LENGTH - 1), 19, 0, 0);
+    expect_cut("tb_cut_run of a record",
+               tb_cut_run(pile, TB_RECORD_LENGTH, YES, 2, out, sizeof out), 18, 0, 0);
     expect_all("the buffer of a refused cut", out, 0xee, sizeof out);
-    expect_cut("tb_cut_run", tb_cut_run(pile, PILE_LENGTH, YES, 2 * RECORDS, out, sizeof out), 0, 2, 3);
+    expect_cut("tb_cut_run", tb_cut_run(pile, PILE_LENGTH, YES, 2 * RECORDS, out, sizeof out), 0, 2,
+               3);
     expect_bytes("the key of the run", out, first, RAND_AT);
     expect_all("the rand of the run", out + RAND_AT, 0, 32);
     expect_bytes("the rest of the run", out + rest, first + rest, n - rest);
@@ -415,25 +501,51 @@ static void expect_run(const uint8_t *pile) {
     expect_reported("tb_check_report of the run", tb_check_report(out, n, YES, 4), 0, 0, 0, 1);
 }
 
-/* The four records, and what becomes of the report and the run where something is wrong with one of them. */
+/* The four records, and what becomes of the report and the run where something is wrong with one of
+ * them. */
 static void expect_reports(uint8_t *pile) {
     static uint8_t out[PILE_LENGTH];
     uint8_t answers[2 * RECORDS], *last = pile + 3 * TB_RECORD_LENGTH;
     memcpy(answers, YES, sizeof answers);
     size_t n = PILE_LENGTH, m = sizeof answers;
     expect_reported("tb_check_report", tb_check_report(pile, n, answers, m), 0, 0, 2, 3);
-    expect_reported("tb_check_report of a record", tb_check_report(pile, TB_RECORD_LENGTH, answers, 2), 18, 0, 0, 0);
+    expect_reported("tb_check_report of a record",
+                    tb_check_report(pile, TB_RECORD_LENGTH, answers, 2), 18, 0, 0, 0);
     answers[2 * 1 + 1] = 0;
     expect_reported("a refused record", tb_check_report(pile, n, answers, m), 13, 1, 0, 0);
-    expect_cut("tb_cut_run beside a refused record", tb_cut_run(pile, n, answers, m, out, sizeof out), 0, 2, 3);
+    expect_cut("tb_cut_run beside a refused record",
+               tb_cut_run(pile, n, answers, m, out, sizeof out), 0, 2, 3);
     answers[2 * 1 + 1] = 1;
     last[RAND_AT]++;
-    expect_reported("a record that is not linked", tb_check_report(pile, n, answers, m), 17, 3, 0, 0);
-    expect_cut("tb_cut_run without a link", tb_cut_run(pile, n, answers, m, out, sizeof out), 18, 0, 0);
+    expect_reported("a record that is not linked", tb_check_report(pile, n, answers, m), 17, 3, 0,
+                    0);
+    expect_cut("tb_cut_run without a link", tb_cut_run(pile, n, answers, m, out, sizeof out), 18, 0,
+               0);
     pile[RAND_AT] = 1;
     expect_reported("a first rand", tb_check_report(pile, n, answers, m), 17, 0, 0, 0);
     last[GAP_AT] = 1;
     expect_reported("a damaged record", tb_check_report(pile, n, answers, m), 16, 3, 0, 0);
+}
+
+static void expect_words(uint32_t code, const char *should) {
+    const char *is = tb_code_text(code);
+    compared++;
+    if (strcmp(is, should) == 0) return;
+    printf("code %u differs: it says '%s', and it should say '%s'\n", (unsigned)code, is, should);
+    differing++;
+}
+
+/* The words of some codes, among them the first, the last and the longest, and of numbers that are
+ * none. */
+static void expect_all_words(void) {
+    expect_words(TB_PASSED, "passed");
+    expect_words(1, "the packet has under 12 or over 2,000 bytes");
+    expect_words(TB_SIGNATURE, "the response's signature does not verify");
+    expect_words(15, "the pile is not 1 to 16 whole records, or its answers are not two bytes a "
+                     "record, each 1 or 0");
+    expect_words(TB_UNKNOWN_SERVER, "no list has the server");
+    expect_words(TB_UNKNOWN_SERVER + 1, "no such code");
+    expect_words(UINT32_MAX, "no such code");
 }
 
 static void expect_piles(void) {
@@ -455,12 +567,16 @@ int main(void) {
     expect_hashes();
     expect_request();
     expect_response(packet);
+    expect_parts(packet);
     expect_tree();
     expect_checks(packet);
     expect_lookups();
     expect_piles();
-    expect_text(tb_delegation_text, packet, "RoughTime v1 delegation signature", packet + DELE_AT, DELE_LENGTH);
-    expect_text(tb_response_text, packet, "RoughTime v1 response signature", packet + SREP_AT, SREP_LENGTH);
+    expect_all_words();
+    expect_text(tb_delegation_text, packet, "RoughTime v1 delegation signature", packet + DELE_AT,
+                DELE_LENGTH);
+    expect_text(tb_response_text, packet, "RoughTime v1 response signature", packet + SREP_AT,
+                SREP_LENGTH);
     expect_bytes("the packet after all calls", packet, RESPONSE, sizeof packet);
     if (differing > 0) {
         printf("the C host: %d of %d comparisons differ\n", differing, compared);

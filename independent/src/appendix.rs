@@ -1,4 +1,5 @@
-//! The malfeasance report in vectors/, which is the one that draft 19 gives as an example in appendix B.
+//! The malfeasance report in vectors/, which is the one that draft 19 gives as an example in
+//! appendix B.
 
 use crate::base64;
 use crate::making::{self, Made};
@@ -19,7 +20,8 @@ pub struct Entry {
     pub response: Vec<u8>,
 }
 
-/// The entries of the report, in the order received. This is no reader of JSON: it takes our file, with each member on a line of its own.
+/// The entries of the report, in the order received. This is no reader of JSON: it takes our file,
+/// with each member on a line of its own.
 pub fn entries() -> Vec<Entry> {
     REPORT.split('}').filter(|object| object.contains("publicKey")).map(entry).collect()
 }
@@ -42,7 +44,8 @@ fn entry(object: &str) -> Entry {
     }
 }
 
-/// The bytes of a member, if it is there. Quotes part the line into space, name, colon, value and comma.
+/// The bytes of a member, if it is there. Quotes part the line into space, name, colon, value and
+/// comma.
 fn member(object: &str, name: &str) -> Option<Vec<u8>> {
     let parts = object.lines().map(|line| line.split('"').collect::<Vec<_>>());
     let line = parts.into_iter().find(|parts| parts.get(1) == Some(&name) && parts.len() == 5)?;
@@ -50,5 +53,7 @@ fn member(object: &str, name: &str) -> Option<Vec<u8>> {
 }
 
 fn array(bytes: Vec<u8>) -> [u8; 32] {
-    bytes.try_into().unwrap_or_else(|bytes: Vec<u8>| panic!("there are {} bytes, and 32 are needed", bytes.len()))
+    bytes.try_into().unwrap_or_else(|bytes: Vec<u8>| {
+        panic!("there are {} bytes, and 32 are needed", bytes.len())
+    })
 }

@@ -10,7 +10,8 @@ fn bits(letter: u8) -> Option<u32> {
 /// The bytes of a group of four, of which the last `padding` are `=`.
 fn group(letters: &[u8], padding: usize) -> Option<Vec<u8>> {
     let kept = &letters[..4 - padding];
-    let joined = kept.iter().try_fold(0, |joined, letter| Some(joined << 6 | bits(*letter)?))? << (6 * padding);
+    let joined = kept.iter().try_fold(0, |joined, letter| Some(joined << 6 | bits(*letter)?))?
+        << (6 * padding);
     let bytes = joined.to_be_bytes();
     // The bits that no byte takes must be 0, or several texts would stand for the same bytes.
     let (taken, spare) = bytes[1..].split_at(3 - padding);
@@ -29,8 +30,11 @@ pub fn decode(text: &str) -> Option<Vec<u8>> {
     }
     let groups = letters.len() / 4;
     let padding_of = |index: usize| if index + 1 == groups { padding } else { 0 };
-    let bytes: Option<Vec<Vec<u8>>> =
-        letters.chunks(4).enumerate().map(|(index, letters)| group(letters, padding_of(index))).collect();
+    let bytes: Option<Vec<Vec<u8>>> = letters
+        .chunks(4)
+        .enumerate()
+        .map(|(index, letters)| group(letters, padding_of(index)))
+        .collect();
     Some(bytes?.concat())
 }
 
@@ -52,7 +56,10 @@ mod tests {
         ] {
             assert_eq!(decode(text).as_deref(), Some(bytes.as_bytes()), "{text}");
         }
-        for text in ["Zg", "Zg=", "Zg===", "====", "Z===", "Zh==", "Zm9=", "Zg==Zg==", "Zm9!", "Zm 9", "Zm9v\n"] {
+        for text in [
+            "Zg", "Zg=", "Zg===", "====", "Z===", "Zh==", "Zm9=", "Zg==Zg==", "Zm9!", "Zm 9",
+            "Zm9v\n",
+        ] {
             assert_eq!(decode(text), None, "{text}");
         }
     }

@@ -1,4 +1,5 @@
-//! Whether a response is valid (draft 19, section 5.4), and the window of time that a valid one tells.
+//! Whether a response is valid (draft 19, section 5.4), and the window of time that a valid one
+//! tells.
 //!
 //! The two signatures are for the caller to check: here they are a yes or a no each.
 
@@ -22,16 +23,18 @@ pub struct Window {
 impl Window {
     /// The window of this midpoint and radius. In 128 bits no sum or difference of theirs can wrap.
     pub fn around(midp: u64, radi: u32) -> Self {
-        let (low, high) = (i128::from(midp) - i128::from(radi), i128::from(midp) + i128::from(radi));
-        let within = |time: i128| u64::try_from(time.clamp(0, u64::MAX.into())).expect("it was clamped");
+        let (low, high) =
+            (i128::from(midp) - i128::from(radi), i128::from(midp) + i128::from(radi));
+        let within =
+            |time: i128| u64::try_from(time.clamp(0, u64::MAX.into())).expect("it was clamped");
         Window { midp, radi, low: within(low), high: within(high) }
     }
 }
 
 /// The window that `response_packet` tells, where it is a valid answer to `request_packet`.
 ///
-/// `delegation` says whether the signature in CERT is the long-term key's, and `signature` whether that of SREP is the
-/// delegated key's.
+/// `delegation` says whether the signature in CERT is the long-term key's, and `signature` whether
+/// that of SREP is the delegated key's.
 pub fn check(
     request_packet: &[u8],
     response_packet: &[u8],
@@ -76,7 +79,8 @@ mod tests {
     }
 
     fn code(request: &[u8], response: &Pieces, answers: (bool, bool)) -> u32 {
-        check(request, &response.clone().packet(), answers.0, answers.1).map_or_else(Refusal::code, |_| 0)
+        check(request, &response.clone().packet(), answers.0, answers.1)
+            .map_or_else(Refusal::code, |_| 0)
     }
 
     #[test]
@@ -126,9 +130,14 @@ mod tests {
 
     #[test]
     fn the_ends_of_the_delegation_count_as_within_it() {
-        for (mint, maxt, due) in
-            [(256, 256, 0), (0, 256, 0), (256, 300, 0), (257, 300, 11), (0, 255, 11), (257, 255, 11)]
-        {
+        for (mint, maxt, due) in [
+            (256, 256, 0),
+            (0, 256, 0),
+            (256, 300, 0),
+            (257, 300, 11),
+            (0, 255, 11),
+            (257, 255, 11),
+        ] {
             let (request, mut response) = pair();
             put(&mut response.dele, MINT, &u64::to_le_bytes(mint));
             put(&mut response.dele, MAXT, &u64::to_le_bytes(maxt));

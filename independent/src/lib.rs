@@ -1,15 +1,18 @@
-//! An implementation that shares no code with the proved library, and that the proved library is compared with.
+//! An implementation that shares no code with the proved library, and that the proved library is
+//! compared with.
 //!
-//! A proof says that code meets its specification; it cannot say that the specification is the right one. So the same
-//! functions stand here a second time, written from the standards alone in another language, and the tests hold one to the other:
-//! a misreading would have to be made twice, in the same way, to pass.
+//! A proof says that code meets its specification; it cannot say that the specification is the
+//! right one. So the same functions stand here a second time, written from the standards alone in
+//! another language, and the tests hold one to the other: a misreading would have to be made twice,
+//! in the same way, to pass.
 //!
-//! Nothing here is proved. It has no dependency but the standard library, and it must never call the proved library
-//! or be derived from it, or the comparison would say nothing.
+//! Nothing here is proved. It has no dependency but the standard library, and it must never call
+//! the proved library or be derived from it, or the comparison would say nothing.
 //!
-//! It has SHA-512, the hashes that Roughtime makes of it and the Merkle tree, a reader of packets, requests and responses, the
-//! check of a response, the writer of a request, the texts that are signed, the lookup of a server, piles of responses and the
-//! reports that are made of them. Beside them stands what makes piles to try all this with.
+//! It has SHA-512, the hashes that Roughtime makes of it and the Merkle tree, a reader of packets,
+//! requests and responses, the check of a response, the writer of a request, the texts that are
+//! signed, the lookup of a server, piles of responses and the reports that are made of them. Beside
+//! them stands what makes piles to try all this with.
 
 #![forbid(unsafe_code)]
 #![warn(missing_docs)]

@@ -1,7 +1,8 @@
-//! Making piles: chains of requests and responses in which each is linked to the one before, as a client would gather them from
-//! servers that sign whatever it likes.
+//! Making piles: chains of requests and responses in which each is linked to the one before, as a
+//! client would gather them from servers that sign whatever it likes.
 //!
-//! No key signs anything here. The answers about the signatures are yes, since they are the host's and not in the pile.
+//! No key signs anything here. The answers about the signatures are yes, since they are the host's
+//! and not in the pile.
 
 use crate::hash::{self, Hash};
 use crate::pieces::{put, Pieces};
@@ -25,7 +26,8 @@ pub struct Link {
     pub key: [u8; 32],
     /// What blinds the nonce.
     pub rand: [u8; 32],
-    /// The nonce, where it is to be another than the one that links the record to the one before it.
+    /// The nonce, where it is to be another than the one that links the record to the one before
+    /// it.
     pub nonce: Option<Hash>,
     /// MIDP.
     pub midp: u64,
@@ -35,7 +37,8 @@ pub struct Link {
     pub siblings: usize,
     /// Bytes of the request, a multiple of 4 from [`LEAST_REQUEST`] to 2,000.
     pub request_size: usize,
-    /// Bytes of the response, a multiple of 4 up to 2,000, or as many as it needs where that is more.
+    /// Bytes of the response, a multiple of 4 up to 2,000, or as many as it needs where that is
+    /// more.
     pub response_size: usize,
 }
 
@@ -43,8 +46,8 @@ pub struct Link {
 pub const LEAST_REQUEST: usize = 124;
 
 impl Link {
-    /// A record with the request that we write and a response as short as it can be. `seed` tells its key and its rand, which
-    /// is zero where the seed is.
+    /// A record with the request that we write and a response as short as it can be. `seed` tells
+    /// its key and its rand, which is zero where the seed is.
     pub fn new(seed: u8, midp: u64, radi: u32) -> Self {
         Link {
             key: [seed ^ 0x55; 32],
@@ -58,20 +61,27 @@ impl Link {
         }
     }
 
-    /// The nonce of the request that comes after the response `before`, which is empty where nothing does.
+    /// The nonce of the request that comes after the response `before`, which is empty where
+    /// nothing does.
     fn nonce_after(&self, before: &[u8]) -> Hash {
         self.nonce.unwrap_or_else(|| hash::link(before, &self.rand))
     }
 
     /// The request that comes after the response `before`.
     pub fn request(&self, before: &[u8]) -> Vec<u8> {
-        write::padded_request(&self.key, &self.nonce_after(before), self.request_size - LEAST_REQUEST)
+        write::padded_request(
+            &self.key,
+            &self.nonce_after(before),
+            self.request_size - LEAST_REQUEST,
+        )
     }
 
-    /// The response to that request, in pieces. The siblings and INDX are without a pattern, and ROOT is where they lead.
+    /// The response to that request, in pieces. The siblings and INDX are without a pattern, and
+    /// ROOT is where they lead.
     pub fn response(&self, request: &[u8], before: &[u8]) -> Pieces {
         let nonce = self.nonce_after(before);
-        let path: Vec<Hash> = (0..self.siblings).map(|step| hash::h(&[&nonce, &[step as u8]])).collect();
+        let path: Vec<Hash> =
+            (0..self.siblings).map(|step| hash::h(&[&nonce, &[step as u8]])).collect();
         let any = u32::from_le_bytes([nonce[0], nonce[1], nonce[2], nonce[3]]);
         let indx = (u64::from(any) % (1 << self.siblings)) as u32;
         let root = tree::root_of(&hash::leaf(request), indx, &path);
@@ -87,7 +97,8 @@ impl Link {
     }
 }
 
-/// Adds zeros under a tag that means nothing in a response, where the packet is shorter than `size` by as much as that takes.
+/// Adds zeros under a tag that means nothing in a response, where the packet is shorter than `size`
+/// by as much as that takes.
 fn pad(pieces: &mut Pieces, size: usize) {
     let padded = pieces.clone().packet().len() + 8;
     if padded <= size {
@@ -97,7 +108,10 @@ fn pad(pieces: &mut Pieces, size: usize) {
 
 /// The record of these packets, of which neither may have more than 2,000 bytes.
 pub fn record(key: &[u8; 32], rand: &[u8; 32], request: &[u8], response: &[u8]) -> Vec<u8> {
-    assert!(request.len() <= packet::MOST && response.len() <= packet::MOST, "a packet does not fit");
+    assert!(
+        request.len() <= packet::MOST && response.len() <= packet::MOST,
+        "a packet does not fit"
+    );
     let mut record = vec![0; RECORD];
     let parts: [(usize, &[u8]); 6] = [
         (0, key),
@@ -125,9 +139,11 @@ pub fn chain(links: &[Link]) -> Made {
     Made { pile, answers: vec![1; 2 * links.len()] }
 }
 
-/// The pile of plain records with these midpoints and radii, all valid and linked, and the first rand zero.
+/// The pile of plain records with these midpoints and radii, all valid and linked, and the first
+/// rand zero.
 pub fn pile_of(windows: &[(u64, u32)]) -> Made {
-    let links = windows.iter().enumerate().map(|(i, (midp, radi))| Link::new(i as u8, *midp, *radi));
+    let links =
+        windows.iter().enumerate().map(|(i, (midp, radi))| Link::new(i as u8, *midp, *radi));
     chain(&links.collect::<Vec<_>>())
 }
 
@@ -140,14 +156,26 @@ mod tests {
     fn chains_of_every_shape_are_valid_and_linked() {
         for siblings in 0..=32 {
             for (request_size, response_size) in [(LEAST_REQUEST, 0), (1036, 1036), (2000, 2000)] {
-                let shape = |seed| Link { siblings, request_size, response_size, ..Link::new(seed, 1000, 5) };
+                let shape = |seed| Link {
+                    siblings,
+                    request_size,
+                    response_size,
+                    ..Link::new(seed, 1000, 5)
+                };
                 let Made { pile, answers } = chain(&[shape(0), shape(1)]);
                 let judged = pile::judge_all(&pile, &answers).unwrap();
-                assert!(judged.iter().all(Result::is_ok) && pile::linked(&pile, 1), "{siblings} siblings");
+                assert!(
+                    judged.iter().all(Result::is_ok) && pile::linked(&pile, 1),
+                    "{siblings} siblings"
+                );
                 let record = pile::read(&pile, &answers).unwrap()[1].record;
                 let (request, response) = record.packets().unwrap();
                 assert_eq!(request.len(), request_size);
-                assert!(response.len() == response_size || response_size < 1450, "{} bytes", response.len());
+                assert!(
+                    response.len() == response_size || response_size < 1450,
+                    "{} bytes",
+                    response.len()
+                );
             }
         }
     }

@@ -1,7 +1,8 @@
 //! Messages: pairs of a tag and a value (draft 19, section 4), read and written.
 //!
-//! A message is N, then N-1 offsets, then N tags, each a u32 with its lowest byte first, then the values. The value of the first
-//! tag starts where the values start, each next at its offset, and the last ends with the message.
+//! A message is N, then N-1 offsets, then N tags, each a u32 with its lowest byte first, then the
+//! values. The value of the first tag starts where the values start, each next at its offset, and
+//! the last ends with the message.
 
 use crate::refusal::Refusal;
 use crate::tag::Tag;
@@ -21,10 +22,15 @@ fn words(bytes: &[u8]) -> Option<Vec<u32>> {
     if !chunks.remainder().is_empty() {
         return None;
     }
-    Some(chunks.map(|chunk| u32::from_le_bytes(chunk.try_into().expect("chunks_exact gives 4 bytes"))).collect())
+    Some(
+        chunks
+            .map(|chunk| u32::from_le_bytes(chunk.try_into().expect("chunks_exact gives 4 bytes")))
+            .collect(),
+    )
 }
 
-/// N, where it is a number that a message of this many words can have: N pairs have a header of 2 N words.
+/// N, where it is a number that a message of this many words can have: N pairs have a header of 2 N
+/// words.
 fn count(words: &[u32]) -> Option<usize> {
     let count = usize::try_from(*words.first()?).ok()?;
     ((1..=MOST_PAIRS).contains(&count) && 2 * count <= words.len()).then_some(count)
@@ -65,15 +71,16 @@ impl<'a> Message<'a> {
 
     /// The values of all these tags.
     ///
-    /// One call takes all that a message needs, so that an absent tag is found before any value is looked at.
+    /// One call takes all that a message needs, so that an absent tag is found before any value is
+    /// looked at.
     pub fn needed<const N: usize>(&self, tags: [Tag; N]) -> Result<[&'a [u8]; N], Refusal> {
         let found: Option<Vec<_>> = tags.iter().map(|tag| self.get(*tag)).collect();
         Ok(found.ok_or(Refusal::TagAbsent)?.try_into().expect("there is a value for each tag"))
     }
 }
 
-/// The bytes of the message that has these pairs, in this order. It is for the caller to sort them, and to give values of whole
-/// words.
+/// The bytes of the message that has these pairs, in this order. It is for the caller to sort them,
+/// and to give values of whole words.
 pub fn encode<V: AsRef<[u8]>>(pairs: &[(Tag, V)]) -> Vec<u8> {
     let mut bytes = (pairs.len() as u32).to_le_bytes().to_vec();
     let mut offset = 0;
@@ -131,7 +138,11 @@ mod tests {
         let with_pairs = |n: u32| [vec![n], vec![0; n as usize - 1], (1..=n).collect()].concat();
         for n in 1..=32 {
             assert_eq!(refusal(&with_pairs(n)), None, "{n} pairs");
-            assert_eq!(refusal(&with_pairs(n)[..2 * n as usize - 1]), Some(Refusal::Frame), "header of {n} pairs cut");
+            assert_eq!(
+                refusal(&with_pairs(n)[..2 * n as usize - 1]),
+                Some(Refusal::Frame),
+                "header of {n} pairs cut"
+            );
         }
         for n in [0, 33, 0x2000_0001, 0x8000_0001, u32::MAX] {
             let mut words = with_pairs(33);
@@ -146,7 +157,17 @@ mod tests {
         for (a, b) in [(0, 0), (0, 8), (4, 4), (8, 8), (4, 8)] {
             assert_eq!(with_offsets(a, b), None, "{a}, {b}");
         }
-        for (a, b) in [(1, 4), (2, 4), (4, 7), (4, 0), (8, 4), (0, 12), (12, 12), (u32::MAX - 3, 0), (0, u32::MAX)] {
+        for (a, b) in [
+            (1, 4),
+            (2, 4),
+            (4, 7),
+            (4, 0),
+            (8, 4),
+            (0, 12),
+            (12, 12),
+            (u32::MAX - 3, 0),
+            (0, u32::MAX),
+        ] {
             assert_eq!(with_offsets(a, b), Some(Refusal::Frame), "{a}, {b}");
         }
     }
@@ -169,11 +190,13 @@ mod tests {
 
     #[test]
     fn what_was_encoded_is_read_back() {
-        let pairs: Vec<(Tag, Vec<u8>)> = (0..32).map(|i| (i * 5, vec![i as u8; 4 * (i as usize % 3)])).collect();
+        let pairs: Vec<(Tag, Vec<u8>)> =
+            (0..32).map(|i| (i * 5, vec![i as u8; 4 * (i as usize % 3)])).collect();
         for n in 1..=pairs.len() {
             let bytes = encode(&pairs[..n]);
             let message = Message::read(&bytes).unwrap();
-            let read: Vec<(Tag, Vec<u8>)> = message.pairs.iter().map(|pair| (pair.0, pair.1.to_vec())).collect();
+            let read: Vec<(Tag, Vec<u8>)> =
+                message.pairs.iter().map(|pair| (pair.0, pair.1.to_vec())).collect();
             assert_eq!(read, pairs[..n]);
         }
     }

@@ -1,13 +1,18 @@
-//! A response in pieces: the pairs of its four messages, so that any of them can be changed before they are put together.
+//! A response in pieces: the pairs of its four messages, so that any of them can be changed before
+//! they are put together.
 
 use crate::message;
 use crate::packet;
-use crate::tag::{Tag, CERT, DELE, INDX, MAXT, MIDP, MINT, NONC, PATH, PUBK, RADI, ROOT, SIG, SREP, TYPE, VER, VERS};
+use crate::tag::{
+    Tag, CERT, DELE, INDX, MAXT, MIDP, MINT, NONC, PATH, PUBK, RADI, ROOT, SIG, SREP, TYPE, VER,
+    VERS,
+};
 
 /// A message as its pairs.
 pub type Pairs = Vec<(Tag, Vec<u8>)>;
 
-/// The pairs of the four messages; the values of SREP, CERT and DELE are put in when the packet is made.
+/// The pairs of the four messages; the values of SREP, CERT and DELE are put in when the packet is
+/// made.
 #[derive(Clone, Debug)]
 pub struct Pieces {
     /// The outermost message.

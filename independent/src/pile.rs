@@ -1,7 +1,8 @@
-//! Piles: what a client keeps of its exchanges with servers, and what each record of a pile says (house rules).
+//! Piles: what a client keeps of its exchanges with servers, and what each record of a pile says
+//! (house rules).
 //!
-//! A pile is 1 to 16 records of 4,096 bytes with nothing around them. Beside it come two answers a record, those to the
-//! questions about its signatures.
+//! A pile is 1 to 16 records of 4,096 bytes with nothing around them. Beside it come two answers a
+//! record, those to the questions about its signatures.
 
 use crate::check::{self, Window};
 use crate::hash;
@@ -15,7 +16,8 @@ pub const RECORD: usize = 4096;
 /// The most records of a pile.
 pub const MOST_RECORDS: usize = 16;
 
-/// Where the parts of a record start: the key stands before the first of them, and nothing after the last.
+/// Where the parts of a record start: the key stands before the first of them, and nothing after
+/// the last.
 pub(crate) mod at {
     pub const RAND: usize = 32;
     pub const REQUEST_LENGTH: usize = 64;
@@ -32,9 +34,12 @@ pub struct Record<'a> {
 }
 
 impl<'a> Record<'a> {
-    /// The area from `start` on, as the packet and what follows it. There is no such packet where the length is too large.
+    /// The area from `start` on, as the packet and what follows it. There is no such packet where
+    /// the length is too large.
     fn area(self, start: usize, length_at: usize) -> Option<(&'a [u8], &'a [u8])> {
-        let length = u32::from_le_bytes(self.bytes[length_at..length_at + 4].try_into().expect("it has 4 bytes"));
+        let length = u32::from_le_bytes(
+            self.bytes[length_at..length_at + 4].try_into().expect("it has 4 bytes"),
+        );
         let length = usize::try_from(length).ok().filter(|length| *length <= packet::MOST)?;
         Some(self.bytes[start..start + packet::MOST].split_at(length))
     }
@@ -65,10 +70,13 @@ impl<'a> Record<'a> {
         }
     }
 
-    /// Whether the nonce of this record's request was made of the response of the record before it. What else is wrong with
-    /// either record plays no part.
+    /// Whether the nonce of this record's request was made of the response of the record before it.
+    /// What else is wrong with either record plays no part.
     pub fn follows(self, before: Record) -> bool {
-        let nonc = self.request_area().and_then(|(packet, _)| request::read(packet).ok()).map(|request| request.nonc);
+        let nonc = self
+            .request_area()
+            .and_then(|(packet, _)| request::read(packet).ok())
+            .map(|request| request.nonc);
         match (nonc, before.response_area()) {
             (Some(nonc), Some((response, _))) => nonc == hash::link(response, self.rand()),
             _ => false,
@@ -76,7 +84,8 @@ impl<'a> Record<'a> {
     }
 }
 
-/// Whether all bytes are zero. None of them ends the search, so that the compiler can take many at a time.
+/// Whether all bytes are zero. None of them ends the search, so that the compiler can take many at
+/// a time.
 fn is_zero(bytes: &[u8]) -> bool {
     bytes.iter().fold(0, |seen, byte| seen | byte) == 0
 }
@@ -127,7 +136,8 @@ pub fn judge_all(pile: &[u8], answers: &[u8]) -> Result<Vec<Result<Window, Refus
     Ok(read(pile, answers)?.into_iter().map(Answered::judge).collect())
 }
 
-/// Whether the record at `place` is linked to the one before it. Where that cannot be asked, it is not.
+/// Whether the record at `place` is linked to the one before it. Where that cannot be asked, it is
+/// not.
 pub fn linked(pile: &[u8], place: usize) -> bool {
     let records = records(pile).unwrap_or_default();
     // The pair of neighbours whose second is at `place` is the one before it.
@@ -161,7 +171,11 @@ mod tests {
         for count in 0..=17 {
             for length in [(count * RECORD).saturating_sub(1), count * RECORD, count * RECORD + 1] {
                 let whole = length == count * RECORD && (1..=16).contains(&count);
-                assert_eq!(read(&most[..length], &vec![1; 2 * count]).is_ok(), whole, "{length} bytes");
+                assert_eq!(
+                    read(&most[..length], &vec![1; 2 * count]).is_ok(),
+                    whole,
+                    "{length} bytes"
+                );
             }
         }
         assert_eq!(judge_all(&good(16).pile, &[1; 32]).map(|judged| judged.len()), Ok(16));
@@ -177,7 +191,11 @@ mod tests {
             for answer in [2, 3, 128, 255] {
                 let mut answers = [1; 6];
                 answers[at] = answer;
-                assert_eq!(judge_all(&pile, &answers), Err(Refusal::Pile), "answer {at} is {answer}");
+                assert_eq!(
+                    judge_all(&pile, &answers),
+                    Err(Refusal::Pile),
+                    "answer {at} is {answer}"
+                );
             }
         }
         assert_eq!(codes(&Made { pile, answers: vec![1, 1, 1, 0, 0, 1] }), [0, 13, 12]);
@@ -199,7 +217,8 @@ mod tests {
     #[test]
     fn what_no_part_takes_must_be_zero() {
         let made = good(1);
-        let (request, response) = read(&made.pile, &made.answers).unwrap()[0].record.packets().unwrap();
+        let (request, response) =
+            read(&made.pile, &made.answers).unwrap()[0].record.packets().unwrap();
         let ends = [at::REQUEST + request.len(), at::RESPONSE + response.len()];
         for place in (at::GAP..at::REQUEST).chain(ends[0]..at::RESPONSE).chain(ends[1]..RECORD) {
             let mut spoilt = made.clone();
@@ -234,7 +253,10 @@ mod tests {
     #[test]
     fn a_link_is_of_the_whole_response_before_and_the_rand() {
         let Made { pile, .. } = good(3);
-        assert_eq!([0, 1, 2, 3, usize::MAX].map(|place| linked(&pile, place)), [false, true, true, false, false]);
+        assert_eq!(
+            [0, 1, 2, 3, usize::MAX].map(|place| linked(&pile, place)),
+            [false, true, true, false, false]
+        );
         assert!(!linked(&pile[1..], 1) && !linked(&[], 1));
         let broken = |change: &dyn Fn(&mut [u8])| {
             let mut pile = pile.clone();
@@ -253,7 +275,8 @@ mod tests {
     fn a_link_takes_the_header_in() {
         let mut links = vec![Link::new(0, 1000, 5), Link::new(1, 1000, 5)];
         let first = making::chain(&links[..1]).pile;
-        let message = &read(&first, &[1, 1]).unwrap()[0].record.packets().unwrap().1[packet::HEADER..];
+        let message =
+            &read(&first, &[1, 1]).unwrap()[0].record.packets().unwrap().1[packet::HEADER..];
         links[1].nonce = Some(hash::link(message, &links[1].rand));
         let made = making::chain(&links);
         assert_eq!(codes(&made), [0, 0]);

@@ -1,5 +1,5 @@
-//! Why a call was refused. Every refusal has a fixed number, and where several apply, the first in the order of the document
-//! counts.
+//! Why a call was refused. Every refusal has a fixed number, and where several apply, the first in
+//! the order of the document counts.
 
 use std::fmt;
 
@@ -13,8 +13,8 @@ pub enum Refusal {
     Mark = 2,
     /// The length field differs from the number of bytes that follow it.
     PacketLength = 3,
-    /// The message has under 4 bytes or no multiple of 4, its number of pairs is wrong, its header is too long, or an offset is
-    /// wrong.
+    /// The message has under 4 bytes or no multiple of 4, its number of pairs is wrong, its header
+    /// is too long, or an offset is wrong.
     Frame = 4,
     /// The tags do not rise.
     TagOrder = 5,
@@ -36,7 +36,8 @@ pub enum Refusal {
     Signature = 13,
     /// The request lent with a response is bad.
     Request = 14,
-    /// The pile is not 1 to 16 whole records, its answers are not two bytes a record, or one of them is above 1.
+    /// The pile is not 1 to 16 whole records, its answers are not two bytes a record, or one of
+    /// them is above 1.
     Pile = 15,
     /// A record has a length above 2,000, or a byte that must be zero and is not.
     Record = 16,

@@ -1,5 +1,5 @@
-//! Reports: piles that convict a server by themselves (draft 19, section 8.2; house rules), and the cutter, which takes the
-//! shortest run of records out of a pile that does so.
+//! Reports: piles that convict a server by themselves (draft 19, section 8.2; house rules), and the
+//! cutter, which takes the shortest run of records out of a pile that does so.
 
 use crate::check::Window;
 use crate::pile::{self, Answered};
@@ -7,10 +7,12 @@ use crate::refusal::Refusal;
 use crate::write;
 use std::ops::RangeInclusive;
 
-/// Whether the server that told `later` cannot be right where that of `earlier` is: the earlier one's window lies wholly above the
-/// later one's. These are whole numbers, of which neither is cut at the ends of time, as those of a window are.
+/// Whether the server that told `later` cannot be right where that of `earlier` is: the earlier
+/// one's window lies wholly above the later one's. These are whole numbers, of which neither is cut
+/// at the ends of time, as those of a window are.
 pub fn contradicts(earlier: &Window, later: &Window) -> bool {
-    i128::from(earlier.midp) - i128::from(earlier.radi) > i128::from(later.midp) + i128::from(later.radi)
+    i128::from(earlier.midp) - i128::from(earlier.radi)
+        > i128::from(later.midp) + i128::from(later.radi)
 }
 
 /// Why a pile is no report, and at which record, where it is for one.
@@ -32,13 +34,14 @@ impl NoReport {
     }
 }
 
-/// The places of the two records for which a pile is a report: of all pairs that contradict each other the closest, and of
-/// equally close ones the first.
+/// The places of the two records for which a pile is a report: of all pairs that contradict each
+/// other the closest, and of equally close ones the first.
 pub fn check(pile: &[u8], answers: &[u8]) -> Result<(usize, usize), NoReport> {
     let records = pile::read(pile, answers).map_err(NoReport::of)?;
     let judged = records.iter().enumerate().map(|(place, record)| (place, record.judge()));
-    let windows: Result<Vec<Window>, _> =
-        judged.map(|(place, verdict)| verdict.map_err(|refusal| NoReport::at(place, refusal))).collect();
+    let windows: Result<Vec<Window>, _> = judged
+        .map(|(place, verdict)| verdict.map_err(|refusal| NoReport::at(place, refusal)))
+        .collect();
     let windows = windows?;
     if !pile::first_rand_zero(pile) {
         return Err(NoReport::at(0, Refusal::Link));
@@ -54,7 +57,8 @@ fn follows(pair: &[Answered]) -> bool {
     pair[1].record.follows(pair[0].record)
 }
 
-/// Any two of `count` places, the lower one first: the closest come first, and of equally close ones the first.
+/// Any two of `count` places, the lower one first: the closest come first, and of equally close
+/// ones the first.
 fn pairs(count: usize) -> impl Iterator<Item = (usize, usize)> {
     (1..count).flat_map(move |apart| (0..count - apart).map(move |first| (first, first + apart)))
 }
@@ -80,7 +84,8 @@ impl Evidence {
         }
     }
 
-    /// Whether these records would be a report, taken out and with the first one's rand set to zero.
+    /// Whether these records would be a report, taken out and with the first one's rand set to
+    /// zero.
     fn convict(&self, run: RangeInclusive<usize>) -> bool {
         let links = run.start() + 1..=*run.end();
         let windows: Option<Vec<Window>> = self.windows[run].iter().copied().collect();
@@ -88,7 +93,8 @@ impl Evidence {
         linked && windows.map_or(false, |windows| closest_pair(&windows).is_some())
     }
 
-    /// The shortest run that convicts, and of equally short ones the first. No record does so alone.
+    /// The shortest run that convicts, and of equally short ones the first. No record does so
+    /// alone.
     fn run(&self) -> Option<(usize, usize)> {
         pairs(self.windows.len()).find(|(first, last)| self.convict(*first..=*last))
     }
@@ -99,7 +105,8 @@ pub fn run(pile: &[u8], answers: &[u8]) -> Result<(usize, usize), Refusal> {
     Evidence::gather(&pile::read(pile, answers)?).run().ok_or(Refusal::NoContradiction)
 }
 
-/// Writes that run at the front of `out`, which must have room for the whole pile, and tells its places.
+/// Writes that run at the front of `out`, which must have room for the whole pile, and tells its
+/// places.
 pub fn cut(pile: &[u8], answers: &[u8], out: &mut [u8]) -> Result<(usize, usize), Refusal> {
     let records = pile::read(pile, answers)?;
     if out.len() < pile.len() {
@@ -123,7 +130,10 @@ mod tests {
 
     /// The code and the place of a refused report.
     fn refused(Made { pile, answers }: &Made) -> (u32, Option<usize>) {
-        check(pile, answers).map_or_else(|no| (no.refusal.code(), no.place), |pair| panic!("it is one, for {pair:?}"))
+        check(pile, answers).map_or_else(
+            |no| (no.refusal.code(), no.place),
+            |pair| panic!("it is one, for {pair:?}"),
+        )
     }
 
     /// The run that is cut out of a pile; the bytes are looked at as well.
@@ -136,7 +146,10 @@ mod tests {
             assert_eq!(out[..at::RAND], run[..at::RAND]);
             assert_eq!(out[at::RAND..at::REQUEST_LENGTH], [0; 32]);
             assert_eq!(out[at::REQUEST_LENGTH..length], run[at::REQUEST_LENGTH..]);
-            assert_eq!(check(&out[..length], &answers[2 * first..2 * last + 2]), Ok((0, last - first)));
+            assert_eq!(
+                check(&out[..length], &answers[2 * first..2 * last + 2]),
+                Ok((0, last - first))
+            );
         }
         assert!(out[length..].iter().all(|byte| *byte == 0xee));
         assert!(answer.is_ok() || answer == Err(Refusal::NoContradiction));
@@ -159,7 +172,11 @@ mod tests {
             ((u64::MAX, u32::MAX), (u64::MAX, u32::MAX), false),
             ((0, u32::MAX), (0, 0), false),
         ] {
-            assert_eq!(contradicts(&around(earlier), &around(later)), due, "{earlier:?} then {later:?}");
+            assert_eq!(
+                contradicts(&around(earlier), &around(later)),
+                due,
+                "{earlier:?} then {later:?}"
+            );
         }
         assert_eq!(around((3, 10)).low, 0);
     }
@@ -167,7 +184,10 @@ mod tests {
     /// Examples 5 to 7 of the document.
     #[test]
     fn the_shortest_run_is_cut_and_of_equals_the_first() {
-        assert_eq!(cut_from(&pile_of(&[(1000, 10), (1500, 10), (1495, 1), (1400, 10)])), Some((2, 3)));
+        assert_eq!(
+            cut_from(&pile_of(&[(1000, 10), (1500, 10), (1495, 1), (1400, 10)])),
+            Some((2, 3))
+        );
         assert_eq!(cut_from(&pile_of(&[(100, 1), (90, 1), (80, 1)])), Some((0, 1)));
         let mut apart = pile_of(&[(100, 1), (95, 20), (80, 1)]);
         assert_eq!(cut_from(&apart), Some((0, 2)));
@@ -234,7 +254,8 @@ mod tests {
         let mut made = pile_of(&[(100, 1), (90, 1), (80, 1)]);
         let mut out = vec![0xee; made.pile.len()];
         let mut code = |made: &Made, room: usize| {
-            let code = cut(&made.pile, &made.answers, &mut out[..room]).map_or_else(Refusal::code, |_| 0);
+            let code =
+                cut(&made.pile, &made.answers, &mut out[..room]).map_or_else(Refusal::code, |_| 0);
             assert!(code == 0 || out.iter().all(|byte| *byte == 0xee));
             code
         };

@@ -91,8 +91,14 @@ mod tests {
 
     #[test]
     fn values_have_their_lengths() {
-        for (tag, length) in [(VER, 0), (VER, 132), (SRV, 0), (SRV, 28), (NONC, 36), (TYPE, 0), (TYPE, 8)] {
-            assert_eq!(with(tag, &vec![0; length]), Some(Refusal::Value), "{tag:#x} of {length} bytes");
+        for (tag, length) in
+            [(VER, 0), (VER, 132), (SRV, 0), (SRV, 28), (NONC, 36), (TYPE, 0), (TYPE, 8)]
+        {
+            assert_eq!(
+                with(tag, &vec![0; length]),
+                Some(Refusal::Value),
+                "{tag:#x} of {length} bytes"
+            );
         }
         assert_eq!(with(VER, &[1, 0, 0, 0, 1, 0, 0, 0]), Some(Refusal::Value));
     }

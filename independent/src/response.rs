@@ -1,12 +1,15 @@
 //! Responses (draft 19, section 5.2): what a server answers, and what it signs.
 //!
-//! A response is four messages, one in the other: the outermost holds SREP and CERT, and CERT holds DELE. Each is judged
-//! to its end, frame, tags and values, before the next is looked at, in the order of the fields of [`Response`].
+//! A response is four messages, one in the other: the outermost holds SREP and CERT, and CERT holds
+//! DELE. Each is judged to its end, frame, tags and values, before the next is looked at, in the
+//! order of the fields of [`Response`].
 
 use crate::hash::Hash;
 use crate::message::Message;
 use crate::refusal::Refusal;
-use crate::tag::{CERT, DELE, INDX, MAXT, MIDP, MINT, NONC, PATH, PUBK, RADI, ROOT, SIG, SREP, TYPE, VER, VERS};
+use crate::tag::{
+    CERT, DELE, INDX, MAXT, MIDP, MINT, NONC, PATH, PUBK, RADI, ROOT, SIG, SREP, TYPE, VER, VERS,
+};
 use crate::{packet, value, VERSION};
 
 /// TYPE of a response.
@@ -86,7 +89,8 @@ pub struct Dele<'a> {
 impl<'a> Outer<'a> {
     fn read(bytes: &'a [u8]) -> Result<Self, Refusal> {
         let message = Message::read(bytes)?;
-        let [sig, nonc, kind, path, srep, cert, indx] = message.needed([SIG, NONC, TYPE, PATH, SREP, CERT, INDX])?;
+        let [sig, nonc, kind, path, srep, cert, indx] =
+            message.needed([SIG, NONC, TYPE, PATH, SREP, CERT, INDX])?;
         Ok(Outer {
             sig: value::array(sig)?,
             nonc: value::array(nonc)?,
@@ -102,7 +106,8 @@ impl<'a> Outer<'a> {
 impl<'a> Srep<'a> {
     fn read(bytes: &'a [u8]) -> Result<Self, Refusal> {
         let message = Message::read(bytes)?;
-        let [version, radi, midp, versions, root] = message.needed([VER, RADI, MIDP, VERS, ROOT])?;
+        let [version, radi, midp, versions, root] =
+            message.needed([VER, RADI, MIDP, VERS, ROOT])?;
         Ok(Srep {
             bytes,
             version: value::number(version)?,
@@ -124,7 +129,12 @@ impl<'a> Cert<'a> {
 impl<'a> Dele<'a> {
     fn read(bytes: &'a [u8]) -> Result<Self, Refusal> {
         let [pubk, mint, maxt] = Message::read(bytes)?.needed([PUBK, MINT, MAXT])?;
-        Ok(Dele { bytes, pubk: value::array(pubk)?, mint: value::time(mint)?, maxt: value::time(maxt)? })
+        Ok(Dele {
+            bytes,
+            pubk: value::array(pubk)?,
+            mint: value::time(mint)?,
+            maxt: value::time(maxt)?,
+        })
     }
 }
 
@@ -207,8 +217,8 @@ mod tests {
         }
     }
 
-    /// Four bytes more are too many everywhere; a list of versions then has a 0 after its 1. Nested messages have no length of
-    /// their own.
+    /// Four bytes more are too many everywhere; a list of versions then has a 0 after its 1. Nested
+    /// messages have no length of their own.
     #[test]
     fn every_value_has_its_length() {
         for level in 0..4 {
@@ -240,8 +250,8 @@ mod tests {
         }
     }
 
-    /// Each message is spoilt in turn, from the last to the first and from the latest code to the earliest: the new damage
-    /// counts.
+    /// Each message is spoilt in turn, from the last to the first and from the latest code to the
+    /// earliest: the new damage counts.
     #[test]
     fn the_first_refusal_counts() {
         let mut pieces = good();

@@ -1,4 +1,5 @@
-//! Lists of servers, which are a house rule: records of 64 bytes, a long-term key and then its SRV value, with nothing around them.
+//! Lists of servers, which are a house rule: records of 64 bytes, a long-term key and then its SRV
+//! value, with nothing around them.
 
 use crate::refusal::Refusal;
 
@@ -36,7 +37,9 @@ pub fn find<'a>(owner: &'a [u8], shipped: &'a [u8], srv: &[u8; 32]) -> Result<Fo
         let offset = RECORD * index;
         Some(Found { list, offset, record: &bytes[offset..offset + RECORD] })
     };
-    within(List::Owner, owner).or_else(|| within(List::Shipped, shipped)).ok_or(Refusal::ServerUnknown)
+    within(List::Owner, owner)
+        .or_else(|| within(List::Shipped, shipped))
+        .ok_or(Refusal::ServerUnknown)
 }
 
 #[cfg(test)]
@@ -71,7 +74,10 @@ mod tests {
     fn only_the_mark_is_sought() {
         assert_eq!(found(&[(7, 1), (7, 2)], &[(7, 3)], 7), None);
         let shifted = [&[0; 32][..], &[7; 32], &[0; 64]].concat();
-        assert_eq!(find(&[&shifted[16..], &[0; 16]].concat(), &[], &[7; 32]), Err(Refusal::ServerUnknown));
+        assert_eq!(
+            find(&[&shifted[16..], &[0; 16]].concat(), &[], &[7; 32]),
+            Err(Refusal::ServerUnknown)
+        );
     }
 
     #[test]
@@ -81,7 +87,11 @@ mod tests {
             let ragged = vec![10; length];
             let due = if length % 64 == 0 { None } else { Some(Refusal::List) };
             assert_eq!(find(&whole, &ragged, &[10; 32]).err(), due, "{length} bytes shipped");
-            assert_eq!(find(&ragged, &whole, &[10; 32]).err(), due, "{length} bytes of the owner's");
+            assert_eq!(
+                find(&ragged, &whole, &[10; 32]).err(),
+                due,
+                "{length} bytes of the owner's"
+            );
         }
         assert_eq!(find(&[], &[], &[10; 32]), Err(Refusal::ServerUnknown));
         assert_eq!(find(&whole, &whole, &[11; 32]), Err(Refusal::ServerUnknown));

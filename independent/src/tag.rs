@@ -1,6 +1,7 @@
 //! The tags that Roughtime gives a meaning (draft 19, sections 4.1.3 and 5).
 //!
-//! A tag is four bytes: capital letters, then zeros. It is sorted and compared as the number that those bytes are, lowest first.
+//! A tag is four bytes: capital letters, then zeros. It is sorted and compared as the number that
+//! those bytes are, lowest first.
 
 /// A tag as a number.
 pub type Tag = u32;
@@ -77,6 +78,9 @@ mod tests {
         for (letters, number) in listed {
             assert_eq!(letters, number, "{:?}", letters.to_le_bytes());
         }
-        assert!(listed.windows(2).all(|pair| pair[0].0 < pair[1].0), "the document lists them in rising order");
+        assert!(
+            listed.windows(2).all(|pair| pair[0].0 < pair[1].0),
+            "the document lists them in rising order"
+        );
     }
 }

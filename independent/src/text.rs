@@ -1,5 +1,5 @@
-//! The two texts that are signed: a context string, with a zero byte to end it, and the value of a tag (draft 19, sections 5.2.1
-//! and 5.2.6).
+//! The two texts that are signed: a context string, with a zero byte to end it, and the value of a
+//! tag (draft 19, sections 5.2.1 and 5.2.6).
 
 use crate::refusal::Refusal;
 use crate::response;
@@ -48,6 +48,9 @@ mod tests {
         assert!(delegation(&pieces.clone().packet()).is_ok());
         pieces.dele[0].1 = vec![];
         let packet = pieces.packet();
-        assert_eq!((delegation(&packet), response(&packet)), (Err(Refusal::Value), Err(Refusal::Value)));
+        assert_eq!(
+            (delegation(&packet), response(&packet)),
+            (Err(Refusal::Value), Err(Refusal::Value))
+        );
     }
 }

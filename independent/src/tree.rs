@@ -1,8 +1,9 @@
-//! The Merkle tree of a batch of requests (draft 13, sections 5.3 and 5.3.1): its rows and its root, the path from a leaf to the
-//! root, and the check of such a path.
+//! The Merkle tree of a batch of requests (draft 13, sections 5.3 and 5.3.1): its rows and its
+//! root, the path from a leaf to the root, and the check of such a path.
 //!
-//! Which of two hashes goes first at a step of a path is what the sentence of draft 13 says: at a bit of 0 the sibling. So a bit of 0
-//! is that of a right child, and numbers count from the right: the leaf at place p, counted from the left, has INDX 2^d - 1 - p.
+//! Which of two hashes goes first at a step of a path is what the sentence of draft 13 says: at a
+//! bit of 0 the sibling. So a bit of 0 is that of a right child, and numbers count from the right:
+//! the leaf at place p, counted from the left, has INDX 2^d - 1 - p.
 
 use crate::hash::{self, Hash};
 use crate::refusal::Refusal;
@@ -29,7 +30,8 @@ pub fn reaches(leaf: &Hash, indx: u32, path: &[Hash], root: &Hash) -> bool {
 pub fn root_of(leaf: &Hash, indx: u32, path: &[Hash]) -> Hash {
     let (mut node, mut bits) = (*leaf, indx);
     for sibling in path {
-        node = if bits % 2 == 0 { hash::parent(sibling, &node) } else { hash::parent(&node, sibling) };
+        node =
+            if bits % 2 == 0 { hash::parent(sibling, &node) } else { hash::parent(&node, sibling) };
         bits /= 2;
     }
     node
@@ -67,9 +69,11 @@ impl Tree {
         Ok(Tree { rows, count })
     }
 
-    /// The tree of `count` leaves that these bytes are said to be. Nothing is hashed, so that a wrong node stays what it is.
+    /// The tree of `count` leaves that these bytes are said to be. Nothing is hashed, so that a
+    /// wrong node stays what it is.
     pub fn read(bytes: &[u8], count: usize) -> Result<Self, Refusal> {
-        let nodes: Vec<Hash> = bytes.chunks_exact(32).map(|node| node.try_into().expect("it has 32 bytes")).collect();
+        let nodes: Vec<Hash> =
+            bytes.chunks_exact(32).map(|node| node.try_into().expect("it has 32 bytes")).collect();
         let (mut rows, mut rest, mut width) = (vec![], &nodes[..], width(count)?);
         while width > 0 {
             let row = rest.get(..width).ok_or(Refusal::Leaves)?;
@@ -107,7 +111,8 @@ impl Tree {
     }
 }
 
-/// The places at the leaf end of a tree of `count` leaves: the least power of two that has room for them.
+/// The places at the leaf end of a tree of `count` leaves: the least power of two that has room for
+/// them.
 fn width(count: usize) -> Result<usize, Refusal> {
     if (1..=MOST_LEAVES).contains(&count) {
         Ok(count.next_power_of_two())
@@ -171,7 +176,8 @@ mod tests {
         assert!(!leads(&A, 0x8000_0000, &B, &parent(&B, &A)));
     }
 
-    /// At 32 siblings every number has few enough bits; 33 are no path, though they would lead to the root.
+    /// At 32 siblings every number has few enough bits; 33 are no path, though they would lead to
+    /// the root.
     #[test]
     fn a_path_has_up_to_32_whole_siblings() {
         let step = |node: Hash, _| parent(&node, &B);
@@ -192,7 +198,10 @@ mod tests {
                 let Placed { indx, path } = tree.place(place).unwrap();
                 assert_eq!(indx as usize, (1 << tree.depth()) - 1 - place);
                 let leaf = leaves[32 * place..][..32].try_into().unwrap();
-                assert!(leads(leaf, indx, &path.concat(), &tree.root()), "place {place} of {count}");
+                assert!(
+                    leads(leaf, indx, &path.concat(), &tree.root()),
+                    "place {place} of {count}"
+                );
             }
         }
     }
@@ -201,7 +210,11 @@ mod tests {
     fn leaves_are_1_to_64_and_whole() {
         for length in 0..=66 * 32 {
             let built = Tree::build(&vec![7; length]);
-            assert_eq!(built.is_ok(), length % 32 == 0 && (1..=64).contains(&(length / 32)), "{length} bytes");
+            assert_eq!(
+                built.is_ok(),
+                length % 32 == 0 && (1..=64).contains(&(length / 32)),
+                "{length} bytes"
+            );
         }
         assert_eq!(Tree::build(&[]), Err(Refusal::Leaves));
     }

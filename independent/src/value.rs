@@ -85,7 +85,11 @@ mod tests {
         for length in 0..=1100 {
             let read = path(&vec![1; length]).map(|path| path.len());
             let whole = length % 32 == 0 && length <= 1024;
-            assert_eq!(read, if whole { Ok(length / 32) } else { Err(Refusal::Value) }, "{length} bytes");
+            assert_eq!(
+                read,
+                if whole { Ok(length / 32) } else { Err(Refusal::Value) },
+                "{length} bytes"
+            );
         }
     }
 }

@@ -15,7 +15,9 @@ pub fn lines(pile: &[u8], answers: &[u8]) -> String {
             Err(refusal) => format!("{place} refused {}\n", refusal.code()),
         };
     }
-    lines + &report::run(pile, answers).map_or("run none\n".into(), |(first, last)| format!("run {first} {last}\n"))
+    lines
+        + &report::run(pile, answers)
+            .map_or("run none\n".into(), |(first, last)| format!("run {first} {last}\n"))
 }
 
 #[cfg(test)]

@@ -7,7 +7,8 @@ use crate::request::TYPE_OF_REQUEST;
 use crate::tag::{NONC, SRV, TYPE, VER, ZZZZ};
 use crate::{hash, VERSION};
 
-/// Zeros that bring the message to 1,024 bytes, below which a server need not answer (draft 19, section 5.1).
+/// Zeros that bring the message to 1,024 bytes, below which a server need not answer (draft 19,
+/// section 5.1).
 const PADDING: usize = 912;
 
 /// The request with this nonce to the server with this long-term key.
@@ -15,7 +16,8 @@ pub fn request(key: &[u8; 32], nonce: &[u8; 32]) -> Vec<u8> {
     padded_request(key, nonce, PADDING)
 }
 
-/// The same with another number of zeros, for it to be shorter or longer. A server may leave a shorter one unanswered.
+/// The same with another number of zeros, for it to be shorter or longer. A server may leave a
+/// shorter one unanswered.
 pub fn padded_request(key: &[u8; 32], nonce: &[u8; 32], padding: usize) -> Vec<u8> {
     let pairs: [(_, &[u8]); 5] = [
         (VER, &VERSION.to_le_bytes()),
@@ -27,7 +29,8 @@ pub fn padded_request(key: &[u8; 32], nonce: &[u8; 32], padding: usize) -> Vec<u
     packet::encode(&message::encode(&pairs))
 }
 
-/// Puts `bytes` at the front of `out` and tells how many they are. What follows them stays, and all of it where they do not fit.
+/// Puts `bytes` at the front of `out` and tells how many they are. What follows them stays, and all
+/// of it where they do not fit.
 pub fn put(bytes: &[u8], out: &mut [u8]) -> Result<usize, Refusal> {
     let front = out.get_mut(..bytes.len()).ok_or(Refusal::BufferTooShort)?;
     front.copy_from_slice(bytes);
@@ -44,8 +47,10 @@ mod tests {
         let written = request(&[1; 32], &[2; 32]);
         assert_eq!(written.len(), 1036);
         assert_eq!(written[..12], *b"ROUGHTIM\x00\x04\x00\x00");
-        let words: Vec<u32> =
-            written[12..52].chunks(4).map(|word| u32::from_le_bytes(word.try_into().unwrap())).collect();
+        let words: Vec<u32> = written[12..52]
+            .chunks(4)
+            .map(|word| u32::from_le_bytes(word.try_into().unwrap()))
+            .collect();
         assert_eq!(words, [5, 4, 36, 68, 72, VER, SRV, NONC, TYPE, ZZZZ]);
         assert_eq!(written[52..56], [1, 0, 0, 0]);
         assert_eq!(written[56..88], hash::srv_value(&[1; 32]));

@@ -2,8 +2,9 @@
 use Rattle.verdict.specs.Check.{verdictNumber}
 use Rattle.verdict.specs.declared.Verdict.{Verdict}
 use Rattle.verdict.specs.declared.Verdict.the-variants.{Valid, Refused}
-use Rattle.capi.specs.declared.Judged.{Judged}
+use Rattle.capi.specs.declared.TbVerdict.{TbVerdict}
 
-abbrev pub verdictTold : Verdict → Judged
-verdictTold (Valid w) = record { code = verdictNumber (Valid w); midp = w .midp; radi = w .radi; low = w .low; high = w .high }
-verdictTold (Refused code) = record { code = verdictNumber (Refused code); midp = 0; radi = 0; low = 0; high = 0 }
+abbrev pub tbVerdict : Verdict → TbVerdict
+tbVerdict (Valid w) =
+    record { code = verdictNumber (Valid w); radi = w .radi; midp = w .midp; low = w .low; high = w .high }
+tbVerdict (Refused why) = record { code = verdictNumber (Refused why); radi = 0; midp = 0; low = 0; high = 0 }

@@ -1,12 +1,14 @@
 // Trees and paths for hosts.
 ghost use mathlib.Core.Path.{_≡_};
 ghost use lib.ListN.{length};
-ghost use Rattle.tree.specs.Answers.{rootedOf, pathTold, pathBytes, fromTold, fromBytes, rowsTold, rowsBytes, placedTold, laidTold, after};
-ghost use Rattle.tree.specs.Check.{leadsOf};
-ghost use Rattle.capi.specs.Building.{rootBuilt, pathBuilt, rowsBuilt};
-use super::PathBuilt;
-use super::RootBuilt;
-use super::RowsBuilt;
+ghost use Rattle.tree.specs.Answers.{rootedOf, PlacesLeaf, pathBytes, fromBytes, LaysRows, rowsBytes};
+ghost use Rattle.tree.specs.Batch.{countOf, heldOf};
+ghost use Rattle.tree.specs.PathCheck.{leadsOf};
+ghost use Rattle.capi.specs.Building.{tbRooted, tbPlaced, tbLaid, Places, Lays};
+use super::TbLaid;
+use super::TbPlaced;
+use super::TbRooted;
+use super::numbers::number;
 use tree::Laid;
 use tree::Placed;
 
@@ -20,61 +22,64 @@ pub extern "C" fn tb_leads(leaf: &[u8; 32], indx: u32, path: &[u8], root: &[u8; 
 
 // The root of a batch of leaves.
 #[no_mangle]
-pub extern "C" fn tb_root(leaves: &[u8]) -> RootBuilt
-    ensures { λ r. ⌜ r ≡ rootBuilt (rootedOf (now (leaves .entry))) ⌝ }
+pub extern "C" fn tb_root(leaves: &[u8]) -> TbRooted
+    ensures { λ r. ⌜ r ≡ tbRooted (rootedOf (now (leaves .entry))) ⌝ }
 {
     let t = tree::root(leaves);
+    let why = t.refusal;
     let root = t.root;
-    RootBuilt {
-        code: t.code as u64,
-        depth: t.depth as u64,
+    TbRooted {
+        code: number(why),
+        depth: t.depth,
         root: root,
     }
 }
 
 // The path of the leaf at a place, at the front of out.
 #[no_mangle]
-pub extern "C" fn tb_path(leaves: &[u8], place: usize, out: &mut [u8]) -> PathBuilt
-    ensures { λ r. ⌜ r ≡ pathBuilt (pathTold (now (leaves .entry)) place (length (now (out .entry)))) ⌝ }
-    ensures { λ _. ⌜ now (out .exit) ≡ after (pathTold (now (leaves .entry)) place (length (now (out .entry)))) (pathBytes (now (leaves .entry)) place) (now (out .entry)) ⌝ }
+pub extern "C" fn tb_path(leaves: &[u8], place: usize, out: &mut [u8]) -> TbPlaced
+    ensures { λ r. ⌜ Places (countOf (length (now (leaves .entry)))) place (pathBytes (now (leaves .entry)) place)
+        (now (out .entry)) r (now (out .exit)) ⌝ }
 {
     path_told(tree::path(leaves, place, out))
 }
 
 // All rows of the tree of a batch, at the front of out.
 #[no_mangle]
-pub extern "C" fn tb_rows(leaves: &[u8], out: &mut [u8]) -> RowsBuilt
-    ensures { λ r. ⌜ r ≡ rowsBuilt (rowsTold (now (leaves .entry)) (length (now (out .entry)))) ⌝ }
-    ensures { λ _. ⌜ now (out .exit) ≡ after (rowsTold (now (leaves .entry)) (length (now (out .entry)))) (rowsBytes (now (leaves .entry))) (now (out .entry)) ⌝ }
+pub extern "C" fn tb_rows(leaves: &[u8], out: &mut [u8]) -> TbLaid
+    ensures { λ r. ⌜ Lays (countOf (length (now (leaves .entry)))) (rowsBytes (now (leaves .entry))) (now (out .entry))
+        r
+        (now (out .exit)) ⌝ }
 {
     rows_told(tree::rows(leaves, out))
 }
 
 // The path of the leaf at a place of count leaves, read out of the rows of their tree, at the front of out.
 #[no_mangle]
-pub extern "C" fn tb_path_from(rows: &[u8], count: usize, place: usize, out: &mut [u8]) -> PathBuilt
-    ensures { λ r. ⌜ r ≡ pathBuilt (fromTold (now (rows .entry)) count place (length (now (out .entry)))) ⌝ }
-    ensures { λ _. ⌜ now (out .exit) ≡ after (fromTold (now (rows .entry)) count place (length (now (out .entry)))) (fromBytes (now (rows .entry)) count place) (now (out .entry)) ⌝ }
+pub extern "C" fn tb_path_from(rows: &[u8], count: usize, place: usize, out: &mut [u8]) -> TbPlaced
+    ensures { λ r. ⌜ Places (heldOf (length (now (rows .entry))) count) place
+        (fromBytes (now (rows .entry)) count place)
+        (now (out .entry)) r (now (out .exit)) ⌝ }
 {
     path_told(tree::path_from(rows, count, place, out))
 }
 
 // The answer of a writer of a path, as a struct.
-fn path_told(p: Placed) -> PathBuilt
-    ensures { λ r. ⌜ r ≡ pathBuilt (placedTold p) ⌝ }
+fn path_told(p: Placed) -> TbPlaced
+    ensures { λ r. ⌜ r ≡ tbPlaced p ⌝ }
 {
     match p {
-        Placed::Written { indx, depth } => PathBuilt {
+        Placed::Written { indx, depth } => TbPlaced {
             code: 0,
-            indx: indx as u64,
-            depth: depth as u64,
+            indx: indx,
+            depth: depth,
         },
-        Placed::NoLeaf => PathBuilt {
+        Placed::NoLeaf => TbPlaced {
             code: 20,
             indx: 0,
             depth: 0,
         },
-        Placed::Short => PathBuilt {
+        Placed::Short => TbPlaced {
             code: 19,
             indx: 0,
             depth: 0,
@@ -83,15 +88,15 @@ fn path_told(p: Placed) -> PathBuilt
 }
 
 // The answer of the writer of all rows, as a struct.
-fn rows_told(l: Laid) -> RowsBuilt
-    ensures { λ r. ⌜ r ≡ rowsBuilt (laidTold l) ⌝ }
+fn rows_told(l: Laid) -> TbLaid
+    ensures { λ r. ⌜ r ≡ tbLaid l ⌝ }
 {
     match l {
-        Laid::Written { depth } => RowsBuilt {
+        Laid::Written { depth } => TbLaid {
             code: 0,
-            depth: depth as u64,
+            depth: depth,
         },
-        Laid::NoLeaves => RowsBuilt { code: 20, depth: 0 },
-        Laid::Short => RowsBuilt { code: 19, depth: 0 },
+        Laid::NoLeaves => TbLaid { code: 20, depth: 0 },
+        Laid::Short => TbLaid { code: 19, depth: 0 },
     }
 }

@@ -1,38 +1,34 @@
 // Server lists for hosts.
 ghost use mathlib.Core.Path.{_≡_};
-ghost use Rattle.servers.specs.Lists.{sought};
-ghost use Rattle.capi.specs.Finding.{serverFound};
-use super::ServerFound;
+ghost use Rattle.servers.specs.Lookup.{sought};
+ghost use Rattle.capi.specs.Finding.{tbFound};
+use super::TbFound;
 use servers::Where;
 
-// Where the record of the server with this SRV value stands: in which list, and at which byte. A reference cannot be handed to C, so the host
-// takes the 64 bytes from there on itself.
+// Where the record of the server with this SRV value stands: in which list, and at which byte. A reference cannot be
+// handed to C, so the host takes the 64 bytes from there on itself.
 #[no_mangle]
-pub extern "C" fn tb_find_server<'a>(
-    owner: &'a [u8],
-    shipped: &'a [u8],
-    srv: &[u8; 32],
-) -> ServerFound
-    ensures { λ r. ⌜ r ≡ serverFound (sought (now (owner .entry)) (now (shipped .entry)) (now (srv .entry))) ⌝ }
+pub extern "C" fn tb_find_server<'a>(owner: &'a [u8], shipped: &'a [u8], srv: &[u8; 32]) -> TbFound
+    ensures { λ r. ⌜ r ≡ tbFound (sought (now (owner .entry)) (now (shipped .entry)) (now (srv .entry))) ⌝ }
 {
     let found = servers::search(owner, shipped, *srv);
     match found {
-        Where::Owner(k) => ServerFound {
+        Where::Owner(k) => TbFound {
             code: 0,
             list: 0,
             offset: (k * 64) as u64,
         },
-        Where::Shipped(k) => ServerFound {
+        Where::Shipped(k) => TbFound {
             code: 0,
             list: 1,
             offset: (k * 64) as u64,
         },
-        Where::Ragged => ServerFound {
+        Where::Ragged => TbFound {
             code: 21,
             list: 0,
             offset: 0,
         },
-        Where::Unknown => ServerFound {
+        Where::Unknown => TbFound {
             code: 22,
             list: 0,
             offset: 0,

@@ -3,12 +3,12 @@ ghost use mathlib.Core.Path.{_≡_};
 ghost use Rattle.sha512.specs.Computation.{Sha512};
 ghost use Rattle.hash.specs.Hashes.{leafOf, parentOf, emptyPlace, srvOf, linkOf};
 
-// The SHA-512 digest of s.
+// The SHA-512 digest of a message.
 #[no_mangle]
-pub extern "C" fn tb_sha512(s: &[u8], out: &mut [u8; 64])
-    ensures { λ _. ⌜ now (out .exit) ≡ Sha512 (now (s .entry)) ⌝ }
+pub extern "C" fn tb_sha512(message: &[u8], out: &mut [u8; 64])
+    ensures { λ _. ⌜ now (out .exit) ≡ Sha512 (now (message .entry)) ⌝ }
 {
-    let d = sha512::sha512(s);
+    let d = sha512::sha512(message);
     *out = d;
 }
 

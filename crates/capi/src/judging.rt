@@ -1,39 +1,44 @@
 // The response check for hosts.
 ghost use mathlib.Core.Path.{_≡_};
+ghost use lib.Dec.{eqb};
 ghost use Rattle.verdict.specs.Check.{verdictOf};
-ghost use Rattle.capi.specs.Judging.{verdictTold};
-use super::Judged;
+ghost use Rattle.capi.specs.Judging.{tbVerdict};
+use super::TbVerdict;
+use super::numbers::number;
+use super::numbers::yes;
 use verdict::Verdict;
 
-// Checks a response packet against the request packet that it answers, with the answers for its two signatures.
+// Checks a response packet against the request packet that it answers, with the answers for its two signatures, of
+// which only 1 is a yes.
 #[no_mangle]
 pub extern "C" fn tb_check_response<'a>(
     request: &'a [u8],
     response: &'a [u8],
-    delegation: bool,
-    signature: bool,
-) -> Judged
-    ensures { λ r. ⌜ r ≡ verdictTold (verdictOf (now (request .entry)) (now (response .entry)) delegation signature) ⌝ }
+    delegation: u32,
+    signature: u32,
+) -> TbVerdict
+    ensures { λ r. ⌜ r
+        ≡ tbVerdict (verdictOf (now (request .entry)) (now (response .entry)) (eqb delegation 1) (eqb signature 1)) ⌝ }
 {
-    verdict_told(verdict::check_response(request, response, delegation, signature))
+    verdict_told(verdict::check_response(request, response, yes(delegation), yes(signature)))
 }
 
 // A verdict, as a struct.
-pub fn verdict_told(v: Verdict) -> Judged
-    ensures { λ r. ⌜ r ≡ verdictTold v ⌝ }
+pub fn verdict_told(v: Verdict) -> TbVerdict
+    ensures { λ r. ⌜ r ≡ tbVerdict v ⌝ }
 {
     match v {
-        Verdict::Valid(w) => Judged {
+        Verdict::Valid(w) => TbVerdict {
             code: 0,
+            radi: w.radi,
             midp: w.midp,
-            radi: w.radi as u64,
             low: w.low,
             high: w.high,
         },
-        Verdict::Refused(code) => Judged {
-            code: code as u64,
-            midp: 0,
+        Verdict::Refused(why) => TbVerdict {
+            code: number(why),
             radi: 0,
+            midp: 0,
             low: 0,
             high: 0,
         },

@@ -5,36 +5,36 @@ ghost use Rattle.pile.specs.Valid.{judgementOf};
 ghost use Rattle.pile.specs.Links.{linkedOf, firstRandZero};
 ghost use Rattle.runs.specs.Clash.{clash};
 ghost use Rattle.verdict.specs.Window.{windowOf};
-ghost use Rattle.capi.specs.Piling.{recordJudged, refusedAt, reportChecked, Checks};
-ghost use Rattle.capi.specs.Cutting.{notCut, runCut, Cuts};
-use super::RecordJudged;
-use super::ReportChecked;
-use super::RunCut;
+ghost use Rattle.capi.specs.Piling.{tbJudged, refusedAt, tbReported, Checks, notCut, tbCut, Cuts};
+use super::TbCut;
+use super::TbJudged;
+use super::TbReported;
 use super::judging::verdict_told;
+use super::numbers::number;
 use report::Report;
 use report::Taken;
 
 // Code 15 of a pile and its answers, 0 where it does not apply.
 #[no_mangle]
 pub extern "C" fn tb_pile_code<'a>(pile: &'a [u8], answers: &'a [u8]) -> u32
-    ensures { λ r. ⌜ r ≡ pileCode (now (pile .entry)) (now (answers .entry)) ⌝ }
+    ensures { λ r. ⌜ r ≡ pileCode (now (pile .entry)) (now (answers .entry)) .code ⌝ }
 {
-    pile::pile_code(pile, answers) as u32
+    number(pile::pile_code(pile, answers))
 }
 
 // What is said of the record at a place.
 #[no_mangle]
-pub extern "C" fn tb_judge<'a>(pile: &'a [u8], answers: &'a [u8], place: usize) -> RecordJudged
-    ensures { λ r. ⌜ r ≡ recordJudged (judgementOf (now (pile .entry)) (now (answers .entry)) place) ⌝ }
+pub extern "C" fn tb_judge<'a>(pile: &'a [u8], answers: &'a [u8], place: usize) -> TbJudged
+    ensures { λ r. ⌜ r ≡ tbJudged (judgementOf (now (pile .entry)) (now (answers .entry)) place) ⌝ }
 {
     let j = pile::judge(pile, answers, place);
     let v = j.verdict;
     let told = verdict_told(v);
-    RecordJudged {
+    TbJudged {
         code: told.code,
+        radi: told.radi,
         place: j.place as u64,
         midp: told.midp,
-        radi: told.radi,
         low: told.low,
         high: told.high,
     }
@@ -73,7 +73,7 @@ pub extern "C" fn tb_contradicts(
 
 // Whether a pile is a report, and the pair that it names.
 #[no_mangle]
-pub extern "C" fn tb_check_report<'a>(pile: &'a [u8], answers: &'a [u8]) -> ReportChecked
+pub extern "C" fn tb_check_report<'a>(pile: &'a [u8], answers: &'a [u8]) -> TbReported
     ensures { λ r. ⌜ Checks (now (pile .entry)) (now (answers .entry)) r ⌝ }
 {
     report_told(report::check_report(pile, answers))
@@ -81,35 +81,35 @@ pub extern "C" fn tb_check_report<'a>(pile: &'a [u8], answers: &'a [u8]) -> Repo
 
 // The shortest run that convicts by itself, at the front of out.
 #[no_mangle]
-pub extern "C" fn tb_cut_run<'a>(pile: &'a [u8], answers: &'a [u8], out: &mut [u8]) -> RunCut
+pub extern "C" fn tb_cut_run<'a>(pile: &'a [u8], answers: &'a [u8], out: &mut [u8]) -> TbCut
     ensures { λ r. ⌜ Cuts (now (pile .entry)) (now (answers .entry)) (now (out .entry)) r (now (out .exit)) ⌝ }
 {
     run_told(report::cut_run(pile, answers, out))
 }
 
 // The answer on a report, as a struct.
-fn report_told(a: Report) -> ReportChecked
-    ensures { λ r. ⌜ r ≡ reportChecked a ⌝ }
+fn report_told(a: Report) -> TbReported
+    ensures { λ r. ⌜ r ≡ tbReported a ⌝ }
 {
     match a {
-        Report::Pair(i, j) => ReportChecked {
+        Report::Pair(i, j) => TbReported {
             code: 0,
             place: 0,
             first: i as u64,
             second: j as u64,
         },
         Report::Bad => refused_at(15, 0),
-        Report::Record(code, k) => refused_at(code as u64, k),
+        Report::Record(why, k) => refused_at(number(why), k),
         Report::Unlinked(k) => refused_at(17, k),
         Report::Clear => refused_at(18, 0),
     }
 }
 
 // A refusal of a report, with the place that it carries.
-fn refused_at(code: u64, place: usize) -> ReportChecked
+fn refused_at(code: u32, place: usize) -> TbReported
     ensures { λ r. ⌜ r ≡ refusedAt code place ⌝ }
 {
-    ReportChecked {
+    TbReported {
         code: code,
         place: place as u64,
         first: 0,
@@ -118,11 +118,11 @@ fn refused_at(code: u64, place: usize) -> ReportChecked
 }
 
 // The answer of the cutter, as a struct.
-fn run_told(t: Taken) -> RunCut
-    ensures { λ r. ⌜ r ≡ runCut t ⌝ }
+fn run_told(t: Taken) -> TbCut
+    ensures { λ r. ⌜ r ≡ tbCut t ⌝ }
 {
     match t {
-        Taken::Run(i, j) => RunCut {
+        Taken::Run(i, j) => TbCut {
             code: 0,
             first: i as u64,
             last: j as u64,
@@ -134,10 +134,10 @@ fn run_told(t: Taken) -> RunCut
 }
 
 // A refusal of the cutter.
-fn not_cut(code: u64) -> RunCut
+fn not_cut(code: u32) -> TbCut
     ensures { λ r. ⌜ r ≡ notCut code ⌝ }
 {
-    RunCut {
+    TbCut {
         code: code,
         first: 0,
         last: 0,

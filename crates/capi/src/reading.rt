@@ -1,22 +1,25 @@
 // Requests and responses read for hosts.
 ghost use mathlib.Core.Path.{_≡_};
-ghost use Rattle.wire.specs.Request.{answerNumber, requestOf};
+ghost use Rattle.wire.specs.Request.{requestOf};
 ghost use Rattle.wire.specs.Response.{responseOf};
-ghost use Rattle.capi.specs.Reading.{flagOf, requestRead, responseRead};
-use super::RequestRead;
-use super::ResponseRead;
-use wire::Answer;
+ghost use Rattle.wire.specs.Parts.{partsOf};
+ghost use Rattle.capi.specs.Reading.{tbRequest, tbResponse, tbParts};
+use super::TbParts;
+use super::TbRequest;
+use super::TbResponse;
+use super::numbers::flag;
+use super::numbers::number;
 
 // Reads a request packet.
 #[no_mangle]
-pub extern "C" fn tb_read_request(packet: &[u8]) -> RequestRead
-    ensures { λ r. ⌜ r ≡ requestRead (requestOf (now (packet .entry))) ⌝ }
+pub extern "C" fn tb_read_request(packet: &[u8]) -> TbRequest
+    ensures { λ r. ⌜ r ≡ tbRequest (requestOf (now (packet .entry))) ⌝ }
 {
     let q = wire::read_request(packet);
     let answer = q.answer;
     let nonc = q.nonc;
     let srv = q.srv;
-    RequestRead {
+    TbRequest {
         code: number(answer),
         with_srv: flag(q.with_srv),
         nonc: nonc,
@@ -26,36 +29,37 @@ pub extern "C" fn tb_read_request(packet: &[u8]) -> RequestRead
 
 // Reads a response packet.
 #[no_mangle]
-pub extern "C" fn tb_read_response(packet: &[u8]) -> ResponseRead
-    ensures { λ r. ⌜ r ≡ responseRead (responseOf (now (packet .entry))) ⌝ }
+pub extern "C" fn tb_read_response(packet: &[u8]) -> TbResponse
+    ensures { λ r. ⌜ r ≡ tbResponse (responseOf (now (packet .entry))) ⌝ }
 {
     let q = wire::read_response(packet);
     let answer = q.answer;
     let nonc = q.nonc;
     let root = q.root;
-    ResponseRead {
-        midp: q.midp,
+    TbResponse {
         code: number(answer),
         indx: q.indx,
+        midp: q.midp,
         radi: q.radi,
         nonc: nonc,
         root: root,
     }
 }
 
-// Document 01's number of an answer.
-fn number(a: Answer) -> u32
-    ensures { λ r. ⌜ r ≡ answerNumber a ⌝ }
+// The two signatures of a response packet, and the delegated key.
+#[no_mangle]
+pub extern "C" fn tb_signed_parts(packet: &[u8]) -> TbParts
+    ensures { λ r. ⌜ r ≡ tbParts (partsOf (now (packet .entry))) ⌝ }
 {
-    match a {
-        Answer::Passed => 0,
-        Answer::Refused(code) => code as u32,
+    let q = wire::read_signed_parts(packet);
+    let answer = q.answer;
+    let signature = q.signature;
+    let delegation = q.delegation;
+    let pubk = q.pubk;
+    TbParts {
+        code: number(answer),
+        signature: signature,
+        delegation: delegation,
+        pubk: pubk,
     }
-}
-
-// 1 for yes, 0 for no.
-fn flag(b: bool) -> u32
-    ensures { λ r. ⌜ r ≡ flagOf b ⌝ }
-{
-    if b { 1 } else { 0 }
 }

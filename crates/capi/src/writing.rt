@@ -1,56 +1,62 @@
 // What we write, for hosts.
 ghost use mathlib.Core.Path.{_≡_};
-ghost use Rattle.octets.specs.Written.{written, answered, wroteNumber};
+ghost use Rattle.laws.specs.Written.{written};
+ghost use Rattle.refusal.specs.Refusal.{passed};
 ghost use Rattle.wire.specs.Response.{signedCode};
-ghost use Rattle.writer.specs.Asking.{requestBytes};
-ghost use Rattle.writer.specs.Signing.{delegationText, responseText, textAnswer, textLeft};
-ghost use Rattle.capi.specs.Writing.{textWritten};
-use super::TextWritten;
-use octets::Wrote;
-use writer::Text;
+ghost use Rattle.writer.specs.Answered.{answered, wroteNumber};
+ghost use Rattle.writer.specs.Request.{requestBytes};
+ghost use Rattle.writer.specs.Texts.{delegationText, responseText};
+ghost use Rattle.capi.specs.Writing.{tbWrote};
+use super::TbWrote;
+use super::numbers::number;
+use writer::Wrote;
 
-// A request to the server with this long-term key, with this nonce, at the front of out: 0, or 19 where out is too short.
+// A request to the server with this long-term key, with this nonce, at the front of out.
 #[no_mangle]
-pub extern "C" fn tb_write_request(key: &[u8; 32], nonce: &[u8; 32], out: &mut [u8]) -> u32
-    ensures { λ r. ⌜ r ≡ wroteNumber (answered (requestBytes (now (key .entry)) (now (nonce .entry))) (now (out .entry))) ⌝ }
-    ensures { λ _. ⌜ now (out .exit) ≡ written (requestBytes (now (key .entry)) (now (nonce .entry))) (now (out .entry)) ⌝ }
+pub extern "C" fn tb_write_request(key: &[u8; 32], nonce: &[u8; 32], out: &mut [u8]) -> TbWrote
+    ensures { λ r. ⌜ r
+        ≡ tbWrote (answered passed (requestBytes (now (key .entry)) (now (nonce .entry))) (now (out .entry))) ⌝ }
+    ensures { λ r. ⌜ now (out .exit)
+        ≡ written (r .code) (requestBytes (now (key .entry)) (now (nonce .entry))) (now (out .entry)) ⌝ }
 {
-    let w = writer::write_request(*key, *nonce, out);
-    match w {
-        Wrote::Done => 0,
-        Wrote::Short => 19,
-    }
+    told(writer::write_request(*key, *nonce, out))
 }
 
 // The delegation text of a response packet, at the front of out.
 #[no_mangle]
-pub extern "C" fn tb_delegation_text(packet: &[u8], out: &mut [u8]) -> TextWritten
-    ensures { λ r. ⌜ r ≡ textWritten (textAnswer (signedCode (now (packet .entry))) (delegationText (now (packet .entry))) (now (out .entry))) ⌝ }
-    ensures { λ _. ⌜ now (out .exit) ≡ textLeft (textAnswer (signedCode (now (packet .entry))) (delegationText (now (packet .entry))) (now (out .entry))) (delegationText (now (packet .entry))) (now (out .entry)) ⌝ }
+pub extern "C" fn tb_delegation_text(packet: &[u8], out: &mut [u8]) -> TbWrote
+    ensures { λ r. ⌜ r
+        ≡ tbWrote
+        (answered (signedCode (now (packet .entry))) (delegationText (now (packet .entry))) (now (out .entry))) ⌝ }
+    ensures { λ r. ⌜ now (out .exit)
+        ≡ written (r .code) (delegationText (now (packet .entry))) (now (out .entry)) ⌝ }
 {
     told(writer::delegation_text(packet, out))
 }
 
 // The response text of a response packet, at the front of out.
 #[no_mangle]
-pub extern "C" fn tb_response_text(packet: &[u8], out: &mut [u8]) -> TextWritten
-    ensures { λ r. ⌜ r ≡ textWritten (textAnswer (signedCode (now (packet .entry))) (responseText (now (packet .entry))) (now (out .entry))) ⌝ }
-    ensures { λ _. ⌜ now (out .exit) ≡ textLeft (textAnswer (signedCode (now (packet .entry))) (responseText (now (packet .entry))) (now (out .entry))) (responseText (now (packet .entry))) (now (out .entry)) ⌝ }
+pub extern "C" fn tb_response_text(packet: &[u8], out: &mut [u8]) -> TbWrote
+    ensures { λ r. ⌜ r
+        ≡ tbWrote
+        (answered (signedCode (now (packet .entry))) (responseText (now (packet .entry))) (now (out .entry))) ⌝ }
+    ensures { λ r. ⌜ now (out .exit)
+        ≡ written (r .code) (responseText (now (packet .entry))) (now (out .entry)) ⌝ }
 {
     told(writer::response_text(packet, out))
 }
 
 // A writer's answer, as a struct.
-fn told(t: Text) -> TextWritten
-    ensures { λ r. ⌜ r ≡ textWritten t ⌝ }
+fn told(w: Wrote) -> TbWrote
+    ensures { λ r. ⌜ r ≡ tbWrote w ⌝ }
 {
-    match t {
-        Text::Wrote(n) => TextWritten {
+    match w {
+        Wrote::Done(n) => TbWrote {
             code: 0,
             length: n as u64,
         },
-        Text::Refused(code) => TextWritten {
-            code: code as u64,
+        Wrote::Refused(why) => TbWrote {
+            code: number(why),
             length: 0,
         },
     }

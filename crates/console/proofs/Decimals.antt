@@ -1,5 +1,4 @@
 -- The digits that `io::decimal` writes are the number in decimal.
--- Assumes nothing.
 use mathlib.Core.Path.{_≡_, ap, subst}
 use mathlib.Core.List.{List, [], _∷_, _++_}
 use Prim.Native.Nat.{ℕ, zero, suc, _+_, _-_, _/_, _%_, _^_, _≤_, _<_}
@@ -13,7 +12,10 @@ use Rattle.console.specs.Text.{decimalIn}
 -- a number of 64 bits has 20 digits at most
 pub decimal-short : (n r : ℕ) → n < 2 ^ 64 → Fewest 10 1 n r → r ≤ 20
 decimal-short n r h f =
-    split r 20 (λ g. g) (λ g. absurd (omega (arith, h, f .2 (omega (arith, g)), pow-le-pow-right (zero-lt-suc 9) {i = 20} {j = r - 1} (omega (arith, g)))))
+    split r 20 (λ g. g)
+    (λ g.
+    let more = pow-le-pow-right (zero-lt-suc 9) {i = 20} {j = r - 1} (omega (arith, g)) in
+    absurd (omega (arith, h, f .2 (omega (arith, g)), more)))
 
 last-digit : (n : ℕ) → glyph (n % 10) ≡ 48 + n % 10
 last-digit n = simp (lt-ltb (n % 10) 10 (omega arith))
@@ -28,5 +30,7 @@ decimal-is n (suc (suc r)) (suc k) f h =
     let more : 10 ^ suc r ≤ n = subst (λ (m : ℕ). 10 ^ m ≤ n) one (f .2 (omega arith)) in
     let two : r ≡ suc r - 1 = omega arith in
     let ten : 10 ≤ n = omega (arith, more, one-le-pow r 10 (zero-lt-suc 9)) in
-    let fewer : Fewest 10 1 (n / 10) (suc r) = (omega arith, omega (arith, f .1), λ g. subst (λ (m : ℕ). 10 ^ m ≤ n / 10) two (omega (arith, more))) in
-    simp (le-ltb n 10 ten, last-digit n) (ap (λ (l : List ℕ). l ++ ((48 + n % 10) ∷ [])) (decimal-is (n / 10) (suc r) k fewer (omega (arith, h))))
+    let fewer : Fewest 10 1 (n / 10) (suc r) =
+    (omega arith, omega (arith, f .1), λ g. subst (λ (m : ℕ). 10 ^ m ≤ n / 10) two (omega (arith, more))) in
+    simp (le-ltb n 10 ten, last-digit n)
+    (ap (λ (l : List ℕ). l ++ ((48 + n % 10) ∷ [])) (decimal-is (n / 10) (suc r) k fewer (omega (arith, h))))

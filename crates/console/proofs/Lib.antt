@@ -1,5 +1,4 @@
 -- Laws that belong to no one function.
-pub mod Joined
 pub mod Decimals
 pub mod Sample
 pub mod Once

@@ -1,9 +1,8 @@
 -- The text is settled: the cutter's answer is, and so is what is put for it.
--- Assumes nothing.
-use mathlib.Core.Path.{_≡_, sym, ap, _∙_}
+use mathlib.Core.Path.{_≡_, refl, sym, ap, _∙_}
 use mathlib.Core.List.{List}
 use Prim.Native.Nat.{ℕ}
-use Rattle.laws.proofs.Once.{Settles, SettlesExit}
+use Rattle.laws.proofs.Once.{Settles}
 use Rattle.report.proofs.Runs.{takes-once}
 use Rattle.report.specs.Taking.{Takes}
 use Rattle.report.specs.declared.Taken.{Taken}
@@ -13,14 +12,12 @@ use Rattle.console.proofs.verdicts.taken_from.Reads as taken-from-reads
 use Rattle.console.proofs.verdicts.put_verdict.Kinds as put-verdict-kinds
 use Rattle.console.proofs.verdicts.put_verdict.Reads as put-verdict-reads
 
-pub taken-from-once : Settles 1 taken-from-kinds.ps taken-from-kinds.r taken-from-reads.Post
-taken-from-once κs a x e y f p q = takes-once (a .0 .now) (a .1 .0 .now) 65536 x y p q
+pub taken-from-once : Settles taken-from-kinds.ps taken-from-kinds.r taken-from-reads.Learnt
+taken-from-once κs a x u y v p q = (takes-once (a .0 .now) (a .1 .0 .now) 65536 x y p q, refl)
 
-pub put-verdict-once : Settles 2 put-verdict-kinds.ps put-verdict-kinds.r put-verdict-reads.Post
-put-verdict-once κs a x e y f p q = p .ends ∙ sym (q .ends)
-
-pub put-verdict-leaves-once : SettlesExit 2 put-verdict-kinds.ps put-verdict-kinds.r put-verdict-reads.Post (λ κs e. e .1 .1 .1 .0 .now)
-put-verdict-leaves-once κs a x e y f p q = p .is ∙ sym (q .is)
+pub put-verdict-once : Settles put-verdict-kinds.ps put-verdict-kinds.r put-verdict-reads.Learnt
+put-verdict-once κs a x u y v p q =
+    (p .ends ∙ sym (q .ends), ap (λ (out : List ℕ). (tt, (tt, (tt, (out, tt))))) (p .is ∙ sym (q .is)))
 
 -- so a pile and its answers have one text
 pub text-once : (pile answers : List ℕ) (t u : Taken) → Takes pile answers 65536 t → Takes pile answers 65536 u

@@ -1,13 +1,14 @@
 -- Document 01's example 5 in print, letter by letter.
--- Assumes nothing.
 use mathlib.Core.Path.{_≡_, refl}
 use mathlib.Core.List.{_++_}
 use Prim.Native.Nat.{ℕ, zero, suc}
 use Rattle.laws.specs.Ascii.{ascii}
+use Rattle.refusal.specs.Refusal.{refusal}
 use Rattle.verdict.specs.Window.{windowOf}
 use Rattle.verdict.specs.declared.Verdict.{Verdict}
 use Rattle.verdict.specs.declared.Verdict.the-variants.{Valid, Refused}
-use Rattle.console.specs.Text.{decimalIn, spaced, labelled, windowLine, recordLine, recordLines, runLine, countLine}
+use Rattle.console.specs.Text.{decimalIn, spaced, labelled, windowLine, refusalLine, recordLine, recordLines}
+use Rattle.console.specs.Text.{runLine, countLine}
 
 -- 1000±10, 1500±10, 1495±1, 1400±10
 abbrev pub four : ℕ → Verdict
@@ -22,6 +23,6 @@ unfolding decimalIn spaced labelled windowLine recordLines runLine
 example5 = refl
 
 -- a bad record's line
-pub bad-record : recordLine 1 (Refused 13) ≡ ascii "1 refused 13\n"
-unfolding decimalIn spaced labelled
+pub bad-record : recordLine 1 (Refused (refusal 13)) ≡ ascii "1 refused 13\n"
+unfolding decimalIn spaced labelled refusalLine
 bad-record = refl

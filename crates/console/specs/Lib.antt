@@ -1,3 +1,2 @@
--- The program's text: what a reader must believe is Text and Puts.
+-- The program's text: what a reader must believe is Text.
 pub mod Text
-pub mod Puts

@@ -41,10 +41,14 @@ refusedLine code = labelled (ascii "refused") code
 unfoldable pub windowLine : ℕ → ℕ → ℕ → List ℕ
 windowLine k low high = decimal k ++ ascii " ok" ++ spaced low ++ spaced high ++ ascii "\n"
 
--- record k: its window, or `1 refused 13`
+-- `1 refused 13`
+unfoldable pub refusalLine : ℕ → ℕ → List ℕ
+refusalLine k code = decimal k ++ ascii " " ++ refusedLine code
+
+-- record k: its window, or its refusal
 abbrev pub recordLine : ℕ → Verdict → List ℕ
 recordLine k (Valid w) = windowLine k (w .low) (w .high)
-recordLine k (Refused code) = decimal k ++ ascii " " ++ refusedLine code
+recordLine k (Refused why) = refusalLine k (why .code)
 
 -- the first n records, which have the verdicts v
 unfoldable pub recordLines : (ℕ → Verdict) → ℕ → List ℕ
@@ -59,7 +63,8 @@ runLine first last = ascii "run" ++ spaced first ++ spaced last ++ ascii "\n"
 abbrev pub recordsText : List ℕ → List ℕ → List ℕ
 recordsText pile answers = countLine (recordsIn pile) ++ recordLines (judged pile answers) (recordsIn pile)
 
--- all of it, where the cutter answers this; `Short` it never answers, as the program lends it room for sixteen records and 15 comes before
+-- all of it, where the cutter answers this; `Short` it never answers, as the program lends it room for sixteen records
+-- and 15 comes before
 abbrev pub verdictText : List ℕ → List ℕ → Taken → List ℕ
 verdictText pile answers (Run i j) = recordsText pile answers ++ runLine i j
 verdictText pile answers NoRun = recordsText pile answers ++ ascii "run none\n"

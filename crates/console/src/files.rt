@@ -1,8 +1,8 @@
 // Files that the program's arguments name.
 ghost use Rattle.io.specs.Counts.{Counts};
 
-// Reads the file that argument i names to the front of buf, as far as it fits, and answers how many bytes that are. A file that is missing, or can't
-// be read, counts as empty.
+// Reads the file that argument i names to the front of buf, as far as it fits, and answers how many bytes that are. A
+// file that is missing, or can't be read, counts as empty.
 pub fn read_named(i: usize, buf: &mut [u8]) -> usize
     ensures { λ r. ⌜ Counts r (now (buf .exit)) ⌝ }
 {

@@ -1,8 +1,8 @@
 // The lines, each put into a buffer behind the ones before it. Each function answers the index at which its line ends.
 ghost use Prim.Native.Nat.{_+_, _≤_};
 ghost use lib.ListN.{length};
-ghost use Rattle.console.specs.Puts.{Puts};
-ghost use Rattle.console.specs.Text.{labelled, windowLine, recordLine, runLine};
+ghost use Rattle.laws.specs.Written.{Puts};
+ghost use Rattle.console.specs.Text.{labelled, windowLine, refusalLine, recordLine, runLine};
 use super::pieces::put_number;
 use super::pieces::put_spaced;
 use super::pieces::put_word;
@@ -32,6 +32,17 @@ fn put_window(out: &mut [u8], at: usize, k: usize, low: u64, high: u64) -> usize
     put_word(out, d, b"\n")
 }
 
+// Record k with its refusal.
+fn put_refusal(out: &mut [u8], at: usize, k: usize, code: u8) -> usize
+    requires { ⌜ at + 66 ≤ length (now out) ⌝ }
+    ensures { λ r. ⌜ Puts (now (out .entry)) at (refusalLine k code) (now (out .exit)) r ⌝ }
+    ensures { λ r. ⌜ r ≤ at + 66 ⌝ }
+{
+    let a = put_number(out, at, k as u64);
+    let b = put_word(out, a, b" ");
+    put_labelled(out, b, b"refused", code as u64)
+}
+
 // Record k with its verdict.
 pub fn put_record(out: &mut [u8], at: usize, k: usize, v: Verdict) -> usize
     requires { ⌜ at + 66 ≤ length (now out) ⌝ }
@@ -40,11 +51,7 @@ pub fn put_record(out: &mut [u8], at: usize, k: usize, v: Verdict) -> usize
 {
     match v {
         Verdict::Valid(w) => put_window(out, at, k, w.low, w.high),
-        Verdict::Refused(code) => {
-            let a = put_number(out, at, k as u64);
-            let b = put_word(out, a, b" ");
-            put_labelled(out, b, b"refused", code as u64)
-        }
+        Verdict::Refused(why) => put_refusal(out, at, k, why.code),
     }
 }
 

@@ -1,7 +1,7 @@
 // Pieces of text, put into a buffer one behind the other. Each function answers the index at which its piece ends.
 ghost use Prim.Native.Nat.{_+_, _≤_};
 ghost use lib.ListN.{length};
-ghost use Rattle.console.specs.Puts.{Puts};
+ghost use Rattle.laws.specs.Written.{Puts};
 ghost use Rattle.console.specs.Text.{decimal, spaced};
 use octets::put;
 

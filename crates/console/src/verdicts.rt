@@ -4,7 +4,7 @@ ghost use lib.ListN.{length};
 ghost use Rattle.pile.specs.Pile.{recordsIn};
 ghost use Rattle.report.specs.Report.{judged};
 ghost use Rattle.report.specs.Taking.{Takes};
-ghost use Rattle.console.specs.Puts.{Puts};
+ghost use Rattle.laws.specs.Written.{Puts};
 ghost use Rattle.console.specs.Text.{recordLines, recordsText, verdictText};
 use super::lines::put_labelled;
 use super::lines::put_record;
@@ -38,7 +38,8 @@ pub fn taken_from<'a>(pile: &'a [u8], answers: &'a [u8]) -> Taken
 // The whole text, where the cutter answered this. That the buffer was too short it never answers, as 15 comes before.
 pub fn put_verdict<'a>(pile: &'a [u8], answers: &'a [u8], taken: Taken, out: &mut [u8]) -> usize
     requires { ⌜ Takes (now pile) (now answers) 65536 taken × (2048 ≤ length (now out)) ⌝ }
-    ensures { λ r. ⌜ Puts (now (out .entry)) 0 (verdictText (now (pile .entry)) (now (answers .entry)) taken) (now (out .exit)) r ⌝ }
+    ensures { λ r. ⌜ Puts (now (out .entry)) 0 (verdictText (now (pile .entry)) (now (answers .entry)) taken)
+        (now (out .exit)) r ⌝ }
 {
     match taken {
         Taken::Run(first, last) => {
@@ -57,7 +58,8 @@ pub fn put_verdict<'a>(pile: &'a [u8], answers: &'a [u8], taken: Taken, out: &mu
 // The count, and a line for each record.
 fn put_records<'a>(pile: &'a [u8], answers: &'a [u8], out: &mut [u8]) -> usize
     requires { ⌜ (recordsIn (now pile) ≤ 16) × (2048 ≤ length (now out)) ⌝ }
-    ensures { λ r. ⌜ Puts (now (out .entry)) 0 (recordsText (now (pile .entry)) (now (answers .entry))) (now (out .exit)) r ⌝ }
+    ensures { λ r. ⌜ Puts (now (out .entry)) 0 (recordsText (now (pile .entry)) (now (answers .entry)))
+        (now (out .exit)) r ⌝ }
     ensures { λ r. ⌜ r ≤ 1085 ⌝ }
 {
     let n = pile.len() / RECORD;
@@ -68,7 +70,8 @@ fn put_records<'a>(pile: &'a [u8], answers: &'a [u8], out: &mut [u8]) -> usize
 // A line for each of the first n records.
 fn put_lines<'a>(pile: &'a [u8], answers: &'a [u8], n: usize, out: &mut [u8], at: usize) -> usize
     requires { ⌜ (n ≤ 16) × (at + 1056 ≤ length (now out)) ⌝ }
-    ensures { λ r. ⌜ Puts (now (out .entry)) at (recordLines (judged (now (pile .entry)) (now (answers .entry))) n) (now (out .exit)) r ⌝ }
+    ensures { λ r. ⌜ Puts (now (out .entry)) at (recordLines (judged (now (pile .entry)) (now (answers .entry))) n)
+        (now (out .exit)) r ⌝ }
     ensures { λ r. ⌜ r ≤ at + 1056 ⌝ }
 {
     let mut end = at;

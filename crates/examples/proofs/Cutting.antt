@@ -1,5 +1,4 @@
 -- The cutter's answer on a linked pile, computed from the verdicts on its records.
--- Assumes nothing.
 use mathlib.Core.Path.{_≡_, refl, sym, subst, ap₂}
 use mathlib.Core.Bool.{Bool, true, false, _&&_}
 use mathlib.Core.List.{List}
@@ -15,12 +14,11 @@ use Rattle.runs.specs.Convict.{Convicts, verdictIn}
 use Rattle.runs.specs.declared.Span.{Span}
 use Rattle.runs.specs.declared.Span.the-variants.{Places, Nothing}
 use Rattle.runs.proofs.Find.{runOf, run-exists}
-use Rattle.runs.proofs.Moved.{same-answer}
+use Rattle.runs.proofs.SamePile.{same-answer}
 use Rattle.report.specs.Report.{judged}
 use Rattle.report.specs.Taking.{ConvictsIn, Takes}
 use Rattle.report.specs.declared.Taken.{Taken}
 use Rattle.report.specs.declared.Taken.the-variants.{Run, NoRun}
-use Rattle.report.proofs.Moved.{after-first}
 use Rattle.examples.specs.Claims.{Finds, CutterSays}
 
 -- the run of a linked pile with these verdicts
@@ -44,11 +42,10 @@ cuts : (vs : List Verdict) → CutterSays vs (takenOf (runOn vs))
 cuts vs pile answers room h l =
     let n = length vs in
     let v = judged pile answers in
-    let all : ℕ → Bool = λ k. true in
     takes pile answers room (h .good) l (runOn vs)
     (subst (λ (m : ℕ). Answers (Convicts v (linkedOf pile) m) (runOn vs)) (sym (h .many))
-    (after-first v all (linkedOf pile) n (λ k z u. sym (h .links k z u)) (runOn vs)
-    (same-answer (verdictIn vs) v all all n (λ k u. sym (h .same k u)) (λ k u. refl) (runOn vs) (finds vs))))
+    (same-answer (verdictIn vs) v (λ k. true) (linkedOf pile) n (λ k u. sym (h .same k u))
+    (λ k z u. sym (h .links k z u)) (runOn vs) (finds vs)))
 
 -- the run is from i to j, and there is none
 abbrev pub isFrom : Span → ℕ → ℕ → Bool
@@ -72,7 +69,8 @@ is-none Nothing t = refl
 found : (vs : List Verdict) (s : Span) → runOn vs ≡ s → Finds vs s × CutterSays vs (takenOf s)
 found vs s e = subst (λ (x : Span). Finds vs x × CutterSays vs (takenOf x)) e (finds vs, cuts vs)
 
-pub run-found : (vs : List Verdict) (i j : ℕ) → T (isFrom (runOn vs) i j) → Finds vs (Places i j) × CutterSays vs (Run i j)
+pub run-found : (vs : List Verdict) (i j : ℕ) → T (isFrom (runOn vs) i j)
+    → Finds vs (Places i j) × CutterSays vs (Run i j)
 run-found vs i j t = found vs (Places i j) (is-from (runOn vs) i j t)
 
 pub none-found : (vs : List Verdict) → T (isNone (runOn vs)) → Finds vs Nothing × CutterSays vs NoRun

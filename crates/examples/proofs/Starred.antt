@@ -1,35 +1,31 @@
--- Every starred example of document 01 holds. A test that antt computes decides a row, and one law turns the test into what the row claims.
--- Assumes nothing.
-use mathlib.Core.Path.{_≡_, refl, _∙_}
+-- Every starred example of document 01 holds. A test that antt computes decides a row, and one law turns the test into
+-- what the row claims.
+use mathlib.Core.Path.{_≡_, refl, subst, _∙_}
 use mathlib.Core.Bool.{Bool, true, false, _&&_, Bool·beq}
 use mathlib.Core.List.{List, [], _∷_}
 use Prim.Native.Nat.{ℕ, _*_, _^_}
+use native.Mathlib.Omega.{arith}
 use lib.Dec.{T, eqb, ltb, leb, eqb→eq, ltb→lt, leb→le}
 use mir.Facts.{and-yes}
 use Rattle.laws.specs.Any.{any}
-use Rattle.laws.specs.First.{when, firstOf, whenOf}
+use Rattle.laws.specs.First.{firstOf, whenOf}
 use Rattle.laws.specs.Least.{least, somewhere}
-use Rattle.laws.specs.Numbers.{le, leBytes}
-use Rattle.laws.specs.Same.{same}
-use Rattle.message.specs.Encode.{words}
+use Rattle.laws.specs.Numbers.{le}
+use Rattle.refusal.specs.declared.Refusal.{Refusal}
 use Rattle.message.specs.Frame.{lengthBad, countBad, edge, frameCode}
-use Rattle.message.specs.Rules.{messageCode}
-use Rattle.wire.specs.Packet.{packetOf, packetCode, markWrong, lengthWrong}
-use Rattle.wire.specs.Request.{requestCode, requestMessageCode}
-use Rattle.wire.specs.Response.{responseCode, responseMessageCode, shapeCode}
-use Rattle.wire.proofs.Asking.{request-says}
-use Rattle.wire.proofs.Shaping.{response-says}
 use Rattle.tree.specs.Direction.{indxOf}
 use Rattle.tree.specs.Tree.{depthOf}
-use Rattle.tree.specs.Answers.{countOf}
+use Rattle.tree.specs.Batch.{countOf}
 use Rattle.runs.specs.Clash.{clash}
 use Rattle.report.specs.Taking.{takenNumber}
 use Rattle.report.specs.declared.Taken.the-variants.{NoRun}
-use Rattle.examples.specs.Claims.{Row, low-end, high-end, contradicts, run, no-run, depth, path, indx, above-maxt, message, _and_, Claim}
+use Rattle.examples.specs.Claims.{Row, low-end, high-end, contradicts, run, no-run, depth, path, indx, at-maxt}
+use Rattle.examples.specs.Claims.{above-maxt, message, equal-tags, _and_, Claim, Refuses}
 use Rattle.examples.specs.Table.{table, Each}
 use Rattle.examples.proofs.Cutting.{runOn, isFrom, isNone, run-found, none-found}
 use Rattle.examples.proofs.Building.{batch-rooted, batch-path}
-use Rattle.examples.proofs.Checking.{large-misses, large-refused, late-says}
+use Rattle.examples.proofs.Checking.{large-misses, large-refused, in-time-passes, late-refused}
+use Rattle.examples.proofs.Reading.{frame-refuses, equal-refuses}
 
 -- the bytes of n leaves are n leaves, of a tree of depth d
 abbrev batch : ℕ → ℕ → Bool
@@ -44,8 +40,10 @@ test (no-run vs code) = isNone (runOn vs) && eqb (takenNumber NoRun) code
 test (depth n d) = batch n d && ltb 0 n
 test (path n place i d) = batch n d && (ltb place n && eqb (indxOf d place) i)
 test (indx i n code) = leb (2 ^ n) i && eqb 10 code
-test (above-maxt k code) = eqb (when (ltb 0 k) 11) code
-test (message m code) = eqb (requestCode (packetOf m)) code && eqb (responseCode (packetOf m)) code
+test at-maxt = true
+test (above-maxt k code) = ltb 0 k && eqb 11 code
+test (message m code) = ltb 0 code && eqb (frameCode m .code) code
+test (equal-tags code) = eqb 5 code
 test (r and s) = test r && test s
 
 beq-same : (a b : Bool) → T (Bool·beq a b) → a ≡ b
@@ -81,10 +79,18 @@ passes (indx i n code) t =
     let u = and-yes (leb (2 ^ n) i) (eqb 10 code) t in
     let large = leb→le (2 ^ n) i (u .0) in
     (large-misses i n large, λ q p d s c. large-refused i n large q p d s c ∙ eqb→eq 10 code (u .1))
-passes (above-maxt k code) t = λ q p c. late-says q p k c ∙ eqb→eq _ code t
+passes at-maxt t = λ q p c. in-time-passes q p (c .before) (c .leads) (c .from) (omega (arith, c .above))
+passes (above-maxt k code) t =
+    let u = and-yes (ltb 0 k) (eqb 11 code) t in
+    let some = ltb→lt 0 k (u .0) in (
+    λ q p d s c.
+    late-refused q p (c .before) (c .leads) (c .from) d s (omega (arith, c .above)) ∙ eqb→eq 11 code (u .1)
+    )
 passes (message m code) t =
-    let u = and-yes (eqb (requestCode (packetOf m)) code) (eqb (responseCode (packetOf m)) code) t in
-    (request-says (packetOf m) ∙ eqb→eq _ code (u .0), response-says (packetOf m) ∙ eqb→eq _ code (u .1))
+    let u = and-yes (ltb 0 code) (eqb (frameCode m .code) code) t in
+    frame-refuses m code (ltb→lt 0 code (u .0)) (eqb→eq _ code (u .1))
+passes (equal-tags code) t =
+    λ m h. subst (λ (n : ℕ). Refuses m n) (eqb→eq 5 code t) (equal-refuses m h)
 passes (r and s) t = let u = and-yes (test r) (test s) t in (passes r (u .0), passes s (u .1))
 
 abbrev all-pass : List Row → Bool
@@ -96,9 +102,6 @@ each [] t = tt
 each (r ∷ rs) t = let u = and-yes (test r) (all-pass rs) t in (passes r (u .0), each rs (u .1))
 
 -- every row of the table holds
-pub starred : (refusal : ℕ) → Each (table refusal)
-unfolding whenOf firstOf any least somewhere le leBytes words same
-    countOf depthOf indxOf
-    packetOf packetCode markWrong lengthWrong requestCode requestMessageCode responseCode responseMessageCode shapeCode
-    messageCode frameCode lengthBad countBad edge
-starred refusal = each (table refusal) tt
+pub starred : (why : Refusal) → Each (table why)
+unfolding whenOf firstOf any least somewhere le countOf depthOf indxOf frameCode lengthBad countBad edge
+starred why = each (table why) tt

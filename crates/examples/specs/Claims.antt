@@ -1,21 +1,28 @@
--- What an example of document 01 claims, by its kind. Each claim is about the definitions that the contracts cite, for all that the example
--- leaves open: every pile with such records, every batch of so many leaves, every request and response of which it is true.
+-- What an example of document 01 claims, by its kind. Each claim is about the definitions that the contracts cite, for
+-- all that the example leaves open: every pile with such records, every batch of so many leaves, every request and
+-- response of which it is true, every message.
 use mathlib.Core.Path.{_≡_}
 use mathlib.Core.Bool.{Bool, true, false}
 use mathlib.Core.List.{List}
 use Prim.Native.Nat.{ℕ, _+_, _*_, _≤_, _<_}
 use lib.ListN.{length}
+use Rattle.message.specs.Frame.{count, tagAt}
+use Rattle.message.specs.Rules.{messageCode}
+use Rattle.message.specs.Rules as rules
+use Rattle.message.specs.Sentences.{Good}
 use Rattle.message.specs.Tags.{PATH}
 use Rattle.message.specs.Values.{valueOf}
 use Rattle.wire.specs.Packet.{packetOf, body}
-use Rattle.wire.specs.Request.{requestOf, answerNumber}
+use Rattle.wire.specs.Request.{requestOf, requestBad}
 use Rattle.wire.specs.Response.{indxIn, midpIn, mintIn, maxtIn, responseCode, responseOf}
-use Rattle.tree.specs.Check.{leadsOf}
-use Rattle.tree.specs.Answers.{rootedOf, pathTold, pathBytes, placedTold}
+use Rattle.tree.specs.PathCheck.{leadsOf}
+use Rattle.tree.specs.Batch.{countOf}
+use Rattle.tree.specs.Answers.{rootedOf, PlacesLeaf, pathBytes}
 use Rattle.tree.specs.declared.Placed.the-variants.{Written}
 use Rattle.verdict.specs.Window.{windowOf}
-use Rattle.verdict.specs.Check.{requestBad, versionUnasked, nonceDiffers, pathMisses, verdictOf, verdictNumber}
+use Rattle.verdict.specs.Check.{versionUnasked, nonceDiffers, pathMisses, windowIn, verdictOf, verdictNumber}
 use Rattle.verdict.specs.declared.Verdict.{Verdict}
+use Rattle.verdict.specs.declared.Verdict.the-variants.{Valid}
 use Rattle.verdict.specs.declared.Window.{Window}
 use Rattle.pile.specs.Pile.{recordsIn}
 use Rattle.pile.specs.Links.{linkedOf}
@@ -43,7 +50,8 @@ pub data Row : Type 0 where
   low-end high-end : Window → ℕ → Row
   -- the first window contradicts the second: yes or no
   contradicts : Window → Window → Bool → Row
-  -- of a linked pile with these verdicts on its records: the places of the run that the cutter finds, or the code where there is none
+  -- of a linked pile with these verdicts on its records: the places of the run that the cutter finds, or the code where
+  -- there is none
   run : List Verdict → ℕ → ℕ → Row
   no-run : List Verdict → ℕ → Row
   -- of so many leaves: the depth d
@@ -52,10 +60,14 @@ pub data Row : Type 0 where
   path : ℕ → ℕ → ℕ → ℕ → Row
   -- INDX in a response with so many siblings: the code
   indx : ℕ → ℕ → ℕ → Row
-  -- MIDP is so much above MAXT: the code, 0 for none
+  -- MIDP is MAXT: the response passes
+  at-maxt : Row
+  -- MIDP is so much above MAXT: the code
   above-maxt : ℕ → ℕ → Row
-  -- a message, as a request's or a response's: the code
+  -- a message: the code
   message : List ℕ → ℕ → Row
+  -- a message in which two tags are equal: the code
+  equal-tags : ℕ → Row
   -- two of them at once
   _and_ : Row → Row → Row
 
@@ -74,12 +86,14 @@ Finds verdicts answer = Answers (Convicts (verdictIn verdicts) (λ k. true) (len
 
 -- and what the cutter answers to each such pile, where the buffer has room for it
 abbrev pub CutterSays : List Verdict → Taken → Type 0
-CutterSays verdicts answer = (pile answers : List ℕ) (room : ℕ) → Linked pile answers verdicts → length pile ≤ room → Takes pile answers room answer
+CutterSays verdicts answer =
+    (pile answers : List ℕ) (room : ℕ) → Linked pile answers verdicts → length pile ≤ room
+    → Takes pile answers room answer
 
 -- the response p to the request q: none of 14 and 1 to 9 applies
 pub record Before10 (q p : List ℕ) : Type 0 where
   pub request : requestBad q ≡ false
-  pub shape : responseCode p ≡ 0
+  pub shape : responseCode p .code ≡ 0
   pub version : versionUnasked (body q) (body p) ≡ false
   pub nonce : nonceDiffers (body q) (body p) ≡ false
 
@@ -100,21 +114,40 @@ pub record Late (k : ℕ) (q p : List ℕ) : Type 0 where
 abbrev pub Misses : ℕ → ℕ → Type 0
 Misses i siblings = (leaf path root : List ℕ) → length path ≡ 32 * siblings → leadsOf leaf i path root ≡ false
 
+-- a message whose length, N, header and offsets are right, and of whose tags two, at any two places, are equal
+pub record EqualTags (m : List ℕ) : Type 0 where
+  pub good : Good m
+  pub i : ℕ
+  pub j : ℕ
+  pub order : i < j
+  pub inside : j < count m
+  pub same : tagAt m i ≡ tagAt m j
+
+-- every reader gives this code to the message m: by any table, and, where its packet has at most 2,000 bytes, as the
+-- message of a request and of a response
+pub record Refuses (m : List ℕ) (code : ℕ) : Type 0 where
+  pub by-table : (rows : List rules.Row) → messageCode m rows .code ≡ code
+  pub in-request : length (packetOf m) ≤ 2000 → requestOf (packetOf m) .answer .code ≡ code
+  pub in-response : length (packetOf m) ≤ 2000 → responseOf (packetOf m) .answer .code ≡ code
+
 -- ---- what they claim
 
+-- d and s are the two signature answers
 abbrev pub Claim : Row → Type 0
 Claim (low-end w n) = w .low ≡ n
 Claim (high-end w n) = w .high ≡ n
 Claim (contradicts a b answer) = clash a b ≡ answer
 Claim (run verdicts i j) = Finds verdicts (Places i j) × CutterSays verdicts (Run i j)
 Claim (no-run verdicts code) = Finds verdicts Nothing × CutterSays verdicts NoRun × (takenNumber NoRun ≡ code)
-Claim (depth leaves d) = (s : List ℕ) → length s ≡ 32 * leaves → (rootedOf s .code ≡ 0) × (rootedOf s .depth ≡ d)
+Claim (depth leaves d) =
+    (s : List ℕ) → length s ≡ 32 * leaves → (rootedOf s .refusal .code ≡ 0) × (rootedOf s .depth ≡ d)
 Claim (path leaves place i siblings) =
     (s : List ℕ) (room : ℕ) → length s ≡ 32 * leaves → 32 * siblings ≤ room
-    → (placedTold (Written i siblings) ≡ pathTold s place room) × (length (pathBytes s place) ≡ 32 * siblings)
+    → PlacesLeaf (countOf (length s)) place room (Written i siblings) × (length (pathBytes s place) ≡ 32 * siblings)
 Claim (indx i siblings code) =
     Misses i siblings × ((q p : List ℕ) (d s : Bool) → Climbs i siblings q p → verdictNumber (verdictOf q p d s) ≡ code)
-Claim (above-maxt k code) = (q p : List ℕ) → Late k q p → verdictNumber (verdictOf q p true true) ≡ code
-Claim (message m code) =
-    (answerNumber (requestOf (packetOf m) .answer) ≡ code) × (answerNumber (responseOf (packetOf m) .answer) ≡ code)
+Claim at-maxt = (q p : List ℕ) → Late 0 q p → verdictOf q p true true ≡ Valid (windowIn (body p))
+Claim (above-maxt k code) = (q p : List ℕ) (d s : Bool) → Late k q p → verdictNumber (verdictOf q p d s) ≡ code
+Claim (message m code) = Refuses m code
+Claim (equal-tags code) = (m : List ℕ) → EqualTags m → Refuses m code
 Claim (r and s) = Claim r × Claim s

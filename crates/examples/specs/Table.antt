@@ -1,16 +1,16 @@
 -- Document 01's starred examples, by its numbers and in its order.
 use mathlib.Core.Bool.{true, false}
 use mathlib.Core.List.{List, [], _∷_}
-use Prim.Native.Nat.{ℕ, _-_, _^_}
+use Prim.Native.Nat.{_-_, _^_}
 use lib.ListN.{replicate}
-use Rattle.message.specs.Encode.{words}
-use Rattle.message.specs.Tags.{NONC}
+use Rattle.refusal.specs.declared.Refusal.{Refusal}
 use Rattle.verdict.specs.declared.Verdict.the-variants.{Valid, Refused}
-use Rattle.examples.specs.Claims.{_±_, Row, low-end, high-end, contradicts, run, no-run, depth, path, indx, above-maxt, message, _and_, Claim}
+use Rattle.examples.specs.Claims.{_±_, Row, low-end, high-end, contradicts, run, no-run, depth, path, indx}
+use Rattle.examples.specs.Claims.{at-maxt, above-maxt, message, equal-tags, _and_, Claim}
 
--- `refusal` is the code by which record 1 of example 7 is refused, whichever it is
-abbrev pub table : ℕ → List Row
-table refusal =
+-- `why` is the refusal of record 1 of example 7, whichever it is
+abbrev pub table : Refusal → List Row
+table why =
     -- 1. 1000±5 then 990±5: no contradiction
     contradicts (1000 ± 5) (990 ± 5) false
     -- 2. 1000±5 then 990±4: contradiction
@@ -25,7 +25,7 @@ table refusal =
     ∷ run (Valid (100 ± 1) ∷ Valid (90 ± 1) ∷ Valid (80 ± 1) ∷ []) 0 1
     -- 7. run 0..2; with record 1 refused: 18
     ∷ run (Valid (100 ± 1) ∷ Valid (95 ± 20) ∷ Valid (80 ± 1) ∷ []) 0 2
-    and no-run (Valid (100 ± 1) ∷ Refused refusal ∷ Valid (80 ± 1) ∷ []) 18
+    and no-run (Valid (100 ± 1) ∷ Refused why ∷ Valid (80 ± 1) ∷ []) 18
     -- 8. one leaf: d 0, INDX 0, empty path
     ∷ depth 1 0 and path 1 0 0 0
     -- 9. three leaves: d 2; places 0 and 2 have INDX 3 and 1 (and two siblings each)
@@ -33,9 +33,9 @@ table refusal =
     -- 10. INDX 1 with no siblings: 10; INDX 2 with one: 10
     ∷ indx 1 0 10 and indx 2 1 10
     -- 11. MIDP = MAXT passes; MIDP = MAXT + 1: 11
-    ∷ above-maxt 0 0 and above-maxt 1 11
-    -- 12. message of 4 zero bytes: 4; two equal tags: 5 (N 2, the offset 4, NONC twice, and two values of four bytes)
-    ∷ message (replicate 4 0) 4 and message (words (2 ∷ 4 ∷ NONC ∷ NONC ∷ 0 ∷ 0 ∷ [])) 5
+    ∷ at-maxt and above-maxt 1 11
+    -- 12. message of 4 zero bytes: 4; two equal tags: 5
+    ∷ message (replicate 4 0) 4 and equal-tags 5
     ∷ []
 
 -- every row of a table holds

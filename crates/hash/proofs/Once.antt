@@ -1,6 +1,5 @@
 -- Each operation's contract settles its result.
--- Assumes nothing.
-use mathlib.Core.Path.{sym, _∙_}
+use mathlib.Core.Path.{refl, sym, _∙_}
 use Rattle.laws.proofs.Once.{Settles}
 use Rattle.hash.proofs.leaf.Kinds as leaf-kinds
 use Rattle.hash.proofs.leaf.Reads as leaf-reads
@@ -13,17 +12,17 @@ use Rattle.hash.proofs.srv_value.Reads as srv-value-reads
 use Rattle.hash.proofs.link.Kinds as link-kinds
 use Rattle.hash.proofs.link.Reads as link-reads
 
-pub leaf-once : Settles 1 leaf-kinds.ps leaf-kinds.r leaf-reads.Post
-leaf-once κs a x e y f p q = p ∙ sym q
+pub leaf-once : Settles leaf-kinds.ps leaf-kinds.r leaf-reads.Learnt
+leaf-once κs a x u y v p q = (p ∙ sym q, refl)
 
-pub parent-once : Settles 0 parent-kinds.ps parent-kinds.r parent-reads.Post
-parent-once κs a x e y f p q = p ∙ sym q
+pub parent-once : Settles parent-kinds.ps parent-kinds.r parent-reads.Learnt
+parent-once κs a x u y v p q = (p ∙ sym q, refl)
 
-pub empty-place-once : Settles 0 empty-place-kinds.ps empty-place-kinds.r empty-place-reads.Post
-empty-place-once κs a x e y f p q = p ∙ sym q
+pub empty-place-once : Settles empty-place-kinds.ps empty-place-kinds.r empty-place-reads.Learnt
+empty-place-once κs a x u y v p q = (p ∙ sym q, refl)
 
-pub srv-value-once : Settles 0 srv-value-kinds.ps srv-value-kinds.r srv-value-reads.Post
-srv-value-once κs a x e y f p q = p ∙ sym q
+pub srv-value-once : Settles srv-value-kinds.ps srv-value-kinds.r srv-value-reads.Learnt
+srv-value-once κs a x u y v p q = (p ∙ sym q, refl)
 
-pub link-once : Settles 1 link-kinds.ps link-kinds.r link-reads.Post
-link-once κs a x e y f p q = p ∙ sym q
+pub link-once : Settles link-kinds.ps link-kinds.r link-reads.Learnt
+link-once κs a x u y v p q = (p ∙ sym q, refl)

@@ -1,4 +1,5 @@
--- H, and what it is taken of: a server's SRV value (draft 19, 5.1.4), leaves and parents (5.3), an empty place (document 01, house) and links (8.2).
+-- H, and what it is taken of: a server's SRV value (draft 19, 5.1.4), leaves and parents (5.3), an empty place
+-- (document 01, house) and links (8.2).
 -- A contract cannot use the name `H`, so it is `H32` here.
 use mathlib.Core.List.{List, [], _∷_, _++_}
 use Prim.Native.Nat.{ℕ}

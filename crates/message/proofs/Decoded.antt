@@ -1,5 +1,5 @@
--- A good frame is an encoding: the fields that a reader finds in it are ones that a message may hold, and they encode to it.
--- Assumes nothing.
+-- A good frame is an encoding: the fields that a reader finds in it are ones that a message may hold, and they encode
+-- to it.
 use Prim.Native.Nat.{ℕ, zero, suc, zero-le, _+_, _-_, _*_, _%_, _^_, _≤_, _<_}
 use mathlib.Core.Path.{_≡_, refl, sym, ap, ap₂, _∙_}
 use mathlib.Core.List.{List, _∷_, _++_, append-nil}
@@ -9,16 +9,17 @@ use native.Mathlib.Numerals.{add-one}
 use native.Mathlib.Omega.{arith}
 use lib.ListN.{length, getD, take, drop, length-drop, take-append-drop}
 use lib.Seq.{take-add, drop-drop, ext-getD, getD-drop, take-all, length-take-le}
+use Rattle.laws.specs.Bytes.{Bytes}
 use Rattle.laws.specs.Upto.{upto}
 use Rattle.laws.proofs.Numbers.{leBytes-le, le-bound}
 use Rattle.laws.proofs.Upto.{upto-length, upto-at}
-use Rattle.message.specs.Encode.{Field, Fields, words, starts, offsets, tags, values, encode, field}
-use Rattle.message.specs.Facts.{Good}
+use Rattle.message.specs.Encode.{Field, Fields, Encoded, words, starts, offsets, tags, values, encode, field}
 use Rattle.message.specs.Frame.{word, count, tagAt, section, edge, offset, frameCode}
+use Rattle.message.specs.Sentences.{Good, TagsRise}
 use Rattle.message.specs.Values.{valueAt}
-use Rattle.message.proofs.Framed.{edge-first, edge-inner, edge-last, good, value-in}
-use Rattle.message.proofs.Laid.{blank, words-append, tags-append, values-append, length-starts, starts-more}
-use Rattle.message.proofs.Meant.{Meant, meant}
+use Rattle.message.proofs.Codes.{frame-0}
+use Rattle.message.proofs.Edges.{edge-first, edge-inner, edge-last, value-in}
+use Rattle.message.proofs.Positions.{blank, words-append, tags-append, values-append, length-starts, starts-more}
 use Rattle.message.proofs.Encoded.{count-encoded, tag-encoded, value-at-encoded}
 
 -- field k, as a reader finds it
@@ -59,7 +60,7 @@ unfolding tags upto
 tags-upto m zero = refl
 tags-upto m (suc n) = rw (tags-append, tags-upto m n)
 
-module _ (m : List ℕ) (bytes : (k : ℕ) → getD m k 0 < 256) where
+module _ (m : List ℕ) (bytes : Bytes m) where
   -- n words of m, written again
   pub words-upto : (at n : ℕ) → at + 4 * n ≤ length m → words (upto (word m at) n) ≡ take (4 * n) (drop at m)
   unfolding words upto
@@ -80,7 +81,8 @@ module _ (m : List ℕ) (g : Good m) where
   unfolding values upto valueAt
   values-upto zero h = rw (edge-first m)
   values-upto (suc k) h =
-      let e : edge m (suc k) ≡ edge m k + (edge m (k + 1) - edge m k) = rw (← add-one k) (omega (arith, value-in m g k h)) in
+      let e : edge m (suc k) ≡ edge m k + (edge m (k + 1) - edge m k) =
+      rw (← add-one k) (omega (arith, value-in m g k h)) in
       rw (values-append, values-upto k (omega arith), append-nil, e, take-add, drop-drop)
 
   -- every edge is within the value section
@@ -102,25 +104,29 @@ module _ (m : List ℕ) (g : Good m) where
   pub offset-at : (k : ℕ) → suc k < count m → getD (drop 1 (upto (edge m) (count m))) k 0 ≡ offset m (suc k)
   offset-at k h =
       let one : 1 + k ≡ suc k = omega arith in
-      getD-drop 1 (upto (edge m) (count m)) k 0 ∙ rw one (upto-at (edge m) (count m) (suc k) 0 h ∙ edge-inner m (suc k) (omega arith) h)
+      getD-drop 1 (upto (edge m) (count m)) k 0
+      ∙ rw one (upto-at (edge m) (count m) (suc k) 0 h ∙ edge-inner m (suc k) (omega arith) h)
 
   -- and with N in front they are its first N words
   pub front : _≡_ {A = List ℕ} (count m ∷ drop 1 (upto (edge m) (count m))) (upto (word m 0) (count m))
-  front = ext-getD 0 (count m ∷ drop 1 (upto (edge m) (count m))) (upto (word m 0) (count m)) (rw (long, upto-length)) (λ k h. at k (rw long at h))
+  front =
+      ext-getD 0 (count m ∷ drop 1 (upto (edge m) (count m))) (upto (word m 0) (count m)) (rw (long, upto-length))
+      (λ k h. at k (rw long at h))
     where
       long : suc (length (drop 1 (upto (edge m) (count m)))) ≡ count m
       long = rw (length-drop, upto-length) (omega (arith, g .head))
 
-      at : (k : ℕ) → k < count m → getD (count m ∷ drop 1 (upto (edge m) (count m))) k 0 ≡ getD (upto (word m 0) (count m)) k 0
+      at : (k : ℕ) → k < count m
+          → getD (count m ∷ drop 1 (upto (edge m) (count m))) k 0 ≡ getD (upto (word m 0) (count m)) k 0
       at zero h = sym (upto-at (word m 0) (count m) 0 0 h)
       at (suc k) h = offset-at k h ∙ sym (upto-at (word m 0) (count m) (suc k) 0 h ∙ rw zero-add)
 
-module _ (m : List ℕ) (bytes : (k : ℕ) → getD m k 0 < 256) (e : frameCode m ≡ 0) where
+module _ (m : List ℕ) (bytes : Bytes m) (e : frameCode m .code ≡ 0) where
   fine : Good m
-  fine = good m e
+  fine = frame-0 m .0 e .0
 
-  told : Meant m
-  told = meant m e
+  rise : TagsRise m
+  rise = frame-0 m .0 e .1
 
   -- the fields that a reader finds in a good frame encode to it,
   pub encode-decode : encode (decode m) ≡ m
@@ -131,11 +137,13 @@ module _ (m : List ℕ) (bytes : (k : ℕ) → getD m k 0 < 256) (e : frameCode 
       let two : 4 * n + 4 * n ≡ 8 * n = omega arith in
       let header : words (n ∷ (drop 1 (upto (edge m) n) ++ upto (tagAt m) n)) ≡ take (8 * n) m =
       words-append (n ∷ drop 1 (upto (edge m) n)) (upto (tagAt m) n)
-      ∙ ap₂ (λ (x y : List ℕ). x ++ y) (ap words (front m fine) ∙ words-upto m bytes 0 n (omega arith)) (words-upto m bytes (4 * n) n (omega arith))
+      ∙ ap₂ (λ (x y : List ℕ). x ++ y) (ap words (front m fine) ∙ words-upto m bytes 0 n (omega arith))
+      (words-upto m bytes (4 * n) n (omega arith))
       ∙ sym (take-add (4 * n) (4 * n) m) ∙ ap (λ (k : ℕ). take k m) two in
       let rest : take (edge m n) (drop (8 * n) m) ≡ drop (8 * n) m =
-      rw (edge-last m (fine .head .some-tag)) (take-all (section m) (drop (8 * n) m) (le-of-eq (length-drop (8 * n) m))) in
-      rw (upto-length, starts-upto m fine n (le-refl n), tags-upto m n, values-upto m fine n (le-refl n), header, rest) (take-append-drop (8 * n) m)
+      rw (edge-last m (fine .head .one)) (take-all (section m) (drop (8 * n) m) (le-of-eq (length-drop (8 * n) m))) in
+      rw (upto-length, starts-upto m fine n (le-refl n), tags-upto m n, values-upto m fine n (le-refl n), header, rest)
+      (take-append-drop (8 * n) m)
 
   -- the edges of a good frame are multiples of four
   edge-four : (k : ℕ) → k ≤ count m → edge m k % 4 ≡ 0
@@ -143,10 +151,10 @@ module _ (m : List ℕ) (bytes : (k : ℕ) → getD m k 0 < 256) (e : frameCode 
   edge-four (suc k) h = ⊎-elim last inner (eq-or-lt-of-le h)
     where
       last : suc k ≡ count m → edge m (suc k) % 4 ≡ 0
-      last q = rw (q, edge-last m (fine .head .some-tag)) (omega (arith, fine .size, fine .head))
+      last q = rw (q, edge-last m (fine .head .one)) (omega (arith, fine .size, fine .head))
 
       inner : suc k < count m → edge m (suc k) % 4 ≡ 0
-      inner l = rw (edge-inner m (suc k) (omega arith) l, ← add-one k) (told .placed k (omega arith) .four)
+      inner l = rw (edge-inner m (suc k) (omega arith) l) (fine .offsets .four (suc k) (omega arith) l)
 
   -- and are ones that a message may hold
   pub decode-fields : Fields (decode m)
@@ -155,26 +163,24 @@ module _ (m : List ℕ) (bytes : (k : ℕ) → getD m k 0 < 256) (e : frameCode 
       let n : ℕ = count m in
       let l : length (upto (fieldAt m) n) ≡ n = upto-length (fieldAt m) n in
       record {
-        one = rw l (fine .head .some-tag);
+        one = rw l (fine .head .one);
         few = rw l (fine .head .few);
         word = λ k h. rw (upto-at (fieldAt m) n k blank (rw l at h)) (le-bound m bytes 4 (4 * n + 4 * k));
-        rise = λ k h. rw (upto-at (fieldAt m) n k blank (omega arith), upto-at (fieldAt m) n (k + 1) blank (omega arith)) (told .rise k (omega arith));
+        rise = λ k h.
+            rw (upto-at (fieldAt m) n k blank (omega arith), upto-at (fieldAt m) n (k + 1) blank (omega arith))
+            (rise k (omega arith));
         fours = λ k h. rw (upto-at (fieldAt m) n k blank (rw l at h)) (four k (rw l at h));
         near = λ k h. rw (starts-upto m fine n (le-refl n)) (near k (rw (length-drop, length-starts, l) at h));
       }
     where
       four : (k : ℕ) → k < count m → length (valueAt m k) % 4 ≡ 0
-      four k h = rw (length-value m fine k h) (omega (arith, edge-four k (omega arith), edge-four (k + 1) (omega arith)))
+      four k h =
+          rw (length-value m fine k h) (omega (arith, edge-four k (omega arith), edge-four (k + 1) (omega arith)))
 
       near : (k : ℕ) → k < count m - 1 → getD (drop 1 (upto (edge m) (count m))) k 0 < 2 ^ 32
       near k h = rw (offset-at m fine k (omega arith)) (le-bound m bytes 4 (4 * suc k))
 
--- m is the encoding of some fields that a message may hold
-pub record Encoded (m : List ℕ) : Type 0 where
-  pub fields : List Field
-  pub kept : Fields fields
-  pub is : m ≡ encode fields
-
--- every good frame of bytes is such an encoding
-pub good-encoded : (m : List ℕ) → ((k : ℕ) → getD m k 0 < 256) → frameCode m ≡ 0 → Encoded m
-good-encoded m bytes e = record { fields = decode m; kept = decode-fields m bytes e; is = sym (encode-decode m bytes e) }
+-- so every good frame of bytes is the encoding of some fields that a message may hold
+pub good-encoded : (m : List ℕ) → Bytes m → frameCode m .code ≡ 0 → Encoded m
+good-encoded m bytes e =
+    record { fields = decode m; kept = decode-fields m bytes e; is = sym (encode-decode m bytes e) }

@@ -1,5 +1,4 @@
 -- What a reader finds in an encoded message: its frame is good, and its fields are those that were written.
--- Assumes nothing.
 use Prim.Native.Nat.{ℕ, zero, suc, zero-le, _+_, _*_, _%_, _^_, _≤_, _<_}
 use mathlib.Core.Path.{_≡_, refl, sym, ap, _∙_}
 use mathlib.Core.Bool.{Bool, true, false, cond, _||_}
@@ -15,12 +14,15 @@ use lib.Seq.{getD-append-add, drop-append-add}
 use Rattle.laws.specs.Least.{least}
 use Rattle.laws.specs.Numbers.{le}
 use Rattle.laws.proofs.Least.{least-same, least-front}
+use Rattle.refusal.specs.Refusal.{refusal, passed}
 use Rattle.message.specs.Encode.{Field, Fields, words, offsets, tags, values, encode, field, among, valueAmong}
 use Rattle.message.specs.Frame.{count, tagAt, section, edge, offset, frameCode}
+use Rattle.message.specs.Sentences.{Good}
 use Rattle.message.specs.Values.{isTag, indexOf, has, valueAt, valueOf}
-use Rattle.message.proofs.Framed.{edge-first, edge-inner, edge-last}
-use Rattle.message.proofs.Laid.{blank, reach, length-words, word-at, length-tags, tag-of, length-offsets, offset-of, reach-next, reach-in, reach-all, value-of-field}
-use Rattle.message.proofs.Meant.{Placed, meant-good}
+use Rattle.message.proofs.Codes.{frame-0}
+use Rattle.message.proofs.Edges.{edge-first, edge-inner, edge-last}
+use Rattle.message.proofs.Positions.{blank, reach, length-words, word-at, length-tags, tag-of, length-offsets}
+use Rattle.message.proofs.Positions.{offset-of, reach-next, reach-in, reach-all, value-of-field}
 
 -- ---- an encoded message, as it is read
 
@@ -47,7 +49,8 @@ module _ (fs : List Field) (ok : Fields fs) where
   offset-encoded (suc k) p h =
       let i : k < length (offsets fs) = rw (length-offsets fs) (omega arith) in
       let e : getD (offsets fs) k 0 ≡ reach fs (suc k) = offset-of fs k h in
-      header-word (suc k) (reach fs (suc k)) (omega arith) (List·getD-append (offsets fs) (tags fs) 0 k i ∙ e) (rw (← e) (ok .near k i))
+      header-word (suc k) (reach fs (suc k)) (omega arith) (List·getD-append (offsets fs) (tags fs) 0 k i ∙ e)
+      (rw (← e) (ok .near k i))
   offset-encoded zero p h = absurd (omega arith)
 
   -- and tag k is the tag of field k
@@ -56,7 +59,8 @@ module _ (fs : List Field) (ok : Fields fs) where
       let l : length fs ≡ suc (length (offsets fs)) = omega (arith, length-offsets fs, ok .one) in
       let e : getD header (length fs + k) 0 ≡ field fs k .tag =
       ap (λ (n : ℕ). getD header (n + k) 0) l ∙ getD-append-add (length fs ∷ offsets fs) (tags fs) k 0 ∙ tag-of fs k in
-      rw (count-encoded, ← mul-add 4 (length fs) k) (header-word (length fs + k) (field fs k .tag) (omega arith) e (ok .word k h))
+      rw (count-encoded, ← mul-add 4 (length fs) k)
+      (header-word (length fs + k) (field fs k .tag) (omega arith) e (ok .word k h))
 
   -- the header's bytes and the values'
   pub length-encoded : length (encode fs) ≡ 8 * length fs + length (values fs)
@@ -76,17 +80,20 @@ module _ (fs : List Field) (ok : Fields fs) where
       last : suc k ≡ length fs → edge (encode fs) (suc k) ≡ reach fs (suc k)
       last e =
           rw e
-          (ap (edge (encode fs)) (sym count-encoded) ∙ edge-last (encode fs) (rw count-encoded (ok .one)) ∙ section-encoded ∙ sym (reach-all fs))
+          (ap (edge (encode fs)) (sym count-encoded) ∙ edge-last (encode fs) (rw count-encoded (ok .one))
+          ∙ section-encoded ∙ sym (reach-all fs))
 
       inner : suc k < length fs → edge (encode fs) (suc k) ≡ reach fs (suc k)
-      inner l = edge-inner (encode fs) (suc k) (omega arith) (rw count-encoded l) ∙ offset-encoded (suc k) (omega arith) l
+      inner l =
+          edge-inner (encode fs) (suc k) (omega arith) (rw count-encoded l) ∙ offset-encoded (suc k) (omega arith) l
 
   -- and value k is the value of field k
   pub value-at-encoded : (k : ℕ) → k < length fs → valueAt (encode fs) k ≡ field fs k .value
   unfolding valueAt encode
   value-at-encoded k h =
       let l : 8 * length fs ≡ length (words header) = rw (length-words, length-header) (omega arith) in
-      rw (edge-encoded (k + 1) (omega arith), edge-encoded k (omega arith), count-encoded, l, drop-append-add) (value-of-field fs k h)
+      rw (edge-encoded (k + 1) (omega arith), edge-encoded k (omega arith), count-encoded, l, drop-append-add)
+      (value-of-field fs k h)
 
   -- each value starts at a multiple of four
   pub reach-four : (k : ℕ) → k ≤ length fs → reach fs k % 4 ≡ 0
@@ -95,24 +102,35 @@ module _ (fs : List Field) (ok : Fields fs) where
   reach-four (suc k) h = omega (arith, (rw add-one at (reach-next fs k h)), reach-four k (omega arith), ok .fours k h)
 
   -- so its frame is good
-  pub encode-good : frameCode (encode fs) ≡ 0
+  pub encode-good : frameCode (encode fs) ≡ passed
   encode-good =
       let l : length (encode fs) ≡ 8 * length fs + length (values fs) = length-encoded in
       let c : count (encode fs) ≡ length fs = count-encoded in
       let f : length (values fs) % 4 ≡ 0 = rw reach-all at (reach-four (length fs) (le-refl (length fs))) in
-      meant-good (encode fs) (record {
+      let g : Good (encode fs) = record {
         size = record { four = omega (arith, ok .one); whole = omega arith };
-        head = record { some-tag = rw c (ok .one); few = rw c (ok .few); fits = omega arith };
-        placed = λ k h. at k (rw c at h);
-        rise = λ k h. rw (tag-encoded k (omega arith), tag-encoded (k + 1) (omega arith)) (ok .rise k (omega arith));
-      })
+        head = record { one = rw c (ok .one); few = rw c (ok .few); fits = omega arith };
+        offsets = record {
+          four = λ k o h. four k o (rw c at h);
+          order = λ k o h. order k o (rw c at h);
+          inside = λ k o h. inside k o (rw c at h);
+        };
+      } in
+      ap refusal (frame-0 (encode fs) .1 (g, λ k h. rise k (rw c at h)))
     where
-      at : (k : ℕ) → k + 1 < length fs → Placed (encode fs) k
-      at k h = record {
-        four = rw (offset-encoded (k + 1) (omega arith) h) (reach-four (k + 1) (omega arith));
-        order = rw (offset-encoded (k + 1) (omega arith) h, edge-encoded k (omega arith)) (omega (arith, reach-next fs k (omega arith)));
-        inside = rw (offset-encoded (k + 1) (omega arith) h, section-encoded) (reach-in fs (k + 1) h);
-      }
+      four : (k : ℕ) → 1 ≤ k → k < length fs → offset (encode fs) k % 4 ≡ 0
+      four k o h = rw (offset-encoded k o h) (reach-four k (omega arith))
+
+      order : (k : ℕ) → 1 ≤ k → k + 1 < length fs → offset (encode fs) k ≤ offset (encode fs) (k + 1)
+      order k o h =
+          rw (offset-encoded k o (omega arith), offset-encoded (k + 1) (omega arith) h)
+          (omega (arith, reach-next fs k (omega arith)))
+
+      inside : (k : ℕ) → 1 ≤ k → k < length fs → offset (encode fs) k ≤ section (encode fs)
+      inside k o h = rw (offset-encoded k o h, section-encoded) (reach-in fs k h)
+
+      rise : (k : ℕ) → k + 1 < length fs → tagAt (encode fs) k < tagAt (encode fs) (k + 1)
+      rise k h = rw (tag-encoded k (omega arith), tag-encoded (k + 1) h) (ok .rise k h)
 
 -- ---- the value of a tag
 
@@ -121,7 +139,8 @@ place : ℕ → List Field → ℕ
 place tag fs = least (λ k. eqb (field fs k .tag) tag) (length fs)
 
 -- the first field, or those behind it
-place-cons : (tag : ℕ) (f : Field) (fs : List Field) → place tag (f ∷ fs) ≡ cond (eqb (f .tag) tag) 0 (suc (place tag fs))
+place-cons : (tag : ℕ) (f : Field) (fs : List Field)
+    → place tag (f ∷ fs) ≡ cond (eqb (f .tag) tag) 0 (suc (place tag fs))
 unfolding place
 place-cons tag f fs = least-front (λ k. eqb (field (f ∷ fs) k .tag) tag) (length fs)
 
@@ -131,7 +150,8 @@ unfolding among
 among-place tag [] = le-ltb (place tag []) 0 zero-le
 among-place tag (f ∷ fs) = rw place-cons (by (eqb (f .tag) tag) (among-place tag fs))
   where
-    by : (t : Bool) → ltb (place tag fs) (length fs) ≡ among tag fs → ltb (cond t 0 (suc (place tag fs))) (suc (length fs)) ≡ t || among tag fs
+    by : (t : Bool) → ltb (place tag fs) (length fs) ≡ among tag fs
+        → ltb (cond t 0 (suc (place tag fs))) (suc (length fs)) ≡ t || among tag fs
     by true e = lt-ltb 0 (suc (length fs)) (omega arith)
     by false e = leb·suc-suc (suc (place tag fs)) (length fs) ∙ e
 
@@ -152,7 +172,8 @@ module _ (fs : List Field) (ok : Fields fs) (tag : ℕ) where
   unfolding indexOf place
   index-encoded =
       rw (count-encoded fs ok)
-      (least-same (isTag (encode fs) tag) (λ k. eqb (field fs k .tag) tag) (length fs) (λ k h. ap (λ (x : ℕ). eqb x tag) (tag-encoded fs ok k h)))
+      (least-same (isTag (encode fs) tag) (λ k. eqb (field fs k .tag) tag) (length fs)
+      (λ k h. ap (λ (x : ℕ). eqb x tag) (tag-encoded fs ok k h)))
 
   -- it finds a tag exactly where it is among them,
   pub has-encoded : has (encode fs) tag ≡ among tag fs
@@ -164,6 +185,8 @@ module _ (fs : List Field) (ok : Fields fs) (tag : ℕ) where
   unfolding valueOf
   value-encoded = rw (has-encoded, index-encoded) (by (among tag fs) (among-place tag fs))
     where
-      by : (t : Bool) → ltb (place tag fs) (length fs) ≡ t → cond t (valueAt (encode fs) (place tag fs)) [] ≡ valueAmong tag fs
+      by : (t : Bool) → ltb (place tag fs) (length fs) ≡ t
+          → cond t (valueAt (encode fs) (place tag fs)) [] ≡ valueAmong tag fs
       by true e = value-at-encoded fs ok (place tag fs) (ltb-true _ _ e) ∙ value-place tag fs
-      by false e = sym (ap (λ (f : Field). f .value) (List·getD-eq-default fs blank (ltb-false _ _ e))) ∙ value-place tag fs
+      by false e =
+          sym (ap (λ (f : Field). f .value) (List·getD-eq-default fs blank (ltb-false _ _ e))) ∙ value-place tag fs

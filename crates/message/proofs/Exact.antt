@@ -1,20 +1,23 @@
 -- The reader and the writer agree: what the codes of a frame, `has` and `valueOf` say, told by `encode` alone.
--- Assumes nothing.
-use Prim.Native.Nat.{ℕ, _<_}
+use Prim.Native.Nat.{ℕ}
 use mathlib.Core.Path.{_≡_, sym, ap, _∙_}
 use mathlib.Core.List.{List}
 use mathlib.Core.Logic.{_↔_}
-use lib.ListN.{getD}
-use Rattle.message.specs.Encode.{among, valueAmong}
+use Rattle.laws.specs.Bytes.{Bytes}
+use Rattle.laws.proofs.First.{none-quiet}
+use Rattle.refusal.specs.Refusal.{refusals}
+use Rattle.message.specs.Encode.{Encoded, among, valueAmong}
 use Rattle.message.specs.Frame.{frameCode}
 use Rattle.message.specs.Values.{has, valueOf}
 use Rattle.message.proofs.Encoded.{encode-good, has-encoded, value-encoded}
-use Rattle.message.proofs.Decoded.{Encoded, good-encoded, encode-once}
+use Rattle.message.proofs.Decoded.{good-encoded, encode-once}
 
 module _ (m : List ℕ) where
-  -- bytes have neither code 4 nor 5 exactly where they encode 1 to 32 fields: rising u32 tags, values of whole fours, offsets that are u32
-  pub good-exactly : ((k : ℕ) → getD m k 0 < 256) → frameCode m ≡ 0 ↔ Encoded m
-  good-exactly bytes = (good-encoded m bytes, λ a. ap frameCode (a .is) ∙ encode-good (a .fields) (a .kept))
+  -- bytes have neither code 4 nor 5 exactly where they encode 1 to 32 fields: rising u32 tags, values of whole fours,
+  -- offsets that are u32
+  pub good-exactly : Bytes m → frameCode m .code ≡ 0 ↔ Encoded m
+  good-exactly bytes =
+      (good-encoded m bytes, λ a. none-quiet refusals (ap frameCode (a .is) ∙ encode-good (a .fields) (a .kept)))
 
   -- no other list of fields has this encoding
   pub fields-only : (a b : Encoded m) → a .fields ≡ b .fields

@@ -1,13 +1,15 @@
--- Reading a message (draft 19, section 4; document 01, "Bytes of a message"): codes 4 and 5. All of its header is words of four bytes.
+-- Reading a message (draft 19, section 4; document 01, "Bytes of a message"): codes 4 and 5. All of its header is words
+-- of four bytes.
 use Prim.Native.Nat.{ℕ, _+_, _-_, _*_, _%_}
 use mathlib.Core.List.{List, [], _∷_}
 use mathlib.Core.Bool.{Bool, not, cond}
 use lib.ListN.{length}
 use lib.Dec.{ltb, leb, eqb}
 use Rattle.laws.specs.Any.{any}
-use Rattle.laws.specs.First.{first, when}
 use Rattle.laws.specs.Least.{somewhere}
 use Rattle.laws.specs.Numbers.{le}
+use Rattle.refusal.specs.Refusal.{first, when}
+use Rattle.refusal.specs.declared.Refusal.{Refusal}
 
 -- word k of those that stand from `at`
 abbrev pub word : List ℕ → ℕ → ℕ → ℕ
@@ -33,7 +35,8 @@ tagAt m k = word m (4 * count m) k
 abbrev pub section : List ℕ → ℕ
 section m = length m - 8 * count m
 
--- where value k begins in the value section: the first at 0, each next at its offset; and of k = N, where the last one ends
+-- where value k begins in the value section: the first at 0, each next at its offset; and of k = N, where the last one
+-- ends
 unfoldable pub edge : List ℕ → ℕ → ℕ
 edge m k = cond (eqb k 0) 0 (cond (ltb k (count m)) (offset m k) (section m))
 
@@ -62,6 +65,6 @@ offsetsBad m = somewhere (offsetBad m) (count m - 1)
 abbrev pub tagsBad : List ℕ → Bool
 tagsBad m = somewhere (notAbove m (4 * count m)) (count m - 1)
 
--- codes 4 and 5 of the message m, 0 where its frame is good
-unfoldable pub frameCode : List ℕ → ℕ
+-- codes 4 and 5 of the message m
+unfoldable pub frameCode : List ℕ → Refusal
 frameCode m = first (when (lengthBad m) 4 ∷ when (countBad m) 4 ∷ when (offsetsBad m) 4 ∷ when (tagsBad m) 5 ∷ [])

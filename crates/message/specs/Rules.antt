@@ -1,34 +1,37 @@
--- Which tags a message needs, and which lengths their values have (document 01, "Bytes of a message"): codes 6 and 7.
--- A table has three numbers for each tag, in rising order of the tags: the tag, whether it must be there, and the rule of its value.
-use Prim.Native.Nat.{ℕ, _+_, _-_, _*_, _/_, _%_}
+-- Which tags a message needs, and which values they may have (document 01, "Bytes of a message"): codes 6 and 7.
+use Prim.Native.Nat.{ℕ, _-_, _/_, _%_}
 use mathlib.Core.List.{List, [], _∷_}
-use mathlib.Core.Bool.{Bool, false, not, cond}
+use mathlib.Core.Bool.{Bool, true, false, not, _&&_}
 use lib.ListN.{length, getD}
 use lib.Dec.{ltb, eqb}
 use Rattle.laws.specs.Any.{any}
-use Rattle.laws.specs.First.{first, when}
-use Rattle.laws.specs.Least.{least, somewhere}
+use Rattle.laws.specs.Least.{somewhere}
+use Rattle.refusal.specs.Refusal.{first, when}
+use Rattle.refusal.specs.declared.Refusal.{Refusal}
 use Rattle.message.specs.Frame.{notAbove, frameCode}
 use Rattle.message.specs.Values.{has, valueOf}
 
--- a tag may be absent, or must be there
-abbrev pub may : ℕ
-may = 0
+-- the rule of a value: that it has so many bytes, is a list of versions, is a list of siblings, or is a message
+pub data Rule : Type 0 where
+  bytes : ℕ → Rule
+  versions : Rule
+  siblings : Rule
+  message : Rule
 
-abbrev pub must : ℕ
-must = 1
+-- a row of a table: a tag, whether it must be there, and the rule of its value. A table is a list of rows.
+pub record Row : Type 0 where
+  pub tag : ℕ
+  pub needed : Bool
+  pub rule : Rule
 
--- the rules of a value that are no length; any other number is a length in bytes
-abbrev pub versionList : ℕ
-versionList = 1
+-- a row whose tag must be there, and one whose tag may be absent
+abbrev pub must : ℕ → Rule → Row
+must tag rule = record { tag = tag; needed = true; rule = rule }
 
-abbrev pub siblingList : ℕ
-siblingList = 2
+abbrev pub may : ℕ → Rule → Row
+may tag rule = record { tag = tag; needed = false; rule = rule }
 
-abbrev pub nested : ℕ
-nested = 3
-
--- not 1 to 32 versions of 4 bytes, strictly rising
+-- not 1 to 32 versions of 4 bytes, strictly rising (draft 19, 5.1.1 and 5.2.5)
 unfoldable pub versionsBad : List ℕ → Bool
 versionsBad v =
     any
@@ -38,52 +41,43 @@ versionsBad v =
     ∷ somewhere (notAbove v 0) (length v / 4 - 1)
     ∷ [])
 
--- not 0 to 32 siblings of 32 bytes
+-- not 0 to 32 siblings of 32 bytes (draft 19, 5.2.4)
 unfoldable pub siblingsBad : List ℕ → Bool
 siblingsBad v = any (ltb 1024 (length v) ∷ not (eqb (length v % 32) 0) ∷ [])
 
--- a value breaks its rule; a message may have any length here, since its own frame is judged after this
-unfoldable pub valueBad : ℕ → List ℕ → Bool
-valueBad rule v =
-    cond (eqb rule versionList) (versionsBad v)
-    (cond (eqb rule siblingList) (siblingsBad v) (cond (eqb rule nested) false (not (eqb (length v) rule))))
-
--- row k of a table
-abbrev pub rowTag : List ℕ → ℕ → ℕ
-rowTag t k = getD t (3 * k) 0
-
-abbrev pub rowNeeded : List ℕ → ℕ → ℕ
-rowNeeded t k = getD t (3 * k + 1) 0
-
-abbrev pub rowRule : List ℕ → ℕ → ℕ
-rowRule t k = getD t (3 * k + 2) 0
+-- a value breaks its rule; a message may have any length here, since its own codes are told after this one's
+unfoldable pub valueBad : Rule → List ℕ → Bool
+valueBad (bytes n) v = not (eqb (length v) n)
+valueBad versions v = versionsBad v
+valueBad siblings v = siblingsBad v
+valueBad message v = false
 
 -- a needed tag is absent
-unfoldable pub absent : List ℕ → ℕ → ℕ → Bool
-absent m tag needed = cond (eqb needed may) false (not (has m tag))
+unfoldable pub absent : List ℕ → ℕ → Bool → Bool
+absent m tag needed = needed && not (has m tag)
 
 -- a tag is there, and its value breaks the rule
-unfoldable pub broken : List ℕ → ℕ → ℕ → Bool
-broken m tag rule = cond (has m tag) (valueBad rule (valueOf m tag)) false
+unfoldable pub broken : List ℕ → ℕ → Rule → Bool
+broken m tag rule = has m tag && valueBad rule (valueOf m tag)
 
-abbrev pub rowAbsent : List ℕ → List ℕ → ℕ → Bool
-rowAbsent m t k = absent m (rowTag t k) (rowNeeded t k)
+-- row k of a table
+abbrev pub row : List Row → ℕ → Row
+row rows k = getD rows k (may 0 message)
 
-abbrev pub rowBroken : List ℕ → List ℕ → ℕ → Bool
-rowBroken m t k = broken m (rowTag t k) (rowRule t k)
+-- the same of row k
+abbrev pub rowAbsent : List ℕ → List Row → ℕ → Bool
+rowAbsent m rows k = absent m (row rows k .tag) (row rows k .needed)
 
--- the first row whose tag is needed and absent, and the first whose value breaks its rule; the number of rows where there is none
-abbrev pub firstAbsent : List ℕ → List ℕ → ℕ
-firstAbsent m t = least (rowAbsent m t) (length t / 3)
+abbrev pub rowBroken : List ℕ → List Row → ℕ → Bool
+rowBroken m rows k = broken m (row rows k .tag) (row rows k .rule)
 
-abbrev pub firstBroken : List ℕ → List ℕ → ℕ
-firstBroken m t = least (rowBroken m t) (length t / 3)
+-- some needed tag is absent, and some value breaks its rule
+abbrev pub someAbsent : List ℕ → List Row → Bool
+someAbsent m rows = somewhere (rowAbsent m rows) (length rows)
 
--- codes 4 to 7 of the message m by the table t
-unfoldable pub messageCode : List ℕ → List ℕ → ℕ
-messageCode m t =
-    first
-    (frameCode m
-    ∷ when (ltb (firstAbsent m t) (length t / 3)) 6
-    ∷ when (ltb (firstBroken m t) (length t / 3)) 7
-    ∷ [])
+abbrev pub someBroken : List ℕ → List Row → Bool
+someBroken m rows = somewhere (rowBroken m rows) (length rows)
+
+-- codes 4 to 7 of the message m by a table
+unfoldable pub messageCode : List ℕ → List Row → Refusal
+messageCode m rows = first (frameCode m ∷ when (someAbsent m rows) 6 ∷ when (someBroken m rows) 7 ∷ [])

@@ -3,26 +3,31 @@ ghost use mathlib.Core.Path.{_≡_};
 ghost use Prim.Native.Nat.{_+_, _*_, _-_, _<_, _≤_};
 ghost use lib.ListN.{length};
 ghost use Rattle.message.specs.Frame.{count, lengthBad, countBad, offsetsBad, tagsBad, frameCode};
-ghost use Rattle.message.specs.Facts.{firstFall, firstBadOffset, Sized, Headed};
+ghost use Rattle.message.specs.Scans.{firstFall, firstBadOffset};
+ghost use Rattle.message.specs.Sentences.{LengthGood, CountGood};
 use octets::le32;
+use refusal::PASSED;
+use refusal::Refusal;
+use refusal::codes;
+use refusal::refuse;
 
-// Codes 4 and 5 of a message, 0 where its frame is good.
-pub fn frame_code(m: &[u8]) -> u8
+// Codes 4 and 5 of a message.
+pub fn frame_code(m: &[u8]) -> Refusal
     ensures { λ r. ⌜ r ≡ frameCode (now (m .entry)) ⌝ }
 {
     if length_bad(m) {
-        return 4;
+        return refuse(codes::FRAME);
     }
     if count_bad(m) {
-        return 4;
+        return refuse(codes::FRAME);
     }
     if offsets_bad(m) {
-        return 4;
+        return refuse(codes::FRAME);
     }
     if tags_bad(m) {
-        return 5;
+        return refuse(codes::TAG_ORDER);
     }
-    0
+    PASSED
 }
 
 // The length is under 4 bytes or no multiple of 4.
@@ -37,7 +42,7 @@ fn length_bad(m: &[u8]) -> bool
 
 // N isn't 1 to 32, or the header is too long.
 fn count_bad(m: &[u8]) -> bool
-    requires { ⌜ Sized (now m) ⌝ }
+    requires { ⌜ LengthGood (now m) ⌝ }
     ensures { λ r. ⌜ r ≡ countBad (now (m .entry)) ⌝ }
 {
     let n = le32(m, 0) as usize;
@@ -52,7 +57,7 @@ fn count_bad(m: &[u8]) -> bool
 
 // Some offset is wrong.
 fn offsets_bad(m: &[u8]) -> bool
-    requires { ⌜ Sized (now m) × Headed (now m) ⌝ }
+    requires { ⌜ LengthGood (now m) × CountGood (now m) ⌝ }
     ensures { λ r. ⌜ r ≡ offsetsBad (now (m .entry)) ⌝ }
 {
     let n = le32(m, 0) as usize;
@@ -61,7 +66,7 @@ fn offsets_bad(m: &[u8]) -> bool
 
 // Some tag isn't above the one before it.
 fn tags_bad(m: &[u8]) -> bool
-    requires { ⌜ Sized (now m) × Headed (now m) ⌝ }
+    requires { ⌜ LengthGood (now m) × CountGood (now m) ⌝ }
     ensures { λ r. ⌜ r ≡ tagsBad (now (m .entry)) ⌝ }
 {
     let n = le32(m, 0) as usize;

@@ -1,42 +1,71 @@
 // Which tags a message needs, and the rules of their values.
 ghost use mathlib.Core.Path.{_≡_};
+ghost use mathlib.Core.Bool.{not};
 ghost use Prim.Native.Nat.{_+_, _*_, _-_, _<_};
-ghost use Rattle.message.specs.Facts.{Good};
-ghost use Rattle.message.specs.Rules.{versionsBad, siblingsBad, valueBad, absent, broken, firstAbsent, firstBroken, messageCode};
+ghost use lib.Dec.{eqb};
+ghost use Rattle.message.specs.Numbered.{ruleIn, rowsIn};
+ghost use Rattle.message.specs.Rules.{versionsBad, siblingsBad, valueBad, absent, broken, someAbsent, someBroken};
+ghost use Rattle.message.specs.Rules.{messageCode};
+ghost use Rattle.message.specs.Scans.{firstAbsent, firstBroken};
+ghost use Rattle.message.specs.Sentences.{Good};
 use super::frame::first_fall;
 use super::frame::frame_code;
 use super::values::has_tag;
 use super::values::value_of;
+use refusal::PASSED;
+use refusal::Refusal;
+use refusal::codes;
+use refusal::refuse;
 
-// The rules of a value; any other number is a length in bytes.
+// Whether a tag must be there, or may be.
+pub const MUST: u32 = 1;
+
+pub const MAY: u32 = 0;
+
+// The rules of a value by their numbers; any other number is a length in bytes.
 pub const VERSIONS: u32 = 1;
 
 pub const SIBLINGS: u32 = 2;
 
 pub const MESSAGE: u32 = 3;
 
-// Codes 4 to 7 of a message by a table, 0 where it keeps it.
-pub fn message_code(m: &[u8], t: &[u32]) -> u8
-    ensures { λ r. ⌜ r ≡ messageCode (now (m .entry)) (now (t .entry)) ⌝ }
+// Codes 4 to 7 of a message by a table: of each row three numbers, its tag, MUST or MAY, and the rule of its value.
+pub fn message_code(m: &[u8], t: &[u32]) -> Refusal
+    ensures { λ r. ⌜ r ≡ messageCode (now (m .entry)) (rowsIn (now (t .entry))) ⌝ }
 {
     let c = frame_code(m);
-    if c != 0 {
+    if c.code != 0 {
         return c;
     }
-    let n = t.len() / 3;
-    if first_absent(m, t) < n {
-        return 6;
+    if some_absent(m, t) {
+        return refuse(codes::TAG_ABSENT);
     }
-    if first_broken(m, t) < n {
-        return 7;
+    if some_broken(m, t) {
+        return refuse(codes::VALUE);
     }
-    0
+    PASSED
+}
+
+// Some tag of a table is needed and absent.
+fn some_absent(m: &[u8], t: &[u32]) -> bool
+    requires { ⌜ Good (now m) ⌝ }
+    ensures { λ r. ⌜ r ≡ someAbsent (now (m .entry)) (rowsIn (now (t .entry))) ⌝ }
+{
+    first_absent(m, t) < t.len() / 3
+}
+
+// Some tag of a table is there with a value that breaks its rule.
+fn some_broken(m: &[u8], t: &[u32]) -> bool
+    requires { ⌜ Good (now m) ⌝ }
+    ensures { λ r. ⌜ r ≡ someBroken (now (m .entry)) (rowsIn (now (t .entry))) ⌝ }
+{
+    first_broken(m, t) < t.len() / 3
 }
 
 // The first row of a table whose tag is needed and absent; the number of rows where there is none.
 fn first_absent(m: &[u8], t: &[u32]) -> usize
     requires { ⌜ Good (now m) ⌝ }
-    ensures { λ r. ⌜ r ≡ firstAbsent (now (m .entry)) (now (t .entry)) ⌝ }
+    ensures { λ r. ⌜ r ≡ firstAbsent (now (m .entry)) (rowsIn (now (t .entry))) ⌝ }
 {
     let mut k = 0;
     while k < t.len() / 3 {
@@ -48,10 +77,11 @@ fn first_absent(m: &[u8], t: &[u32]) -> usize
     k
 }
 
-// The first row of a table whose tag is there with a value that breaks the row's rule; the number of rows where there is none.
+// The first row of a table whose tag is there with a value that breaks the row's rule; the number of rows where there
+// is none.
 fn first_broken(m: &[u8], t: &[u32]) -> usize
     requires { ⌜ Good (now m) ⌝ }
-    ensures { λ r. ⌜ r ≡ firstBroken (now (m .entry)) (now (t .entry)) ⌝ }
+    ensures { λ r. ⌜ r ≡ firstBroken (now (m .entry)) (rowsIn (now (t .entry))) ⌝ }
 {
     let mut k = 0;
     while k < t.len() / 3 {
@@ -65,9 +95,9 @@ fn first_broken(m: &[u8], t: &[u32]) -> usize
 
 fn row_absent(m: &[u8], tag: u32, needed: u32) -> bool
     requires { ⌜ Good (now m) ⌝ }
-    ensures { λ r. ⌜ r ≡ absent (now (m .entry)) tag needed ⌝ }
+    ensures { λ r. ⌜ r ≡ absent (now (m .entry)) tag (not (eqb needed 0)) ⌝ }
 {
-    if needed == 0 {
+    if needed == MAY {
         return false;
     }
     !has_tag(m, tag)
@@ -75,7 +105,7 @@ fn row_absent(m: &[u8], tag: u32, needed: u32) -> bool
 
 fn row_broken(m: &[u8], tag: u32, rule: u32) -> bool
     requires { ⌜ Good (now m) ⌝ }
-    ensures { λ r. ⌜ r ≡ broken (now (m .entry)) tag rule ⌝ }
+    ensures { λ r. ⌜ r ≡ broken (now (m .entry)) tag (ruleIn rule) ⌝ }
 {
     if has_tag(m, tag) {
         return value_bad(rule, value_of(m, tag));
@@ -85,7 +115,7 @@ fn row_broken(m: &[u8], tag: u32, rule: u32) -> bool
 
 // A value breaks its rule.
 fn value_bad(rule: u32, v: &[u8]) -> bool
-    ensures { λ r. ⌜ r ≡ valueBad rule (now (v .entry)) ⌝ }
+    ensures { λ r. ⌜ r ≡ valueBad (ruleIn rule) (now (v .entry)) ⌝ }
 {
     if rule == VERSIONS {
         return versions_bad(v);

@@ -1,5 +1,5 @@
--- The tests by which piles, records and links are stated are document 01's sentences.
--- Assumes nothing.
+-- The tests by which piles, records and links are stated hold exactly where the sentences of Meaning do. The way from a
+-- test to a sentence that speaks of good packets asks that the pile is bytes; the way back asks nothing.
 use Prim.Native.Nat.{ℕ, _+_, _*_, _-_, _≤_, _<_}
 use mathlib.Core.Path.{_≡_, refl, sym, ap, _∙_}
 use mathlib.Core.Bool.{Bool, true, false, not, cond, true≢false}
@@ -9,26 +9,30 @@ use native.Mathlib.Omega.{arith}
 use borrow.Author.Tests.{eq-eqb, ne-eqb, eqb-true, eqb-false, le-ltb, ltb-false, lt-leb, leb-false, not-false}
 use lib.ListN.{length, drop, getD, length-take, length-drop}
 use lib.Seq.{getD-take, getD-drop}
-use Rattle.laws.specs.First.{code, whenOf}
+use Rattle.laws.specs.Bytes.{Bytes}
+use Rattle.laws.specs.First.{whenOf}
 use Rattle.laws.specs.Pasted.{part}
 use Rattle.laws.specs.Zeros.{zeros}
 use Rattle.laws.proofs.Any.{any-not, any-none, any-parts}
-use Rattle.laws.proofs.First.{untrue}
+use Rattle.laws.proofs.Bytes.{bytes-take, bytes-drop}
+use Rattle.laws.proofs.First.{before-false, quiet-of, row-quiet, test-quiet}
 use Rattle.laws.proofs.Least.{nowhere, nowhere-at}
 use Rattle.laws.proofs.Same.{same-refl, same-true}
 use Rattle.laws.proofs.Zeros.{zeros-at, zeros-all}
-use Rattle.verdict.specs.Check.{requestBad, windowIn, verdictOf}
-use Rattle.verdict.specs.declared.Verdict.{Verdict}
-use Rattle.verdict.specs.declared.Verdict.the-variants.{Valid, Refused}
+use Rattle.refusal.specs.Refusal.{refusals}
+use Rattle.verdict.specs.declared.Verdict.the-variants.{Valid}
 use Rattle.verdict.specs.declared.Window.{Window}
-use Rattle.verdict.proofs.Exactly.{passes-exactly, window-own}
-use Rattle.verdict.proofs.Lent.{lent-good}
-use Rattle.wire.specs.Packet.{body}
-use Rattle.wire.specs.Request.{requestCode}
-use Rattle.pile.specs.Pile.{recordsIn, recordAt, requestLength, responseLength, requestPacket, responsePacket, saidYes, aboveOne, lengthBad, answerBad, pileBad, pileCode}
-use Rattle.pile.specs.Valid.{areaBad, recordBad, recordVerdict, verdictAt, nothingAt, judgementOf}
+use Rattle.verdict.proofs.Exactly.{passes-code, code-exactly}
+use Rattle.verdict.proofs.Lent.{lent-good, by-valid, valid-by}
+use Rattle.wire.specs.Request.{requestBad, requestCode}
+use Rattle.wire.proofs.GoodRequest.{good-request, request-good}
+use Rattle.pile.specs.Pile.{recordsIn, recordAt, requestLength, responseLength, requestPacket, responsePacket}
+use Rattle.pile.specs.Pile.{saidYes, aboveOne, lengthBad, answerBad, pileBad, pileCode}
+use Rattle.pile.specs.Valid.{areaBad, recordBad, recordCode, recordVerdict, verdictAt, windowAt}
+use Rattle.pile.specs.Valid.{nothingAt, judgeCode, judgementOf}
 use Rattle.pile.specs.Links.{nonceLinks, unreadable, follows, unlinkable, linkedOf, firstRandZero}
-use Rattle.pile.specs.Meaning.{WholePile, GoodPile, Undamaged, ValidRecord, LinkHolds, LinkedAt, ZeroRand}
+use Rattle.pile.specs.Meaning.{WholePile, GoodPile, Undamaged, ValidRecord, ZeroRand}
+use Rattle.pile.specs.Meaning.{IsLinked, LinkReadable, LinkHolds, LinkedAt}
 use Rattle.pile.proofs.Wholes.{whole}
 
 -- ---- code 15
@@ -66,33 +70,29 @@ good-exactly pile answers = (
       (any-not _ (ap not (eq-eqb _ _ (g .two))) (any-not _ (answers-exactly answers .1 (g .one-at-most)) any-none)),
 )
 
--- 15 applies exactly where the pile and its answers are not what document 01 says,
-pub code-exactly : (pile answers : List ℕ) → pileCode pile answers ≡ 0 ↔ GoodPile pile answers
+-- 15 applies exactly where the pile and its answers are not what document 01 says
+pub pile-exactly : (pile answers : List ℕ) → pileCode pile answers .code ≡ 0 ↔ GoodPile pile answers
 unfolding pileCode whenOf
-code-exactly pile answers =
-    (λ e. good-exactly pile answers .0 (untrue code (pileBad pile answers) 15 tt e), λ g. rw (good-exactly pile answers .1 g))
-
--- and no other code is ever said
-pub code-else : (pile answers : List ℕ) → (pileCode pile answers ≡ 0 → ⊥) → pileCode pile answers ≡ 15
-unfolding pileCode whenOf
-code-else pile answers h = by (pileBad pile answers) h
-  where
-    by : (t : Bool) → (_≡_ {A = ℕ} (cond t 15 0) 0 → ⊥) → _≡_ {A = ℕ} (cond t 15 0) 15
-    by true f = refl
-    by false f = absurd (f refl)
+pile-exactly pile answers = (
+  λ e. good-exactly pile answers .0 (test-quiet refusals (pileBad pile answers) _ tt e),
+  λ g. rw (good-exactly pile answers .1 g),
+)
 
 -- ---- code 16
 
--- byte j of what is left of a part from its byte n on
+-- the part of r from byte a to byte e, without its first n bytes: byte j of it,
 byte-of : (r : List ℕ) (a e n j : ℕ) → n + j < e - a → getD (drop n (part a e r)) j 0 ≡ getD r (a + (n + j)) 0
 byte-of r a e n j h = getD-drop n (part a e r) j 0 ∙ getD-take (e - a) (drop a r) (n + j) 0 h ∙ getD-drop a r (n + j) 0
 
--- it is zeros where every byte of it is
-zeros-exactly : (r : List ℕ) (a e n : ℕ) → not (zeros (drop n (part a e r))) ≡ false ↔ ((i : ℕ) → a + n ≤ i → i < e → getD r i 0 ≡ 0)
+-- and it is all zeros exactly where every byte of it is
+zeros-exactly : (r : List ℕ) (a e n : ℕ)
+    → not (zeros (drop n (part a e r))) ≡ false ↔ ((i : ℕ) → a + n ≤ i → i < e → getD r i 0 ≡ 0)
 zeros-exactly r a e n = (
   λ z i h k.
       let y : i ≡ a + (n + (i - (a + n))) = omega arith in
-      ap (λ (m : ℕ). getD r m 0) y ∙ sym (byte-of r a e n (i - (a + n)) (omega arith)) ∙ zeros-at (drop n (part a e r)) (not-false _ z) (i - (a + n)),
+      ap (λ (m : ℕ). getD r m 0) y
+      ∙ sym (byte-of r a e n (i - (a + n)) (omega arith))
+      ∙ zeros-at (drop n (part a e r)) (not-false _ z) (i - (a + n)),
   λ f.
       ap not
       (zeros-all (drop n (part a e r))
@@ -101,8 +101,9 @@ zeros-exactly r a e n = (
       byte-of r a e n j (omega arith) ∙ f (a + (n + j)) (omega arith) (omega arith))),
 )
 
--- an area of 2,000 bytes from byte a on
-area-exactly : (r : List ℕ) (a e n : ℕ) → areaBad (part a e r) n ≡ false ↔ ((n ≤ 2000) × ((i : ℕ) → a + n ≤ i → i < e → getD r i 0 ≡ 0))
+-- an area, from byte a to byte e of the record r, whose packet has n bytes
+area-exactly : (r : List ℕ) (a e n : ℕ)
+    → areaBad (part a e r) n ≡ false ↔ ((n ≤ 2000) × ((i : ℕ) → a + n ≤ i → i < e → getD r i 0 ≡ 0))
 unfolding areaBad
 area-exactly r a e n = (
   λ z.
@@ -135,7 +136,8 @@ undamaged-exactly r = (
 
 -- ---- a valid record
 
-there-exactly : (pile answers : List ℕ) (k : ℕ) → nothingAt pile answers k ≡ false ↔ (GoodPile pile answers × (k < recordsIn pile))
+there-exactly : (pile answers : List ℕ) (k : ℕ)
+    → nothingAt pile answers k ≡ false ↔ (GoodPile pile answers × (k < recordsIn pile))
 unfolding nothingAt
 there-exactly pile answers k = (
   λ z.
@@ -144,80 +146,126 @@ there-exactly pile answers k = (
   λ f. any-not _ (good-exactly pile answers .1 (f .0)) (any-not _ (lt-leb (recordsIn pile) k (f .1)) any-none),
 )
 
--- a refusal that is put before a verdict is no window
-unrefused : (t : Bool) (n : ℕ) (v : Verdict) (w : Window) → cond t (Refused n) v ≡ Valid w → (t ≡ false) × (v ≡ Valid w)
-unrefused true n v w e = let z : _≡_ {A = ℕ} 0 1 = cc in absurd (omega arith)
-unrefused false n v w e = (refl, e)
+-- what is judged of a record that is there is what is said of it
+pub judged-at : (pile answers : List ℕ) (k : ℕ) → GoodPile pile answers → k < recordsIn pile
+    → judgementOf pile answers k .verdict ≡ verdictAt pile answers k
+unfolding judgementOf judgeCode recordVerdict
+judged-at pile answers k g h = rw (before-false refusals _ _ _ (there-exactly pile answers k .1 (g, h)))
+
+-- the packets of bytes are bytes
+record-bytes : (pile : List ℕ) (k : ℕ) → Bytes pile → Bytes (recordAt pile k)
+unfolding recordAt
+record-bytes pile k b = bytes-take (drop (4096 * k) pile) (bytes-drop pile b (4096 * k)) 4096
+
+request-bytes : (r : List ℕ) → Bytes r → Bytes (requestPacket r)
+unfolding requestPacket
+request-bytes r b =
+    bytes-take (part 96 2096 r) (bytes-take (drop 96 r) (bytes-drop r b 96) 2000) (requestLength r)
+
+response-bytes : (r : List ℕ) → Bytes r → Bytes (responsePacket r)
+unfolding responsePacket
+response-bytes r b =
+    bytes-take (part 2096 4096 r) (bytes-take (drop 2096 r) (bytes-drop r b 2096) 2000) (responseLength r)
 
 module _ (pile answers : List ℕ) (k : ℕ) where
-  -- where a window comes out, the record is there and undamaged, and the window is what the response check says
-  windowed : (w : Window) → judgementOf pile answers k .verdict ≡ Valid w
-      → (nothingAt pile answers k ≡ false)
-      × (recordBad (recordAt pile k) ≡ false)
-      × (verdictOf (requestPacket (recordAt pile k)) (responsePacket (recordAt pile k)) (saidYes answers (2 * k)) (saidYes answers (2 * k + 1)) ≡ Valid w)
-  unfolding judgementOf verdictAt recordVerdict
-  windowed w e =
-      let a = unrefused (nothingAt pile answers k) 15 _ w e in
-      let b = unrefused (recordBad (recordAt pile k)) 16 _ w (a .1) in
-      (a .0, b .0, b .1)
+  -- to a record that document 01 calls valid no code applies,
+  valid-code : ValidRecord pile answers k → judgeCode pile answers k .code ≡ 0
+  unfolding judgeCode recordCode
+  valid-code v =
+      quiet-of refusals
+      (sym (before-false refusals _ _ _ (there-exactly pile answers k .1 (v .pile-good, v .there))))
+      (quiet-of refusals
+      (sym (before-false refusals _ _ _ (undamaged-exactly (recordAt pile k) .1 (v .undamaged))))
+      (passes-code _ _ _ _ (v .passes)))
 
-  -- record k is judged valid exactly when document 01 calls it valid,
-  pub valid-exactly : judgementOf pile answers k .verdict ≡ Valid (windowIn (body (responsePacket (recordAt pile k)))) ↔ ValidRecord pile answers k
-  unfolding judgementOf verdictAt recordVerdict
-  valid-exactly = (
-    λ e.
-        let a = windowed (windowIn (body (responsePacket (recordAt pile k)))) e in
-        let g = there-exactly pile answers k .0 (a .0) in
+  -- and where none applies, it calls the record valid;
+  pub judge-exactly : Bytes pile → judgeCode pile answers k .code ≡ 0 ↔ ValidRecord pile answers k
+  unfolding judgeCode recordCode
+  judge-exactly bytes = (
+    λ z.
+        let a = row-quiet refusals _ _ z in
+        let g = there-exactly pile answers k .0 (test-quiet refusals _ _ tt (a .0)) in
+        let b = row-quiet refusals _ _ (row-quiet refusals _ _ (a .1) .0) in
         record {
           pile-good = g .0;
           there = g .1;
-          undamaged = undamaged-exactly (recordAt pile k) .0 (a .1);
-          passes = passes-exactly (requestPacket (recordAt pile k)) (responsePacket (recordAt pile k)) (saidYes answers (2 * k)) (saidYes answers (2 * k + 1)) .0 (a .2);
+          undamaged = undamaged-exactly (recordAt pile k) .0 (test-quiet refusals _ _ tt (b .0));
+          passes =
+              code-exactly _ _ _ _ (request-bytes (recordAt pile k) (record-bytes pile k bytes))
+              (response-bytes (recordAt pile k) (record-bytes pile k bytes))
+              .0 (row-quiet refusals _ _ (b .1) .0);
         },
-    λ v.
-        rw (there-exactly pile answers k .1 (v .pile-good, v .there), undamaged-exactly (recordAt pile k) .1 (v .undamaged))
-        (passes-exactly (requestPacket (recordAt pile k)) (responsePacket (recordAt pile k)) (saidYes answers (2 * k)) (saidYes answers (2 * k + 1)) .1
-        (v .passes)),
+    valid-code,
   )
 
+  -- so it is judged valid exactly when it is,
+  pub valid-judged : ValidRecord pile answers k → judgementOf pile answers k .verdict ≡ Valid (windowAt pile k)
+  unfolding judgementOf
+  valid-judged v = valid-by (judgeCode pile answers k) _ (valid-code v)
+
+  pub valid-exactly : Bytes pile
+      → judgementOf pile answers k .verdict ≡ Valid (windowAt pile k) ↔ ValidRecord pile answers k
+  unfolding judgementOf
+  valid-exactly bytes = (λ e. judge-exactly bytes .0 (by-valid (judgeCode pile answers k) _ _ e .0), valid-judged)
+
   -- and no other window comes out than its response's own
-  pub window-of-its-own : (w : Window) → judgementOf pile answers k .verdict ≡ Valid w → w ≡ windowIn (body (responsePacket (recordAt pile k)))
-  window-of-its-own w e = window-own (requestPacket (recordAt pile k)) (responsePacket (recordAt pile k)) _ _ w (windowed w e .2)
+  pub window-of-its-own : (w : Window) → judgementOf pile answers k .verdict ≡ Valid w → w ≡ windowAt pile k
+  unfolding judgementOf
+  window-of-its-own w e = by-valid (judgeCode pile answers k) _ w e .1
 
 -- ---- links
 
--- a yes that is put behind a no
+-- a test v that counts only where t does not hold: where it counts, t fails and v holds
 unless : (t v : Bool) → cond t false v ≡ true → (t ≡ false) × (v ≡ true)
 unless true v e = absurd (true≢false (sym e))
 unless false v e = (refl, e)
 
-reach-exactly : (b r : List ℕ)
-    → unreadable b r ≡ false ↔ ((requestLength r ≤ 2000) × (responseLength b ≤ 2000) × (requestCode (requestPacket r) ≡ 0))
+reads : (b r : List ℕ) → Bytes r → unreadable b r ≡ false → LinkReadable b r
+unfolding unreadable
+reads b r bytes z =
+    let p = any-parts _ _ z in
+    let q = any-parts _ _ (p .1) in
+    record {
+      request-fits = ltb-false 2000 (requestLength r) (p .0);
+      response-fits = ltb-false 2000 (responseLength b) (q .0);
+      request = request-good _ (request-bytes r bytes) (lent-good (requestPacket r) refl (any-parts _ _ (q .1) .0));
+    }
+
+readable : (b r : List ℕ) → LinkReadable b r → unreadable b r ≡ false
 unfolding unreadable requestBad
-reach-exactly b r = (
-  λ z.
-      let p = any-parts _ _ z in
-      let q = any-parts _ _ (p .1) in
-      (ltb-false 2000 (requestLength r) (p .0), ltb-false 2000 (responseLength b) (q .0), lent-good (requestPacket r) refl (any-parts _ _ (q .1) .0)),
-  λ f.
-      any-not _ (le-ltb 2000 (requestLength r) (f .0))
-      (any-not _ (le-ltb 2000 (responseLength b) (f .1)) (any-not _ (ap not (eq-eqb (requestCode (requestPacket r)) 0 (f .2))) any-none)),
-)
+readable b r f =
+    any-not _ (le-ltb 2000 (requestLength r) (f .request-fits))
+    (any-not _ (le-ltb 2000 (responseLength b) (f .response-fits))
+    (any-not _ (ap not (eq-eqb (requestCode (requestPacket r) .code) 0 (good-request _ (f .request)))) any-none))
 
-holds-exactly : (b r : List ℕ) → follows b r ≡ true ↔ LinkHolds b r
+-- a record that follows another has document 01's nonce
+follows-nonce : (b r : List ℕ) → follows b r ≡ true → IsLinked b r
 unfolding follows nonceLinks
-holds-exactly b r = (
-  λ e.
-      let a = unless (unreadable b r) _ e in
-      let h = reach-exactly b r .0 (a .0) in
-      record { request-fits = h .0; response-fits = h .1; request = h .2; nonce = same-true _ _ (a .1) },
-  λ l. rw (reach-exactly b r .1 (l .request-fits, l .response-fits, l .request), l .nonce) (same-refl _),
-)
+follows-nonce b r e = same-true _ _ (unless (unreadable b r) _ e .1)
 
--- record k is linked exactly when document 01 calls it linked
-pub linked-exactly : (pile : List ℕ) (k : ℕ) → linkedOf pile k ≡ true ↔ LinkedAt pile k
+follows-holds : (b r : List ℕ) → Bytes r → follows b r ≡ true → LinkHolds b r
+unfolding follows
+follows-holds b r bytes e =
+    record { readable = reads b r bytes (unless (unreadable b r) _ e .0); nonce = follows-nonce b r e }
+
+holds-follows : (b r : List ℕ) → LinkHolds b r → follows b r ≡ true
+unfolding follows nonceLinks
+holds-follows b r l = rw (readable b r (l .readable), l .nonce) (same-refl _)
+
+-- Record k is linked exactly where it is by the sentence of Meaning. That sentence asks more than document 01's: a good
+-- request, and lengths of at most 2,000. This is ours, and no house rule of document 01.
+sentence-links : (pile : List ℕ) (k : ℕ) → LinkedAt pile k → linkedOf pile k ≡ true
 unfolding linkedOf unlinkable
-linked-exactly pile k = (
+sentence-links pile k l =
+    let n : k ≡ 0 → ⊥ = λ z. absurd (omega (arith, l .after)) in
+    rw
+    (any-not _ (whole-exactly pile .1 (l .pile-whole))
+    (any-not _ (ne-eqb k 0 n) (any-not _ (lt-leb (recordsIn pile) k (l .there)) any-none)))
+    (holds-follows (recordAt pile (k - 1)) (recordAt pile k) (l .holds))
+
+pub linked-exactly : (pile : List ℕ) (k : ℕ) → Bytes pile → linkedOf pile k ≡ true ↔ LinkedAt pile k
+unfolding linkedOf unlinkable
+linked-exactly pile k bytes = (
   λ e.
       let a = unless _ (follows (recordAt pile (k - 1)) (recordAt pile k)) e in
       let p = any-parts _ _ (a .0) in
@@ -227,14 +275,34 @@ linked-exactly pile k = (
         pile-whole = whole-exactly pile .0 (p .0);
         after = omega arith;
         there = leb-false (recordsIn pile) k (any-parts _ _ (q .1) .0);
-        holds = holds-exactly (recordAt pile (k - 1)) (recordAt pile k) .0 (a .1);
+        holds = follows-holds (recordAt pile (k - 1)) (recordAt pile k) (record-bytes pile k bytes) (a .1);
       },
-  λ l.
-      let n : k ≡ 0 → ⊥ = λ z. absurd (omega (arith, l .after)) in
-      rw
-      (any-not _ (whole-exactly pile .1 (l .pile-whole)) (any-not _ (ne-eqb k 0 n) (any-not _ (lt-leb (recordsIn pile) k (l .there)) any-none)))
-      (holds-exactly (recordAt pile (k - 1)) (recordAt pile k) .1 (l .holds)),
+  sentence-links pile k,
 )
+
+-- Where the request is a good one and the lengths are at most 2,000, a record is linked exactly by document 01's own
+-- sentence,
+pub readable-link-exactly : (pile : List ℕ) (k : ℕ) → WholePile pile → 1 ≤ k → k < recordsIn pile
+    → LinkReadable (recordAt pile (k - 1)) (recordAt pile k)
+    → linkedOf pile k ≡ true ↔ IsLinked (recordAt pile (k - 1)) (recordAt pile k)
+unfolding linkedOf
+readable-link-exactly pile k whole after there reads = (
+  λ e. follows-nonce _ _ (unless (unlinkable pile k) _ e .1),
+  λ n.
+      sentence-links pile k
+      (record { pile-whole = whole; after = after; there = there; holds = record { readable = reads; nonce = n } }),
+)
+
+-- and so it is where both records are valid: in reports and runs, what we ask besides asks nothing more
+pub valid-link-exactly : (pile answers : List ℕ) (k : ℕ) → 1 ≤ k → ValidRecord pile answers (k - 1)
+    → ValidRecord pile answers k → linkedOf pile k ≡ true ↔ IsLinked (recordAt pile (k - 1)) (recordAt pile k)
+valid-link-exactly pile answers k after b r =
+    readable-link-exactly pile k (r .pile-good .pile-whole) after (r .there)
+    (record {
+      request-fits = r .undamaged .request-fits;
+      response-fits = b .undamaged .response-fits;
+      request = r .passes .request;
+    })
 
 -- the first rand counts as zero exactly where every byte of it is
 pub rand-exactly : (pile : List ℕ) → firstRandZero pile ≡ true ↔ ZeroRand pile
@@ -242,6 +310,9 @@ unfolding firstRandZero
 rand-exactly pile = (
   λ e.
       let a = unless (lengthBad pile) _ e in
-      record { pile-whole = whole-exactly pile .0 (a .0); rand = zeros-exactly (recordAt pile 0) 32 64 0 .0 (ap not (a .1)) },
+      record {
+        pile-whole = whole-exactly pile .0 (a .0);
+        rand = zeros-exactly (recordAt pile 0) 32 64 0 .0 (ap not (a .1));
+      },
   λ z. rw (whole-exactly pile .1 (z .pile-whole)) (not-false _ (zeros-exactly (recordAt pile 0) 32 64 0 .1 (z .rand))),
 )

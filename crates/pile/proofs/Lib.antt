@@ -1,6 +1,6 @@
--- Laws that belong to no one function.
-pub mod Rows
+-- Laws that belong to no one function. What the crate claims of itself stands in Exactly and Once.
 pub mod Wholes
+pub mod Judged
 pub mod Reaching
 pub mod Exactly
 pub mod Once

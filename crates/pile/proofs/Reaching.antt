@@ -1,5 +1,4 @@
--- What the tests of two records say where they passed: the packets can be read.
--- Assumes nothing.
+-- What is known of records whose tests passed: their packets can be read.
 use Prim.Native.Nat.{ℕ, _≤_}
 use mathlib.Core.Path.{_≡_, refl, sym, _∙_}
 use mathlib.Core.List.{List}
@@ -19,15 +18,17 @@ unfolding areaBad
 fits area n g = ltb-false _ _ (any-parts _ _ g .0)
 
 -- and a record that is not bad has lengths of at most 2,000
-pub lengths-fit : (r : List ℕ) {t : Bool} → t ≡ recordBad r → t ≡ false → (requestLength r ≤ 2000) × (responseLength r ≤ 2000)
+pub lengths-fit : (r : List ℕ) {t : Bool} → t ≡ recordBad r → t ≡ false
+    → (requestLength r ≤ 2000) × (responseLength r ≤ 2000)
 unfolding recordBad
 lengths-fit r e f =
     let a = any-parts _ _ (sym e ∙ f) in
     let b = any-parts _ _ (a .1) in
     (fits (requestArea r) (requestLength r) (a .0), fits (responseArea r) (responseLength r) (b .0))
 
--- two records that are within reach
-pub within-reach : (b r : List ℕ) {t : Bool} → length b ≡ 4096 → length r ≡ 4096 → t ≡ unreadable b r → t ≡ false → Readable b r
+-- two records whose link can be read
+pub within-reach : (b r : List ℕ) {t : Bool} → length b ≡ 4096 → length r ≡ 4096 → t ≡ unreadable b r → t ≡ false
+    → Readable b r
 unfolding unreadable
 within-reach b r l m e f =
     let a = any-parts _ _ (sym e ∙ f) in

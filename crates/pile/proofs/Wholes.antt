@@ -1,5 +1,4 @@
--- What the tests of a pile that passed say of its length and of its answers.
--- Assumes nothing.
+-- What is known of a pile whose tests passed: how long it is, and how many answers it has.
 use Prim.Native.Nat.{ℕ, _+_, _*_, _≤_, _<_}
 use mathlib.Core.Path.{_≡_, sym, _∙_}
 use mathlib.Core.List.{List}
@@ -19,7 +18,11 @@ unfolding lengthBad
 whole pile e =
     let a = any-parts _ _ e in
     let b = any-parts _ _ (a .1) in
-    record { exact = eqb-true _ _ (not-false _ (a .0)); from = ltb-false _ _ (b .0); to = ltb-false _ _ (any-parts _ _ (b .1) .0) }
+    record {
+      exact = eqb-true _ _ (not-false _ (a .0));
+      from = ltb-false _ _ (b .0);
+      to = ltb-false _ _ (any-parts _ _ (b .1) .0);
+    }
 
 -- the first record is there
 pub first-there : (pile : List ℕ) {t : Bool} → t ≡ lengthBad pile → t ≡ false → 4096 * 0 + 4096 ≤ length pile
@@ -38,7 +41,8 @@ judged-there pile answers k e f =
     (omega (arith, w .exact), omega arith)
 
 -- record k is there, and so is the one before it
-pub linked-there : (pile : List ℕ) (k : ℕ) {t : Bool} → t ≡ unlinkable pile k → t ≡ false → (1 ≤ k) × (4096 * k + 4096 ≤ length pile)
+pub linked-there : (pile : List ℕ) (k : ℕ) {t : Bool} → t ≡ unlinkable pile k → t ≡ false
+    → (1 ≤ k) × (4096 * k + 4096 ≤ length pile)
 unfolding unlinkable
 linked-there pile k e f =
     let a = any-parts _ _ (sym e ∙ f) in

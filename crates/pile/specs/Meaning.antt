@@ -1,5 +1,5 @@
--- Document 01's sentences on piles, one field a fact. They are proved to hold exactly where the tests of Pile, Valid and Links refuse
--- nothing.
+-- Document 01's sentences on piles, one field a fact, and what we ask of a link besides.
+-- They are proved to hold exactly where the tests of Pile, Valid and Links refuse nothing.
 use Prim.Native.Nat.{ℕ, _+_, _*_, _-_, _%_, _≤_, _<_}
 use mathlib.Core.Path.{_≡_}
 use mathlib.Core.List.{List}
@@ -8,9 +8,10 @@ use Rattle.hash.specs.Hashes.{linkOf}
 use Rattle.message.specs.Tags.{NONC}
 use Rattle.message.specs.Values.{valueOf}
 use Rattle.verdict.specs.Passes.{Passes}
+use Rattle.wire.specs.Good.{GoodRequest}
 use Rattle.wire.specs.Packet.{body}
-use Rattle.wire.specs.Request.{requestCode}
-use Rattle.pile.specs.Pile.{recordsIn, recordAt, randIn, requestLength, responseLength, requestPacket, responsePacket, saidYes}
+use Rattle.pile.specs.Pile.{recordsIn, recordAt, randIn, requestLength, responseLength, requestPacket}
+use Rattle.pile.specs.Pile.{responsePacket, saidYes}
 
 -- a pile is 1 to 16 records of 4,096 bytes
 pub record WholePile (pile : List ℕ) : Type 0 where
@@ -32,19 +33,30 @@ pub record Undamaged (r : List ℕ) : Type 0 where
   pub request-rest : (i : ℕ) → 96 + requestLength r ≤ i → i < 2096 → getD r i 0 ≡ 0
   pub response-rest : (i : ℕ) → 2096 + responseLength r ≤ i → i < 4096 → getD r i 0 ≡ 0
 
--- record k is valid: none of 15, 16, 14 and 1 to 13 applies
+-- record k of a good pile is valid: none of 16, 14 and 1 to 13 applies to it
 pub record ValidRecord (pile answers : List ℕ) (k : ℕ) : Type 0 where
   pub pile-good : GoodPile pile answers
   pub there : k < recordsIn pile
   pub undamaged : Undamaged (recordAt pile k)
-  pub passes : Passes (requestPacket (recordAt pile k)) (responsePacket (recordAt pile k)) (saidYes answers (2 * k)) (saidYes answers (2 * k + 1))
+  pub passes :
+      Passes (requestPacket (recordAt pile k)) (responsePacket (recordAt pile k))
+      (saidYes answers (2 * k)) (saidYes answers (2 * k + 1))
 
--- the NONC of r's request, which is a good request, is H(whole response packet of b, rand of r)
-pub record LinkHolds (b r : List ℕ) : Type 0 where
+-- document 01's sentence on a link: the NONC of r's request is H(whole response packet of b, rand of r)
+abbrev pub IsLinked : List ℕ → List ℕ → Type 0
+IsLinked b r = valueOf (body (requestPacket r)) NONC ≡ linkOf (responsePacket b) (randIn r)
+
+-- what we ask besides, which is no house rule of document 01: both lengths are at most 2,000, and r's request is a good
+-- one, since no NONC is taken from a bad request
+pub record LinkReadable (b r : List ℕ) : Type 0 where
   pub request-fits : requestLength r ≤ 2000
   pub response-fits : responseLength b ≤ 2000
-  pub request : requestCode (requestPacket r) ≡ 0
-  pub nonce : valueOf (body (requestPacket r)) NONC ≡ linkOf (responsePacket b) (randIn r)
+  pub request : GoodRequest (requestPacket r)
+
+-- the record r is linked to the record b
+pub record LinkHolds (b r : List ℕ) : Type 0 where
+  pub readable : LinkReadable b r
+  pub nonce : IsLinked b r
 
 -- record k is linked to the one before it
 pub record LinkedAt (pile : List ℕ) (k : ℕ) : Type 0 where

@@ -1,14 +1,16 @@
--- Piles (document 01, "Piles and reports"): 1 to 16 records of 4,096 bytes, no header, and beside them two answer bytes a record; code 15.
+-- Piles (document 01, "Piles and reports"): 1 to 16 records of 4,096 bytes, no header, and beside them two answer bytes
+-- a record; code 15.
 use Prim.Native.Nat.{ℕ, _*_, _/_, _%_}
 use mathlib.Core.Bool.{Bool, not}
 use mathlib.Core.List.{List, [], _∷_}
 use lib.Dec.{eqb, ltb}
 use lib.ListN.{length, take, drop, getD}
 use Rattle.laws.specs.Any.{any}
-use Rattle.laws.specs.First.{when}
 use Rattle.laws.specs.Least.{somewhere}
 use Rattle.laws.specs.Numbers.{le}
 use Rattle.laws.specs.Pasted.{part}
+use Rattle.refusal.specs.Refusal.{when}
+use Rattle.refusal.specs.declared.Refusal.{Refusal}
 
 -- ---- the pile
 
@@ -68,5 +70,6 @@ answerBad answers = somewhere (aboveOne answers) (length answers)
 unfoldable pub pileBad : List ℕ → List ℕ → Bool
 pileBad pile answers = any (lengthBad pile ∷ not (eqb (length answers) (2 * recordsIn pile)) ∷ answerBad answers ∷ [])
 
-unfoldable pub pileCode : List ℕ → List ℕ → ℕ
+-- code 15 of a pile and its answers
+unfoldable pub pileCode : List ℕ → List ℕ → Refusal
 pileCode pile answers = when (pileBad pile answers) 15

@@ -1,17 +1,22 @@
--- What is said of one record (document 01, "Piles and reports", and the order of codes): 16, then 14 and 1 to 13, else its window; 15
--- where there is no record to judge (document 01 has no code for a place past the last). Its rand plays no part in that.
+-- What is said of one record (document 01, "Piles and reports", and the order of codes): 16, then 14 and 1 to 13, else
+-- its window. Its rand plays no part in that.
+-- Where there is no record to judge it is 15: document 01 has no code for a place past the last.
 use Prim.Native.Nat.{ℕ, _+_, _*_}
-use mathlib.Core.Bool.{Bool, not, cond}
+use mathlib.Core.Bool.{Bool, not}
 use mathlib.Core.List.{List, [], _∷_}
 use lib.Dec.{leb, ltb}
 use lib.ListN.{drop}
 use Rattle.laws.specs.Any.{any}
 use Rattle.laws.specs.Pasted.{part}
 use Rattle.laws.specs.Zeros.{zeros}
-use Rattle.verdict.specs.Check.{verdictOf}
+use Rattle.refusal.specs.Refusal.{first, when}
+use Rattle.refusal.specs.declared.Refusal.{Refusal}
+use Rattle.verdict.specs.Check.{checkCode, windowIn, verdictBy}
 use Rattle.verdict.specs.declared.Verdict.{Verdict}
-use Rattle.verdict.specs.declared.Verdict.the-variants.{Refused}
-use Rattle.pile.specs.Pile.{recordsIn, recordAt, requestLength, responseLength, requestArea, responseArea, requestPacket, responsePacket, saidYes, pileBad}
+use Rattle.verdict.specs.declared.Window.{Window}
+use Rattle.wire.specs.Packet.{body}
+use Rattle.pile.specs.Pile.{recordsIn, recordAt, requestLength, responseLength, requestArea, responseArea}
+use Rattle.pile.specs.Pile.{requestPacket, responsePacket, saidYes, pileBad}
 use Rattle.pile.specs.declared.Judgement.{Judgement}
 
 -- of an area whose packet has n bytes: n is above 2,000, or a byte past the packet is not zero
@@ -27,18 +32,33 @@ recordBad r =
     ∷ not (zeros (part 72 96 r))
     ∷ [])
 
--- 16 first, and then what the response check says; d and s are the two answers
+-- 16 first, and then 14 and 1 to 13 of its response; d and s are the two answers
+unfoldable pub recordCode : List ℕ → Bool → Bool → Refusal
+recordCode r d s = first (when (recordBad r) 16 ∷ checkCode (requestPacket r) (responsePacket r) d s ∷ [])
+
 unfoldable pub recordVerdict : List ℕ → Bool → Bool → Verdict
-recordVerdict r d s = cond (recordBad r) (Refused 16) (verdictOf (requestPacket r) (responsePacket r) d s)
+recordVerdict r d s = verdictBy (recordCode r d s) (windowIn (body (responsePacket r)))
 
 -- of record k, with its delegation's answer and its response's
-unfoldable pub verdictAt : List ℕ → List ℕ → ℕ → Verdict
+abbrev pub verdictAt : List ℕ → List ℕ → ℕ → Verdict
 verdictAt pile answers k = recordVerdict (recordAt pile k) (saidYes answers (2 * k)) (saidYes answers (2 * k + 1))
+
+-- the window of record k's response
+abbrev pub windowAt : List ℕ → ℕ → Window
+windowAt pile k = windowIn (body (responsePacket (recordAt pile k)))
 
 -- the pile or its answers are bad, or k is past the last record
 unfoldable pub nothingAt : List ℕ → List ℕ → ℕ → Bool
 nothingAt pile answers k = any (pileBad pile answers ∷ leb (recordsIn pile) k ∷ [])
 
--- the answer, with its place; where there is no record k to judge it is 15
+-- 15 where there is no record k to judge, else that record's own refusal
+unfoldable pub judgeCode : List ℕ → List ℕ → ℕ → Refusal
+judgeCode pile answers k =
+    first
+    (when (nothingAt pile answers k) 15
+    ∷ recordCode (recordAt pile k) (saidYes answers (2 * k)) (saidYes answers (2 * k + 1))
+    ∷ [])
+
+-- what the judge answers: the place that it was asked for, and the verdict
 unfoldable pub judgementOf : List ℕ → List ℕ → ℕ → Judgement
-judgementOf pile answers k = record { place = k; verdict = cond (nothingAt pile answers k) (Refused 15) (verdictAt pile answers k) }
+judgementOf pile answers k = record { place = k; verdict = verdictBy (judgeCode pile answers k) (windowAt pile k) }

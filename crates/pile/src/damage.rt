@@ -21,7 +21,7 @@ pub fn record_bad(r: &[u8]) -> bool
     !all_zero(&r[72..96])
 }
 
-// The same of one area, whose packet has n bytes.
+// The same of one area, whose packet has n bytes: n is above 2,000, or a byte past the packet isn't zero.
 fn area_bad(area: &[u8], n: usize) -> bool
     requires { ⌜ length (now area) ≡ 2000 ⌝ }
     ensures { λ x. ⌜ x ≡ areaBad (now (area .entry)) n ⌝ }

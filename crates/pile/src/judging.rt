@@ -3,7 +3,8 @@ ghost use mathlib.Core.Path.{_≡_};
 ghost use Prim.Native.Nat.{_+_, _*_, _≤_, _<_};
 ghost use lib.ListN.{length};
 ghost use Rattle.pile.specs.Pile.{saidYes};
-ghost use Rattle.pile.specs.Valid.{recordVerdict, verdictAt, nothingAt, judgementOf};
+ghost use Rattle.pile.specs.Valid.{recordVerdict, verdictAt, nothingAt, judgeCode, judgementOf};
+ghost use Rattle.verdict.specs.Check.{verdictNumber};
 use super::Judgement;
 use super::damage::record_bad;
 use super::piles::pile_bad;
@@ -11,17 +12,21 @@ use super::records::RECORD;
 use super::records::record_at;
 use super::records::request_of;
 use super::records::response_of;
+use refusal::codes;
+use refusal::refuse;
 use verdict::Verdict;
 use verdict::check_response;
 
 // Judges record k. Where there is none, or the pile or its answers are bad, the refusal is 15.
 pub fn judge<'a>(pile: &'a [u8], answers: &'a [u8], k: usize) -> Judgement
+    ensures { λ r. ⌜ verdictNumber (r .verdict) ≡ judgeCode (now (pile .entry)) (now (answers .entry)) k .code ⌝ }
     ensures { λ r. ⌜ r ≡ judgementOf (now (pile .entry)) (now (answers .entry)) k ⌝ }
 {
     if nothing_at(pile, answers, k) {
+        let refusal = refuse(codes::PILE);
         return Judgement {
             place: k,
-            verdict: Verdict::Refused(15),
+            verdict: Verdict::Refused(refusal),
         };
     }
     let v = verdict_at(pile, answers, k);
@@ -57,7 +62,7 @@ fn verdict_on(r: &[u8], delegation: bool, signature: bool) -> Verdict
     ensures { λ x. ⌜ x ≡ recordVerdict (now (r .entry)) delegation signature ⌝ }
 {
     if record_bad(r) {
-        return Verdict::Refused(16);
+        return Verdict::Refused(refuse(codes::RECORD));
     }
     check_response(request_of(r), response_of(r), delegation, signature)
 }

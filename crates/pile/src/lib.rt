@@ -1,5 +1,7 @@
-// Piles (document 01, "Piles and reports"): records of 4,096 bytes, what each of them says, and whether it is linked to the one before.
+// Piles (document 01, "Piles and reports"): records of 4,096 bytes, what each of them says, and whether it is linked to
+// the one before.
 // `pile_code`, `judge`, `linked` and `first_rand_zero` take any bytes and any place.
+// `verdict_at` is for the crate above, which has asked whether the pile is good.
 mod damage;
 mod judging;
 mod linking;
@@ -7,13 +9,14 @@ mod piles;
 mod records;
 
 pub use judging::judge;
+pub use judging::verdict_at;
 pub use linking::first_rand_zero;
 pub use linking::linked;
 pub use piles::pile_code;
 pub use records::RECORD;
 use verdict::Verdict;
 
-// What is said of one record: its place, from 0, and its window or the code of its refusal.
+// What is said of one record: its place, from 0, and its window or its refusal.
 pub struct Judgement {
     pub place: usize,
     pub verdict: Verdict,

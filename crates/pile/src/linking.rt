@@ -16,10 +16,10 @@ use octets::copy32;
 use octets::equal;
 use octets::le32;
 use wire::packet::body_of;
-use wire::request_code;
+use wire::request_bad;
 
-// Whether the NONC of record k's request is H of the whole response packet of the record before it and its own rand. Where that can't be
-// asked, the answer is no.
+// Whether record k is linked: the NONC of its request is H of the whole response packet of the record before it and its
+// own rand. The answer is no where there are no two such records, and where their packets can't be read.
 pub fn linked(pile: &[u8], k: usize) -> bool
     ensures { λ x. ⌜ x ≡ linkedOf (now (pile .entry)) k ⌝ }
 {
@@ -29,7 +29,7 @@ pub fn linked(pile: &[u8], k: usize) -> bool
     follows_on(record_at(pile, k - 1), record_at(pile, k))
 }
 
-// Whether the first record's rand is all zero; no where there is no such record.
+// Whether the first record's rand is all zero. The answer is no where the pile is bad.
 pub fn first_rand_zero(pile: &[u8]) -> bool
     ensures { λ x. ⌜ x ≡ firstRandZero (now (pile .entry)) ⌝ }
 {
@@ -64,7 +64,8 @@ fn follows_on<'a>(b: &'a [u8], r: &'a [u8]) -> bool
     nonce_links(b, r)
 }
 
-// A length is above 2,000, so that its packet can't be read, or the request of r is bad, and no NONC is taken from a bad request.
+// The link can't be read: a length is above 2,000, which is more than its area has, or the request of r is bad, and no
+// NONC is taken from a bad request.
 fn out_of_reach<'a>(b: &'a [u8], r: &'a [u8]) -> bool
     requires { ⌜ (length (now b) ≡ 4096) × (length (now r) ≡ 4096) ⌝ }
     ensures { λ x. ⌜ x ≡ unreadable (now (b .entry)) (now (r .entry)) ⌝ }
@@ -75,10 +76,10 @@ fn out_of_reach<'a>(b: &'a [u8], r: &'a [u8]) -> bool
     if 2000 < le32(b, 68) {
         return true;
     }
-    request_code(request_of(r)) != 0
+    request_bad(request_of(r))
 }
 
-// The request's NONC is the hash that links it. The response is hashed whole, its header included.
+// Whether the request's NONC is the hash that links it. The response is hashed whole, its header included.
 fn nonce_links<'a>(b: &'a [u8], r: &'a [u8]) -> bool
     requires { ⌜ Readable (now b) (now r) ⌝ }
     ensures { λ x. ⌜ x ≡ nonceLinks (now (b .entry)) (now (r .entry)) ⌝ }

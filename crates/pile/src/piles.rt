@@ -2,18 +2,22 @@
 ghost use mathlib.Core.Path.{_≡_};
 ghost use Rattle.pile.specs.Pile.{lengthBad, answerBad, pileBad, pileCode};
 use super::records::RECORD;
+use refusal::PASSED;
+use refusal::Refusal;
+use refusal::codes;
+use refusal::refuse;
 
-// Code 15 of a pile and its answers, 0 where it does not apply.
-pub fn pile_code<'a>(pile: &'a [u8], answers: &'a [u8]) -> u8
+// Code 15 of a pile and its answers.
+pub fn pile_code<'a>(pile: &'a [u8], answers: &'a [u8]) -> Refusal
     ensures { λ r. ⌜ r ≡ pileCode (now (pile .entry)) (now (answers .entry)) ⌝ }
 {
     if pile_bad(pile, answers) {
-        return 15;
+        return refuse(codes::PILE);
     }
-    0
+    PASSED
 }
 
-// The pile, the number of answers or an answer is bad.
+// The pile is not 1 to 16 whole records, or its answers are not two a record, each 0 or 1.
 pub fn pile_bad<'a>(pile: &'a [u8], answers: &'a [u8]) -> bool
     ensures { λ r. ⌜ r ≡ pileBad (now (pile .entry)) (now (answers .entry)) ⌝ }
 {

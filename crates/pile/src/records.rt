@@ -1,8 +1,9 @@
-// The records of a pile, and what stands in one. All of it is handed on as parts of the pile.
+// The records of a pile, and the areas and packets of a record. Each is a part of the pile: nothing is copied.
 ghost use mathlib.Core.Path.{_≡_};
 ghost use Prim.Native.Nat.{_+_, _*_, _≤_};
 ghost use lib.ListN.{length};
-ghost use Rattle.pile.specs.Pile.{recordAt, requestLength, responseLength, requestArea, responseArea, requestPacket, responsePacket};
+ghost use Rattle.pile.specs.Pile.{recordAt, requestLength, responseLength, requestArea, responseArea};
+ghost use Rattle.pile.specs.Pile.{requestPacket, responsePacket};
 use octets::le32;
 
 // The length of a record.

@@ -1,13 +1,14 @@
--- Laws that belong to no one function.
-pub mod First
-pub mod Moved
+-- Laws that belong to no one function. What the crate claims of itself stands in ReportNumbers, Exactly, CutReports, Stands,
+-- Agree and Once.
+pub mod SameArrays
 pub mod Says
 pub mod Runs
+pub mod ReportNumbers
 pub mod Exactly
-pub mod Pieces
 pub mod Behind
-pub mod Within
-pub mod Kept
+pub mod CutBytes
+pub mod CutRecords
+pub mod CutReports
 pub mod Stands
 pub mod Agree
 pub mod Once

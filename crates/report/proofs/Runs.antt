@@ -1,6 +1,5 @@
--- Laws of the cutter's run: from the arrays to the pile; and any two answers are the same.
--- Assumes nothing.
-use mathlib.Core.Path.{_≡_, refl, subst}
+-- The cutter's run: the run of the arrays is the run of the pile that they are of, and any two answers are the same.
+use mathlib.Core.Path.{_≡_, refl, subst, _∙_}
 use mathlib.Core.Bool.{Bool}
 use mathlib.Core.List.{List}
 use Prim.Native.Nat.{ℕ, _<_, min}
@@ -15,33 +14,34 @@ use Rattle.runs.specs.Convict.{verdictIn, flagIn, Convicts}
 use Rattle.runs.specs.declared.Span.{Span}
 use Rattle.runs.specs.declared.Span.the-variants.{Places}
 use Rattle.runs.proofs.Find.{run-settled}
-use Rattle.runs.proofs.Moved.{same-answer}
+use Rattle.runs.proofs.SamePile.{same-answer}
 use Rattle.report.specs.Report.{judged, joined}
 use Rattle.report.specs.Taking.{ConvictsIn, Takes}
 use Rattle.report.specs.declared.Taken.{Taken}
 use Rattle.report.specs.declared.Taken.the-variants.{Run, Bad, Short, NoRun}
-use Rattle.report.proofs.Moved.{after-first}
 
--- after the first record, its flag is its link
+-- the flag of a record after the first says whether it is linked
 pub joined-later : (pile : List ℕ) (k : ℕ) → 0 < k → joined pile k ≡ linkedOf pile k
 unfolding joined
 joined-later pile k l = rw (ne-eqb k 0 (λ z. omega arith)) refl
 
 -- the run of the arrays vs and ls is the run of the pile that they are of
 pub run-of : (pile answers : List ℕ) (vs : List Verdict) (ls : List Bool) (r : Span) → GoodPile pile answers
-    → ((k : ℕ) → k < 16 → verdictIn vs k ≡ judged pile answers k) → ((k : ℕ) → k < 16 → flagIn ls k ≡ joined pile k)
+    → ((k : ℕ) → k < recordsIn pile → verdictIn vs k ≡ judged pile answers k)
+    → ((k : ℕ) → k < 16 → flagIn ls k ≡ joined pile k)
     → Answers (Convicts (verdictIn vs) (flagIn ls) (min (recordsIn pile) 16)) r → Answers (ConvictsIn pile answers) r
 run-of pile answers vs ls r g e f a =
     let whole : min (recordsIn pile) 16 ≡ recordsIn pile = omega (arith, g .pile-whole .to) in
-    after-first (judged pile answers) (joined pile) (linkedOf pile) (recordsIn pile) (λ i z u. joined-later pile i z) r
-    (same-answer (verdictIn vs) (judged pile answers) (flagIn ls) (joined pile) (recordsIn pile)
-    (λ i u. e i (omega (arith, g .pile-whole .to))) (λ i u. f i (omega (arith, g .pile-whole .to))) r
-    (subst (λ (m : ℕ). Answers (Convicts (verdictIn vs) (flagIn ls) m) r) whole a))
+    same-answer (verdictIn vs) (judged pile answers) (flagIn ls) (linkedOf pile) (recordsIn pile)
+    (λ i u. e i u) (λ i z u. f i (omega (arith, g .pile-whole .to)) ∙ joined-later pile i z) r
+    (subst (λ (m : ℕ). Answers (Convicts (verdictIn vs) (flagIn ls) m) r) whole a)
 
+-- any two answers are the same
 module _ (pile answers : List ℕ) (room : ℕ) where
   pub takes-once : (r s : Taken) → Takes pile answers room r → Takes pile answers room s → r ≡ s
   takes-once (Run i j) (Run a b) p q =
-      let e = run-settled (judged pile answers) (linkedOf pile) (recordsIn pile) (Places i j) (Places a b) (p .2) (q .2) in
+      let n = recordsIn pile in
+      let e = run-settled (judged pile answers) (linkedOf pile) n (Places i j) (Places a b) (p .2) (q .2) in
       cc
   takes-once (Run i j) Bad p q = absurd (q (p .0))
   takes-once (Run i j) Short p q = absurd (omega (arith, p .1, q .1))

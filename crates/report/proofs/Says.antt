@@ -1,5 +1,4 @@
--- Laws of what a report's check says: from what its steps find, and that one answer only is right.
--- Assumes nothing.
+-- What the check of a report says, from what its steps find; and that only one answer is right.
 use mathlib.Core.Path.{_≡_, refl, sym, subst, _∙_, ap}
 use mathlib.Core.Bool.{Bool, true, false, not}
 use mathlib.Core.List.{List}
@@ -17,17 +16,19 @@ use Rattle.runs.specs.declared.Span.{Span}
 use Rattle.runs.specs.declared.Span.the-variants.{Places, Nothing}
 use Rattle.runs.proofs.Find.{once}
 use Rattle.runs.proofs.Pair.{pair-of-run}
-use Rattle.report.specs.Scans.{IsFirst, Never}
-use Rattle.report.specs.Report.{judged, joined, refused, loose, Says, Reports}
-use Rattle.report.specs.Within.{recordOf}
+use Rattle.laws.specs.Least.{IsFirst, Never}
+use Rattle.report.specs.Report.{judged, joined, refused, loose, Says, SaysOf, Reports}
+use Rattle.report.specs.Promises.{recordOf}
 use Rattle.report.specs.declared.Report.{Report}
 use Rattle.report.specs.declared.Report.the-variants.{Pair, Bad, Record, Unlinked, Clear}
-use Rattle.report.proofs.First.{first-once}
+use Rattle.laws.proofs.Least.{first-once}
 
+-- a test that does not fail holds
 pub not-not : (b : Bool) → (T (not b) → ⊥) → T b
 not-not true h = tt
 not-not false h = h tt
 
+-- the answer that the search for a run gives
 abbrev pub spanReport : Span → Report
 spanReport (Places i j) = Pair i j
 spanReport Nothing = Clear
@@ -41,10 +42,15 @@ module _ (v : ℕ → Verdict) (l : ℕ → Bool) (n : ℕ) where
       go (Valid w) q = absurd (subst (λ (y : Verdict). T (not (valid y))) q (f .holds))
       go (Refused x) q = subst (λ (y : Report). Says v l n y) (sym (e ∙ ap (λ (y : Verdict). recordOf y k) q)) (f, q)
 
-  -- where none is refused and none loose, the run is the pair
-  pub span-says : Never (refused v) n → Never (loose l) n → (s : Span) → Answers (Convicts v l n) s → Says v l n (spanReport s)
-  span-says f g (Places i j) a = (f, g, pair-of-run v l n (λ k u. not-not (valid (v k)) (f k u)) (λ k z u. not-not (l k) (g k u)) (Places i j) a)
-  span-says f g Nothing a = (f, g, pair-of-run v l n (λ k u. not-not (valid (v k)) (f k u)) (λ k z u. not-not (l k) (g k u)) Nothing a)
+  -- where no record is refused and no flag is missing, the ends of the run are the pair
+  pub span-says : Never (refused v) n → Never (loose l) n → (s : Span) → Answers (Convicts v l n) s
+      → Says v l n (spanReport s)
+  span-says f g s a =
+      go s (pair-of-run v l n (λ k u. not-not (valid (v k)) (f k u)) (λ k z u. not-not (l k) (g k u)) s a)
+    where
+      go : (s : Span) → Answers (Contradiction v n) s → Says v l n (spanReport s)
+      go (Places i j) m = (f, g, m)
+      go Nothing m = (f, g, m)
 
   -- one answer only is right
   pub says-once : (r s : Report) → Says v l n r → Says v l n s → r ≡ s
@@ -76,33 +82,33 @@ module _ (v : ℕ → Verdict) (l : ℕ → Bool) (n : ℕ) where
   says-once Clear Clear p q = refl
 
 module _ (pile answers : List ℕ) where
-  -- what is said of a good pile is its report
-  pub good-says : GoodPile pile answers → (r : Report) → Says (judged pile answers) (joined pile) (recordsIn pile) r → Reports pile answers r
+  -- what is said of the records of a good pile is said of the pile,
+  pub good-says : GoodPile pile answers → (r : Report) → SaysOf pile answers r → Reports pile answers r
   good-says g (Pair i j) s = (g, s)
   good-says g Bad s = absurd s
   good-says g (Record x k) s = (g, s)
   good-says g (Unlinked k) s = (g, s)
   good-says g Clear s = (g, s)
 
-  -- and the other way, where the pile is known to be good
-  says-of : GoodPile pile answers → (r : Report) → Reports pile answers r → Says (judged pile answers) (joined pile) (recordsIn pile) r
+  -- and the other way round
+  says-of : GoodPile pile answers → (r : Report) → Reports pile answers r → SaysOf pile answers r
   says-of g (Pair i j) s = s .1
   says-of g Bad s = absurd (s g)
   says-of g (Record x k) s = s .1
   says-of g (Unlinked k) s = s .1
   says-of g Clear s = s .1
 
+  same-says : (r s : Report) → GoodPile pile answers → SaysOf pile answers r → Reports pile answers s → r ≡ s
+  same-says r s g p q = says-once (judged pile answers) (joined pile) (recordsIn pile) r s p (says-of g s q)
+
   -- any two answers on a pile are the same
   pub report-once : (r s : Report) → Reports pile answers r → Reports pile answers s → r ≡ s
-  report-once (Pair i j) s p q =
-      says-once (judged pile answers) (joined pile) (recordsIn pile) (Pair i j) s (p .1) (says-of (p .0) s q)
+  report-once (Pair i j) s p q = same-says (Pair i j) s (p .0) (p .1) q
   report-once Bad (Pair i j) p q = absurd (p (q .0))
   report-once Bad Bad p q = refl
   report-once Bad (Record x k) p q = absurd (p (q .0))
   report-once Bad (Unlinked k) p q = absurd (p (q .0))
   report-once Bad Clear p q = absurd (p (q .0))
-  report-once (Record x k) s p q =
-      says-once (judged pile answers) (joined pile) (recordsIn pile) (Record x k) s (p .1) (says-of (p .0) s q)
-  report-once (Unlinked k) s p q =
-      says-once (judged pile answers) (joined pile) (recordsIn pile) (Unlinked k) s (p .1) (says-of (p .0) s q)
-  report-once Clear s p q = says-once (judged pile answers) (joined pile) (recordsIn pile) Clear s (p .1) (says-of (p .0) s q)
+  report-once (Record x k) s p q = same-says (Record x k) s (p .0) (p .1) q
+  report-once (Unlinked k) s p q = same-says (Unlinked k) s (p .0) (p .1) q
+  report-once Clear s p q = same-says Clear s (p .0) (p .1) q

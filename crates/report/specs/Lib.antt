@@ -1,8 +1,8 @@
--- Reports and the cutter (document 01, "Piles and reports"): what a reader must believe is Scans, Report and Taking.
--- Meaning is document 01's sentence on reports, proved to hold exactly where Report names a pair.
--- Within is what private functions promise each other; nothing public is stated by it.
-pub mod Scans
+-- Reports and the cutter (document 01, "Piles and reports"): what a reader must believe is Report and Taking.
+-- Meaning is document 01's sentence on reports. It is proved to hold exactly where the check names a pair, and a run is
+-- proved to convict exactly where it holds of the run when it is cut out.
+-- Promises is what private functions promise each other; nothing public is stated by it.
 pub mod Report
 pub mod Taking
 pub mod Meaning
-pub mod Within
+pub mod Promises

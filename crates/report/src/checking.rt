@@ -1,8 +1,9 @@
-// The check of a report: 15; then the first record that is refused; then the first that is not linked; then the pair that contradicts.
+// The check of a report: 15; then the first record that is refused; then the first that is not linked; then the pair
+// that contradicts.
 ghost use mathlib.Core.Path.{_≡_};
 ghost use Prim.Native.Nat.{_≤_};
 ghost use Rattle.runs.specs.Convict.{verdictIn, flagIn};
-ghost use Rattle.report.specs.Report.{Says, Reports};
+ghost use Rattle.report.specs.Report.{Says, Reports, reportNumber, ReportNumbered};
 use super::Found;
 use super::Report;
 use super::gathering::flags_of;
@@ -18,9 +19,10 @@ use verdict::Verdict;
 
 // Whether the pile is a report, and the pair that it names.
 pub fn check_report<'a>(pile: &'a [u8], answers: &'a [u8]) -> Report
+    ensures { λ r. ⌜ ReportNumbered (now (pile .entry)) (now (answers .entry)) (reportNumber r) ⌝ }
     ensures { λ r. ⌜ Reports (now (pile .entry)) (now (answers .entry)) r ⌝ }
 {
-    if pile_code(pile, answers) != 0 {
+    if pile_code(pile, answers).code != 0 {
         return Report::Bad;
     }
     let n = pile.len() / RECORD;
@@ -29,7 +31,8 @@ pub fn check_report<'a>(pile: &'a [u8], answers: &'a [u8]) -> Report
     said_of(verdicts, flags, n)
 }
 
-// The same of n records of which the verdicts and flags are known. Where none is refused and none loose, the shortest run is the pair.
+// The same of n records of which the verdicts and flags are known. Where no record is refused and no flag is missing,
+// the two ends of the shortest run are the pair.
 fn said_of(verdicts: [Verdict; 16], flags: [bool; 16], n: usize) -> Report
     requires { ⌜ n ≤ 16 ⌝ }
     ensures { λ r. ⌜ Says (verdictIn verdicts) (flagIn flags) n r ⌝ }

@@ -1,10 +1,11 @@
 // The cutter: 15, 19, 18, or a run at the front of the buffer.
 ghost use mathlib.Core.Path.{_≡_};
-ghost use Prim.Native.Nat.{_+_, _*_, _≤_};
+ghost use Prim.Native.Nat.{_+_, _*_, _-_, _≤_};
 ghost use lib.ListN.{length};
 ghost use Rattle.pile.specs.Meaning.{GoodPile};
 ghost use Rattle.runs.specs.Spans.{Answers};
-ghost use Rattle.report.specs.Taking.{ConvictsIn, Takes, runPut, leaves};
+ghost use Rattle.laws.specs.Written.{written, Puts};
+ghost use Rattle.report.specs.Taking.{ConvictsIn, Takes, runBytes, takenNumber, takenBytes};
 use super::Taken;
 use super::gathering::flags_of;
 use super::gathering::verdicts_of;
@@ -15,15 +16,18 @@ use pile::pile_code;
 use runs::Span;
 use runs::shortest_run;
 
-// Takes the shortest run that convicts by itself out of the pile, the first among equals. The buffer is as long as the pile at least.
+// Takes the shortest run that convicts by itself out of the pile, the first among equals. The buffer must be as long as
+// the pile at least, whatever the length of the run.
 pub fn cut_run<'a>(pile: &'a [u8], answers: &'a [u8], out: &mut [u8]) -> Taken
     ensures { λ r. ⌜ Takes (now (pile .entry)) (now (answers .entry)) (length (now (out .entry))) r ⌝ }
-    ensures { λ r. ⌜ now (out .exit) ≡ leaves r (now (pile .entry)) (now (out .entry)) ⌝ }
+    ensures { λ r. ⌜ now (out .exit) ≡ written (takenNumber r) (takenBytes r (now (pile .entry))) (now (out .entry)) ⌝ }
 {
-    if pile_code(pile, answers) != 0 {
+    let bad = pile_code(pile, answers).code != 0;
+    let short = out.len() < pile.len();
+    if bad {
         return Taken::Bad;
     }
-    if out.len() < pile.len() {
+    if short {
         return Taken::Short;
     }
     match run_in(pile, answers) {
@@ -35,7 +39,7 @@ pub fn cut_run<'a>(pile: &'a [u8], answers: &'a [u8], out: &mut [u8]) -> Taken
     }
 }
 
-// The run. The first record's flag plays no part in it, since a run's first record need not be linked.
+// The shortest run. The first flag, which is about the first rand, plays no part in it.
 fn run_in<'a>(pile: &'a [u8], answers: &'a [u8]) -> Span
     requires { ⌜ GoodPile (now pile) (now answers) ⌝ }
     ensures { λ r. ⌜ Answers (ConvictsIn (now (pile .entry)) (now (answers .entry))) r ⌝ }
@@ -49,7 +53,9 @@ fn run_in<'a>(pile: &'a [u8], answers: &'a [u8]) -> Span
 // Records i to j at the front of out, the first one's rand set to zero.
 fn put_run(pile: &[u8], i: usize, j: usize, out: &mut [u8])
     requires { ⌜ (i ≤ j) × (4096 * j + 4096 ≤ length (now pile)) × (length (now pile) ≤ length (now out)) ⌝ }
-    ensures { λ _. ⌜ now (out .exit) ≡ runPut i j (now (pile .entry)) (now (out .entry)) ⌝ }
+    ensures { λ _. ⌜
+        Puts (now (out .entry)) 0 (runBytes i j (now (pile .entry))) (now (out .exit)) (4096 * j + 4096 - 4096 * i)
+        ⌝ }
 {
     let a = RECORD * i;
     let e = RECORD * j + RECORD;

@@ -1,5 +1,5 @@
-// Reports and the cutter (document 01, "Piles and reports"): whether a pile is a report, and the shortest run of a pile that convicts by itself.
-// Both take any bytes.
+// Reports and the cutter (document 01, "Piles and reports"): whether a pile is a report, and the shortest run of a pile
+// that convicts by itself. Both take any bytes.
 mod checking;
 mod cutting;
 mod gathering;
@@ -7,18 +7,20 @@ mod scanning;
 
 pub use checking::check_report;
 pub use cutting::cut_run;
+use refusal::Refusal;
 
-// What is said of a pile: the two records that contradict, where it is a report, or why it is none. A refused record comes with its code and
-// then its place, a record that is not linked with its place.
+// What is said of a pile: the two records that contradict, where it is a report, or why it is none. A refused record
+// comes with its refusal and then its place, a record that is not linked with its place.
 pub enum Report {
     Pair(usize, usize),
     Bad,
-    Record(u8, usize),
+    Record(Refusal, usize),
     Unlinked(usize),
     Clear,
 }
 
-// What the cutter took: the places of the first and the last record of the run, or that the pile is bad, the buffer too short, or no run there.
+// What the cutter took: the places of the first and the last record of the run, or that the pile is bad, that the
+// buffer is too short, or that there is no run.
 pub enum Taken {
     Run(usize, usize),
     Bad,

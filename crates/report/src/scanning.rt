@@ -1,8 +1,8 @@
-// The first record of which something is wrong.
+// The first record that is refused, and the first whose flag is not set.
 ghost use mathlib.Core.Path.{_≡_};
 ghost use Prim.Native.Nat.{_≤_, min};
 ghost use Rattle.runs.specs.Convict.{verdictIn, flagIn};
-ghost use Rattle.report.specs.Within.{FirstAt, recordOf};
+ghost use Rattle.report.specs.Promises.{FirstAt, recordOf};
 ghost use Rattle.report.specs.Report.{refused, loose};
 use super::Found;
 use super::Report;
@@ -38,12 +38,12 @@ pub fn first_loose(flags: [bool; 16], n: usize) -> Found
     Found::Nothing
 }
 
-// The answer where v is the verdict on the first record that is refused, k.
+// The answer where record k is the first that is refused, and v the verdict on it.
 pub fn of_record(v: Verdict, k: usize) -> Report
     ensures { λ r. ⌜ r ≡ recordOf v k ⌝ }
 {
     match v {
-        Verdict::Refused(code) => Report::Record(code, k),
+        Verdict::Refused(why) => Report::Record(why, k),
         Verdict::Valid(_) => Report::Clear,
     }
 }

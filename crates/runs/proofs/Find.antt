@@ -1,22 +1,22 @@
--- There is one answer and no other: a search that antt computes.
--- Assumes nothing.
+-- There is one answer and no other. A search that antt can compute shows that there is one.
 use mathlib.Core.Path.{_≡_, refl, sym, subst, ap₂}
 use mathlib.Core.Bool.{Bool, true, false, _&&_}
 use Prim.Native.Nat.{ℕ, zero, suc, _+_, _-_, _≤_, _<_}
 use native.Mathlib.Nat.{add-zero}
 use native.Mathlib.Omega.{arith}
-use lib.Dec.{T}
+use lib.Dec.{T, eqb}
 use mir.Facts.{and-yes, yes-and}
 use Rattle.laws.specs.Pairs.{IsLeast, Hits}
-use Rattle.laws.proofs.Pairs.{Passed, begin, step, next, found, nothing}
+use Rattle.runs.proofs.Passed.{Passed, begin, step, next, found, nothing}
 use Rattle.verdict.specs.declared.Verdict.{Verdict}
 use Rattle.runs.specs.Clash.{valid, contradicting}
-use Rattle.runs.specs.Spans.{Answers}
+use Rattle.runs.specs.Spans.{Answers, Some, spanNumber}
+use Rattle.runs.specs.Told.{Tells}
 use Rattle.runs.specs.Convict.{Clean, Convicts}
-use Rattle.runs.specs.Ends.{Exposes}
+use Rattle.runs.specs.Searched.{Exposes}
 use Rattle.runs.specs.declared.Span.{Span}
 use Rattle.runs.specs.declared.Span.the-variants.{Places, Nothing}
-use Rattle.runs.proofs.Ends.{clean-one, clean-more, clean-part, least-run, no-run}
+use Rattle.runs.proofs.ByEnds.{clean-one, clean-more, clean-part, least-run, no-run}
 
 -- One answer at most, for any relation that holds only of pairs in order.
 pub once : (P : ℕ → ℕ → Type 0) → ((i j : ℕ) → P i j → i ≤ j) → (r s : Span) → Answers P r → Answers P s → r ≡ s
@@ -32,25 +32,33 @@ once P ordered (Places a b) Nothing m n = absurd (n a b (m .holds))
 once P ordered Nothing (Places c d) m n = absurd (m c d (n .holds))
 once P ordered Nothing Nothing m n = refl
 
--- A test, and the first pair that passes it: by distance, then by start.
+-- An answer has document 01's number 0 exactly where P holds of some two places: both clauses of the search.
+pub both-clauses : (P : ℕ → ℕ → Type 0) (r : Span) → Answers P r → Tells (eqb (spanNumber r) 0) (Some P) × Answers P r
+both-clauses P (Places a b) m = (record { a = a; b = b; holds = m .holds }, m)
+both-clauses P Nothing m = (λ h. m (h .a) (h .b) (h .holds), m)
+
+-- one of two answers, by a flag
 abbrev pub pick : Bool → Span → Span → Span
 pick true a b = a
 pick false a b = b
 
+-- an answer, and where it is nothing, another
 abbrev pub orElse : Span → Span → Span
 orElse (Places a b) s = Places a b
 orElse Nothing s = s
 
--- of the f pairs that are d apart and start at i and after
+-- The first pair that passes a test h, by distance and then by start: among the f pairs that are d apart and start at
+-- i, i + 1 and so on,
 abbrev pub row : (ℕ → ℕ → Bool) → ℕ → ℕ → ℕ → Span
 row h d zero i = Nothing
 row h d (suc f) i = pick (h i (i + d)) (Places i (i + d)) (row h d f (i + 1))
 
--- of the pairs below n that are d apart, or d + 1, .., f distances in all
+-- among the pairs below n that lie d apart, d + 1 and so on, f distances in all,
 abbrev pub rows : (ℕ → ℕ → Bool) → ℕ → ℕ → ℕ → Span
 rows h n zero d = Nothing
 rows h n (suc f) d = orElse (row h d (n - d) 0) (rows h n f (d + 1))
 
+-- and among all pairs below n
 abbrev pub leastOf : (ℕ → ℕ → Bool) → ℕ → Span
 leastOf h n = rows h n n 1
 
@@ -83,14 +91,16 @@ module _ (Q : ℕ → ℕ → Type 0) (h : ℕ → ℕ → Bool) (n : ℕ)
   pub least-says : Answers (Hits Q n) (leastOf h n)
   least-says = rows-say n 1 begin (omega arith)
 
--- The run that the cutter finds, computed: d records after a are clean with it, and two ends contradict.
+-- The run that the cutter finds, computed. The run of record a and the d records after it is clean:
 abbrev pub cleanTest : (ℕ → Verdict) → (ℕ → Bool) → ℕ → ℕ → Bool
 cleanTest v l a zero = valid (v a)
 cleanTest v l a (suc d) = cleanTest v l a d && (valid (v (a + d + 1)) && l (a + d + 1))
 
+-- the run from i to j is clean and its ends contradict:
 abbrev pub exposesTest : (ℕ → Verdict) → (ℕ → Bool) → ℕ → ℕ → Bool
 exposesTest v l i j = cleanTest v l i (j - i) && contradicting (v i) (v j)
 
+-- so this is the run
 abbrev pub runOf : (ℕ → Verdict) → (ℕ → Bool) → ℕ → Span
 runOf v l n = leastOf (exposesTest v l) n
 
@@ -134,7 +144,3 @@ module _ (v : ℕ → Verdict) (l : ℕ → Bool) where
   -- any two are the same
   pub run-settled : (n : ℕ) (r s : Span) → Answers (Convicts v l n) r → Answers (Convicts v l n) s → r ≡ s
   run-settled n = once (Convicts v l n) (λ a b c. omega (arith, c .from, c .order, c .to))
-
-  -- and so each is the one that is computed
-  pub run-once : (n : ℕ) (r : Span) → Answers (Convicts v l n) r → r ≡ runOf v l n
-  run-once n r a = run-settled n r (runOf v l n) a (run-exists n)

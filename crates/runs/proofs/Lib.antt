@@ -1,7 +1,9 @@
--- Laws that belong to no one function.
-pub mod Ends
+-- Laws that belong to no one function. What the crate claims of itself stands in Find, Pair, WholeNumbers and Once.
+pub mod Told
+pub mod Passed
+pub mod ByEnds
 pub mod Find
 pub mod Pair
-pub mod Moved
-pub mod Whole
+pub mod SamePile
+pub mod WholeNumbers
 pub mod Once

@@ -1,6 +1,5 @@
--- Where all n records are valid and linked, the run that is found is the report's pair, least in j - i and then in i: one search serves both.
--- Assumes nothing.
-use mathlib.Core.Path.{_≡_}
+-- Where all n records are valid and linked, the first and the last record of the run that is found are the report's
+-- pair, least in j - i and then in i: one search serves both.
 use mathlib.Core.Bool.{Bool}
 use Prim.Native.Nat.{ℕ, _<_}
 use native.Mathlib.Omega.{arith}
@@ -11,11 +10,12 @@ use Rattle.runs.specs.Spans.{Answers}
 use Rattle.runs.specs.Convict.{Convicts, Contradiction}
 use Rattle.runs.specs.declared.Span.{Span}
 use Rattle.runs.specs.declared.Span.the-variants.{Places, Nothing}
-use Rattle.runs.proofs.Ends.{least-ends}
-use Rattle.runs.proofs.Find.{leastOf, least-says, once}
+use Rattle.runs.proofs.ByEnds.{least-ends}
+use Rattle.runs.proofs.Find.{leastOf, least-says}
 
 module _ (v : ℕ → Verdict) (l : ℕ → Bool) (n : ℕ)
     (all-valid : (k : ℕ) → k < n → T (valid (v k))) (all-linked : (k : ℕ) → 0 < k → k < n → T (l k)) where
+  -- records that contradict are the ends of a run that convicts
   to-run : (i j : ℕ) → Contradiction v n i j → Convicts v l n i j
   to-run i j h = record {
     inside = h .inside;
@@ -31,7 +31,7 @@ module _ (v : ℕ → Verdict) (l : ℕ → Bool) (n : ℕ)
     clash = h .holds;
   }
 
-  -- the two ends of a least run are themselves the pair
+  -- and the ends of the least run that convicts are the least pair
   pub pair-of-run : (r : Span) → Answers (Convicts v l n) r → Answers (Contradiction v n) r
   pair-of-run (Places a b) m =
       let h = least-ends m .holds in
@@ -48,7 +48,6 @@ pairOf v n = leastOf (λ i j. contradicting (v i) (v j)) n
 
 module _ (v : ℕ → Verdict) (n : ℕ) where
   pub pair-exists : Answers (Contradiction v n) (pairOf v n)
-  pair-exists = least-says (λ i j. T (contradicting (v i) (v j))) (λ i j. contradicting (v i) (v j)) n (λ i j o t. t) (λ i j o t. t)
-
-  pub pair-once : (r : Span) → Answers (Contradiction v n) r → r ≡ pairOf v n
-  pair-once r a = once (Contradiction v n) (λ i j h. omega (arith, h .order)) r (pairOf v n) a pair-exists
+  pair-exists =
+      least-says (λ i j. T (contradicting (v i) (v j))) (λ i j. contradicting (v i) (v j)) n
+      (λ i j o t. t) (λ i j o t. t)

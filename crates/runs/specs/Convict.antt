@@ -1,18 +1,21 @@
--- The runs of a pile that convict, and the contradictions of a report (document 01, "Piles and reports"). A pile is what is known of its records:
--- v k is the verdict on record k, and linked k whether it is linked to the one before it.
+-- The runs of a pile that convict, and the contradictions of a report (document 01, "Piles and reports").
+-- A pile is here what is known of its records: v k is the verdict on record k, and linked k says whether it is linked
+-- to the one before it.
 use mathlib.Core.Bool.{Bool, false}
 use mathlib.Core.List.{List}
 use Prim.Native.Nat.{ℕ, _≤_, _<_}
 use lib.Dec.{T}
 use lib.ListN.{getD}
 use Rattle.laws.specs.Pairs.{Hits}
+use Rattle.refusal.specs.Refusal.{passed}
 use Rattle.verdict.specs.declared.Verdict.{Verdict}
-use Rattle.verdict.specs.declared.Verdict.the-variants.{Valid}
+use Rattle.verdict.specs.declared.Verdict.the-variants.{Refused}
 use Rattle.runs.specs.Clash.{valid, contradicting}
 
--- what an array holds at a place; past its end, which is never read, the value that has only zeros
+-- what an array holds at a place. Nothing is read past its end; there these say what the kit's own definition of a read
+-- says: the value that has only zeros, which is a refused verdict, and no link.
 abbrev pub verdictIn : List Verdict → ℕ → Verdict
-verdictIn vs k = getD vs k (Valid (record { midp = 0; radi = 0; low = 0; high = 0 }))
+verdictIn vs k = getD vs k (Refused passed)
 
 abbrev pub flagIn : List Bool → ℕ → Bool
 flagIn ls k = getD ls k false
@@ -22,7 +25,8 @@ pub record Clean (v : ℕ → Verdict) (linked : ℕ → Bool) (a b : ℕ) : Typ
   pub all-valid : (k : ℕ) → a ≤ k → k ≤ b → T (valid (v k))
   pub all-linked : (k : ℕ) → a < k → k ≤ b → T (linked k)
 
--- the run from a to b, of a pile of n records, convicts by itself: it is clean, and two records of it, i before j, contradict
+-- the run from a to b, of a pile of n records, convicts by itself: it is clean, and its records i and j, i before j,
+-- contradict
 pub record Convicts (v : ℕ → Verdict) (linked : ℕ → Bool) (n a b : ℕ) : Type 0 where
   pub inside : b < n
   pub clean : Clean v linked a b

@@ -4,8 +4,9 @@ ghost use Rattle.runs.specs.Clash.{clash, valid, contradicting};
 use verdict::Verdict;
 use verdict::Window;
 
-// Whether a, the earlier, contradicts b: even at its earliest it is later than b at its latest. It goes by MIDP and RADI alone. The two radii are
-// set against the difference of the times, since MIDP - RADI may lie below 0 and MIDP + RADI above 2^64 - 1.
+// Whether a, the earlier, contradicts b: a at its earliest is later than b at its latest. Only MIDP and RADI are read.
+// The two radii are compared with the difference of the times, since MIDP - RADI may lie below 0 and MIDP + RADI above
+// 2^64 - 1.
 pub fn contradicts(a: Window, b: Window) -> bool
     ensures { λ r. ⌜ r ≡ clash a b ⌝ }
 {
@@ -30,6 +31,7 @@ pub fn both_contradict(v: Verdict, w: Verdict) -> bool
     }
 }
 
+// Whether the record is valid.
 pub fn is_valid(v: Verdict) -> bool
     ensures { λ r. ⌜ r ≡ valid v ⌝ }
 {

@@ -1,8 +1,8 @@
-// One run, looked at: whether it is clean and its ends contradict.
+// Looks at one run: whether it is clean, and whether its ends contradict.
 ghost use Prim.Native.Nat.{_≤_, _<_};
-ghost use Rattle.laws.specs.Told.{Tells};
+ghost use Rattle.runs.specs.Told.{Tells};
 ghost use Rattle.runs.specs.Convict.{verdictIn, flagIn, Clean};
-ghost use Rattle.runs.specs.Ends.{Exposes};
+ghost use Rattle.runs.specs.Searched.{Exposes};
 use super::compare::both_contradict;
 use super::compare::is_valid;
 use verdict::Verdict;

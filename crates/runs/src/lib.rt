@@ -1,5 +1,5 @@
-// Contradiction of windows, and the shortest run of records that convicts by itself. A pile is here what is known of its records: the verdict on
-// each, and whether it is linked to the one before it.
+// Contradiction of windows, and the shortest run of records that convicts by itself.
+// A pile is here what is known of its records: the verdict on each, and whether it is linked to the one before it.
 mod compare;
 mod inspect;
 mod search;

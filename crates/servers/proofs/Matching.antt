@@ -1,122 +1,103 @@
--- The part that the place of a server names is the first match of the document's sentence, and lies within its list.
--- Assumes nothing.
+-- The part that an answer names is the first match of document 01's sentence, and lies within its list.
 use borrow.Author.Tests.{ltb-true, lt-ltb, le-ltb}
 use mathlib.Core.Bool.{Bool, true, false, cond, _&&_}
-use mathlib.Core.Path.{_≡_, refl, sym, ap, _∙_, subst}
+use mathlib.Core.Path.{_≡_, refl, sym, ap, _∙_}
 use mathlib.Core.List.{List, [], _∷_, _++_, append-assoc, append-nil}
-use Prim.Native.Nat.{ℕ, zero, suc, _+_, _*_, _/_, _≤_}
+use Prim.Native.Nat.{ℕ, zero, suc, _+_, _*_, _≤_, _<_}
 use native.Mathlib.Nat.{le-refl}
 use native.Mathlib.Omega.{arith}
 use lib.Dec.{ltb}
 use lib.ListN.{length, length-take, length-drop}
 use Rattle.laws.specs.Least.{least}
 use Rattle.laws.specs.Upto.{upto}
-use Rattle.servers.specs.Lists.{whole, recordAt, records, serves, firstMatch, handed, firstIn, known, sought, whereNumber}
+use Rattle.servers.specs.Lists.{whole, serverCount, serverAt, serversIn, serves}
+use Rattle.servers.specs.Lookup.{searched, firstMatch, handed, firstIn, known, sought, placeOf}
+use Rattle.servers.specs.Meaning.{FindsServer}
 use Rattle.servers.specs.declared.Where.{Where}
 use Rattle.servers.specs.declared.Where.the-variants.{Owner, Shipped, Ragged, Unknown}
+use Rattle.servers.proofs.Seeking.{finds-at, sought-at}
 
 -- the first match among n records by their rule, and then others: the least number tells it
-first-upto : (s : List ℕ) (f : ℕ → List ℕ) (n : ℕ) (rest : List (List ℕ))
-    → let k = least (λ i. serves s (f i)) n in firstMatch s (upto f n ++ rest) ≡ cond (ltb k n) (f k) (firstMatch s rest)
+first-upto : (srv : List ℕ) (f : ℕ → List ℕ) (n : ℕ) (rest : List (List ℕ))
+    → let k = least (λ i. serves srv (f i)) n in
+    firstMatch srv (upto f n ++ rest) ≡ cond (ltb k n) (f k) (firstMatch srv rest)
 unfolding firstMatch least upto
-first-upto s f zero rest = refl
-first-upto s f (suc n) rest =
-    rw append-assoc (first-upto s f n (f n ∷ rest) ∙ by (ltb k n) (serves s (f n)) refl)
+first-upto srv f zero rest = refl
+first-upto srv f (suc n) rest =
+    rw append-assoc (first-upto srv f n (f n ∷ rest) ∙ by (ltb k n) (serves srv (f n)) refl)
   where
     k : ℕ
-    k = least (λ i. serves s (f i)) n
+    k = least (λ i. serves srv (f i)) n
 
     by : (b t : Bool) → ltb k n ≡ b
-        → cond b (f k) (cond t (f n) (firstMatch s rest))
-        ≡ cond (ltb (cond b k (cond t n (suc n))) (suc n)) (f (cond b k (cond t n (suc n)))) (firstMatch s rest)
+        → cond b (f k) (cond t (f n) (firstMatch srv rest))
+        ≡ cond (ltb (cond b k (cond t n (suc n))) (suc n)) (f (cond b k (cond t n (suc n)))) (firstMatch srv rest)
     by true t e = let h = ltb-true k n e in rw (lt-ltb k (suc n) (omega arith))
     by false true e = rw (lt-ltb n (suc n) (omega arith))
     by false false e = rw (le-ltb (suc n) (suc n) (le-refl (suc n)))
 
 -- the same of a list
-first-in : (s l : List ℕ) (rest : List (List ℕ)) → firstMatch s (records l ++ rest) ≡ cond (known l s) (recordAt l (firstIn l s)) (firstMatch s rest)
-unfolding records firstIn
-first-in s l rest = first-upto s (recordAt l) (length l / 64) rest
+first-of : (srv list : List ℕ) (rest : List (List ℕ))
+    → firstMatch srv (serversIn list ++ rest)
+    ≡ cond (known list srv) (serverAt list (firstIn list srv)) (firstMatch srv rest)
+unfolding serversIn firstIn
+first-of srv list rest = first-upto srv (serverAt list) (serverCount list) rest
 
--- a record that its list holds whole has 64 bytes
-pub record-long : (l : List ℕ) (k : ℕ) → k * 64 + 64 ≤ length l → length (recordAt l k) ≡ 64
-unfolding recordAt
-record-long l k h = simp (length-take, length-drop) (omega arith)
+-- each record of a list has 64 bytes
+pub server-long : (list : List ℕ) (k : ℕ) → k < serverCount list → length (serverAt list k) ≡ 64
+unfolding serverAt
+server-long list k h = simp (length-take, length-drop) (omega arith)
 
--- the bytes of the part at a place
+-- the bytes of the part that an answer names
 abbrev pub partOf : List ℕ → List ℕ → Where → List ℕ
-partOf o h (Owner k) = recordAt o k
-partOf o h (Shipped k) = recordAt h k
-partOf o h Ragged = []
-partOf o h Unknown = []
+partOf owner shipped (Owner k) = serverAt owner k
+partOf owner shipped (Shipped k) = serverAt shipped k
+partOf owner shipped Ragged = []
+partOf owner shipped Unknown = []
 
-handed-back : (o h s : List ℕ) → partOf o h (sought o h s) ≡ handed o h s
-unfolding sought handed firstMatch
-handed-back o h s =
-    by (whole o && whole h) (known o s) (known h s)
-    ∙ ap (λ (m : List ℕ). cond (whole o && whole h) m []) (sym (first-in s o (records h) ∙ ap (cond (known o s) (recordAt o i)) both))
-  where
-    i : ℕ
-    i = firstIn o s
+module _ (owner shipped srv : List ℕ) where
+  -- of the answer that is right, they are the first match
+  pub part-sought : partOf owner shipped (sought owner shipped srv) ≡ handed owner shipped srv
+  unfolding sought handed firstMatch
+  part-sought =
+      by (whole owner && whole shipped) (known owner srv) (known shipped srv)
+      ∙ ap (λ (m : List ℕ). cond (whole owner && whole shipped) m []) (sym found)
+    where
+      i : ℕ
+      i = firstIn owner srv
 
-    j : ℕ
-    j = firstIn h s
+      j : ℕ
+      j = firstIn shipped srv
 
-    both : firstMatch s (records h) ≡ cond (known h s) (recordAt h j) []
-    both = rw append-nil at (first-in s h [])
+      found : firstMatch srv (searched owner shipped)
+          ≡ cond (known owner srv) (serverAt owner i) (cond (known shipped srv) (serverAt shipped j) [])
+      found =
+          first-of srv owner (serversIn shipped)
+          ∙ ap (cond (known owner srv) (serverAt owner i)) (rw append-nil at (first-of srv shipped []))
 
-    by : (t u v : Bool)
-        → partOf o h (cond t (cond u (Owner i) (cond v (Shipped j) Unknown)) Ragged) ≡ cond t (cond u (recordAt o i) (cond v (recordAt h j) [])) []
-    by true true v = refl
-    by true false true = refl
-    by true false false = refl
-    by false u v = refl
+      by : (t u v : Bool)
+          → partOf owner shipped (cond t (cond u (Owner i) (cond v (Shipped j) Unknown)) Ragged)
+          ≡ cond t (cond u (serverAt owner i) (cond v (serverAt shipped j) [])) []
+      by true true v = refl
+      by true false true = refl
+      by true false false = refl
+      by false u v = refl
 
--- the same where the place is known
-pub handed-at : (o h s : List ℕ) {w : Where} → sought o h s ≡ w → partOf o h w ≡ handed o h s
-handed-at o h s e = rw (← e) (handed-back o h s)
+  -- ---- the answer as code has it, x, which is w
 
--- a record that was found lies within its list
-abbrev pub Within : List ℕ → List ℕ → Where → Type 0
-Within o h (Owner k) = k * 64 + 64 ≤ length o
-Within o h (Shipped k) = k * 64 + 64 ≤ length h
-Within o h Ragged = Unit {0}
-Within o h Unknown = Unit {0}
+  -- a record that is found lies within its list
+  pub within-owner : {x : Where} {k : ℕ} → x ≡ Owner k → FindsServer owner shipped srv x → k * 64 + 64 ≤ length owner
+  within-owner e f = omega (arith, finds-at owner shipped srv e f .1 .inside)
 
-sought-within : (o h s : List ℕ) → Within o h (sought o h s)
-unfolding sought
-sought-within o h s = by (whole o && whole h) (known o s) (known h s) refl refl
-  where
-    i : ℕ
-    i = firstIn o s
+  pub within-shipped : {x : Where} {k : ℕ} → x ≡ Shipped k → FindsServer owner shipped srv x
+      → k * 64 + 64 ≤ length shipped
+  within-shipped e f = omega (arith, finds-at owner shipped srv e f .2 .inside)
 
-    j : ℕ
-    j = firstIn h s
+  -- its part is what is handed back, at its place
+  pub part-at : {x : Where} (w : Where) {b : List ℕ} → x ≡ w → FindsServer owner shipped srv x
+      → b ≡ partOf owner shipped w → b ≡ handed owner shipped srv
+  part-at w e f g = sought-at owner shipped srv (partOf owner shipped) w e f g ∙ part-sought
 
-    by : (t u v : Bool) → known o s ≡ u → known h s ≡ v → Within o h (cond t (cond u (Owner i) (cond v (Shipped j) Unknown)) Ragged)
-    by true true v e f = omega (arith, ltb-true i (length o / 64) e)
-    by true false true e f = omega (arith, ltb-true j (length h / 64) f)
-    by true false false e f = tt
-    by false u v e f = tt
-
-pub within-at : (o h s : List ℕ) {w : Where} → sought o h s ≡ w → Within o h w
-within-at o h s e = subst (Within o h) e (sought-within o h s)
-
--- The two calls agree: where the code is 0 the part is a record, and on a refusal it is empty.
-pub found-record : (o h s : List ℕ) → whereNumber (sought o h s) ≡ 0 → length (handed o h s) ≡ 64
-found-record o h s e = rw (← handed-back o h s) (by (sought o h s) (sought-within o h s) e)
-  where
-    by : (w : Where) → Within o h w → whereNumber w ≡ 0 → length (partOf o h w) ≡ 64
-    by (Owner k) i e = record-long o k i
-    by (Shipped k) i e = record-long h k i
-    by Ragged i e = absurd (omega (arith, e))
-    by Unknown i e = absurd (omega (arith, e))
-
-pub refused-empty : (o h s : List ℕ) → (whereNumber (sought o h s) ≡ 0 → ⊥) → handed o h s ≡ []
-refused-empty o h s r = rw (← handed-back o h s) (by (sought o h s) r)
-  where
-    by : (w : Where) → (whereNumber w ≡ 0 → ⊥) → partOf o h w ≡ []
-    by (Owner k) r = absurd (r refl)
-    by (Shipped k) r = absurd (r refl)
-    by Ragged r = refl
-    by Unknown r = refl
+  pub place-at : {x : Where} (w : Where) {a : ℕ × ℕ} (p q : ℕ × ℕ) → x ≡ w → FindsServer owner shipped srv x
+      → a ≡ placeOf p q w → a ≡ placeOf p q (sought owner shipped srv)
+  place-at w p q e f g = sought-at owner shipped srv (placeOf p q) w e f g

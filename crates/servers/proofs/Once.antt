@@ -1,20 +1,20 @@
 -- Each operation's contract settles its result: of the part that is handed back, the bytes and the place in memory.
--- Assumes nothing.
-use mathlib.Core.Path.{_≡_, sym, _∙_}
-use denote.Ref.{now, ptr}
-use Rattle.laws.proofs.Once.{Settles}
+use mathlib.Core.Path.{refl, sym, _∙_}
+use Rattle.laws.proofs.Once.{SettlesBy, Settles, SamePart}
+use Rattle.servers.proofs.Seeking.{finds-once}
+use Rattle.servers.proofs.lookup.find_server.Kinds as find-server-kinds
 use Rattle.servers.proofs.lookup.find_server.Reads as find-server-reads
 use Rattle.servers.proofs.lookup.find_code.Kinds as find-code-kinds
 use Rattle.servers.proofs.lookup.find_code.Reads as find-code-reads
 use Rattle.servers.proofs.lookup.search.Kinds as search-kinds
 use Rattle.servers.proofs.lookup.search.Reads as search-reads
 
-pub find-server-once : (κs : _) (a : _) (x : _) (e : _) (y : _) (f : _)
-    → find-server-reads.Post κs a x e → find-server-reads.Post κs a y f → (now x ≡ now y) × (ptr x ≡ ptr y)
-find-server-once κs a x e y f p q = (p .0 ∙ sym (q .0), p .1 ∙ sym (q .1))
+pub find-server-once :
+    SettlesBy find-server-kinds.ps find-server-kinds.r (λ κs x y. SamePart x y) find-server-reads.Learnt
+find-server-once κs a x u y v p q = ((p .0 ∙ sym (q .0), p .1 ∙ sym (q .1)), refl)
 
-pub find-code-once : Settles 1 find-code-kinds.ps find-code-kinds.r find-code-reads.Post
-find-code-once κs a x e y f p q = p ∙ sym q
+pub find-code-once : Settles find-code-kinds.ps find-code-kinds.r find-code-reads.Learnt
+find-code-once κs a x u y v p q = (p ∙ sym q, refl)
 
-pub search-once : Settles 1 search-kinds.ps search-kinds.r search-reads.Post
-search-once κs a x e y f p q = p ∙ sym q
+pub search-once : Settles search-kinds.ps search-kinds.r search-reads.Learnt
+search-once κs a x u y v p q = (finds-once (a .0 .now) (a .1 .0 .now) (a .1 .1 .0) x y p q, refl)

@@ -1,14 +1,24 @@
 // A server sought in both lists.
 ghost use mathlib.Core.Path.{_≡_};
-ghost use Rattle.servers.specs.Lists.{sought, handed, placeOf, whereNumber};
+ghost use Rattle.refusal.specs.Refusal.{refusal};
+ghost use Rattle.servers.specs.Lookup.{sought, handed, placeOf, whereNumber};
+ghost use Rattle.servers.specs.Meaning.{FindsServer};
 use super::Where;
+use super::records::SERVER;
 use super::records::index_in;
 use super::records::record_of;
+use refusal::PASSED;
+use refusal::Refusal;
+use refusal::codes;
+use refusal::refuse;
 
 // The record of the server with this SRV value, as a part of the list that holds it; on refusal an empty part.
 pub fn find_server<'a>(owner: &'a [u8], shipped: &'a [u8], srv: [u8; 32]) -> &'a [u8]
     ensures { λ r. ⌜ now r ≡ handed (now (owner .entry)) (now (shipped .entry)) srv ⌝ }
-    ensures { λ r. ⌜ r .ptr ≡ placeOf (owner .entry .ptr) (shipped .entry .ptr) (sought (now (owner .entry)) (now (shipped .entry)) srv) ⌝ }
+    ensures { λ r. ⌜
+        r .ptr ≡
+        placeOf (owner .entry .ptr) (shipped .entry .ptr) (sought (now (owner .entry)) (now (shipped .entry)) srv)
+        ⌝ }
 {
     let found = search(owner, shipped, srv);
     match found {
@@ -19,34 +29,34 @@ pub fn find_server<'a>(owner: &'a [u8], shipped: &'a [u8], srv: [u8; 32]) -> &'a
     }
 }
 
-// The code of a lookup of the same server in the same lists: 21 or 22, and 0 where its record is handed back.
-pub fn find_code<'a>(owner: &'a [u8], shipped: &'a [u8], srv: [u8; 32]) -> u8
-    ensures { λ r. ⌜ r ≡ whereNumber (sought (now (owner .entry)) (now (shipped .entry)) srv) ⌝ }
+// Why a lookup of the same server in the same lists is refused: 21 or 22, and 0 where its record is handed back.
+pub fn find_code<'a>(owner: &'a [u8], shipped: &'a [u8], srv: [u8; 32]) -> Refusal
+    ensures { λ r. ⌜ r ≡ refusal (whereNumber (sought (now (owner .entry)) (now (shipped .entry)) srv)) ⌝ }
 {
     match search(owner, shipped, srv) {
-        Where::Owner(_) => 0,
-        Where::Shipped(_) => 0,
-        Where::Ragged => 21,
-        Where::Unknown => 22,
+        Where::Owner(_) => PASSED,
+        Where::Shipped(_) => PASSED,
+        Where::Ragged => refuse(codes::LISTS),
+        Where::Unknown => refuse(codes::UNKNOWN_SERVER),
     }
 }
 
 // Where the server with this SRV value stands. Both lists are looked at for 21 before either is searched.
 pub fn search<'a>(owner: &'a [u8], shipped: &'a [u8], srv: [u8; 32]) -> Where
-    ensures { λ r. ⌜ r ≡ sought (now (owner .entry)) (now (shipped .entry)) srv ⌝ }
+    ensures { λ r. ⌜ FindsServer (now (owner .entry)) (now (shipped .entry)) srv r ⌝ }
 {
-    if owner.len() % 64 != 0 {
+    if owner.len() % SERVER != 0 {
         return Where::Ragged;
     }
-    if shipped.len() % 64 != 0 {
+    if shipped.len() % SERVER != 0 {
         return Where::Ragged;
     }
     let i = index_in(owner, &srv);
-    if i < owner.len() / 64 {
+    if i < owner.len() / SERVER {
         return Where::Owner(i);
     }
     let j = index_in(shipped, &srv);
-    if j < shipped.len() / 64 {
+    if j < shipped.len() / SERVER {
         return Where::Shipped(j);
     }
     Where::Unknown

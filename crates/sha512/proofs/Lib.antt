@@ -1,8 +1,7 @@
--- Laws that belong to no one function.
-pub mod Blocked
+-- Laws about the definitions of specs/, under the same names; those of Computation are called Digested.
+-- Once: the contracts of the public functions settle their results.
 pub mod Digested
-pub mod Fed
+pub mod LastBlocks
 pub mod Once
-pub mod Padded
-pub mod Recurrence
-pub mod Turned
+pub mod Padding
+pub mod State

@@ -1,12 +1,11 @@
 // A tree built level by level: each an array of nodes, of which half as many are in use at every step towards the root.
-ghost use mathlib.Core.Path.{_≡_};
 ghost use Prim.Native.Nat.{_+_, _*_, _≤_};
 ghost use lib.ListN.{length};
-ghost use Rattle.laws.specs.Pasted.{pasted, Front};
+ghost use Rattle.laws.specs.Written.{Puts};
 ghost use Rattle.tree.specs.Tree.{nodesIn, flat};
-ghost use Rattle.tree.specs.Laid.{levels, nodesOf};
-ghost use Rattle.tree.specs.Answers.{most};
-ghost use Rattle.tree.specs.Level.{Level, Parents, bytesOf, Batch};
+ghost use Rattle.tree.specs.AllRows.{levels, nodesOf};
+ghost use Rattle.tree.specs.Batch.{most};
+ghost use Rattle.tree.specs.Level.{Level, Parents, bytesOf, CanLay};
 use super::size::MOST;
 use super::size::width;
 use hash::empty_place;
@@ -50,7 +49,7 @@ fn halved(row: Row, n: usize) -> Row
 // The first n nodes of row, from index at of out on.
 fn put_row(row: Row, n: usize, out: &mut [u8], at: usize)
     requires { ⌜ (n ≤ most) × (at + 32 * n ≤ length (now out)) ⌝ }
-    ensures { λ _. ⌜ now (out .exit) ≡ pasted (now (out .entry)) at (bytesOf row n) ⌝ }
+    ensures { λ _. ⌜ Puts (now (out .entry)) at (bytesOf row n) (now (out .exit)) (at + 32 * n) ⌝ }
 {
     let mut i: usize = 0;
     while i < n {
@@ -61,8 +60,11 @@ fn put_row(row: Row, n: usize, out: &mut [u8], at: usize)
 
 // All levels of the tree of depth d over the leaves, one after the other, at the front of out.
 pub fn lay(leaves: &[u8], count: usize, d: u32, out: &mut [u8])
-    requires { ⌜ Batch (now leaves) count d × (32 * nodesOf d ≤ length (now out)) ⌝ }
-    ensures { λ _. ⌜ Front (now (out .entry)) (flat (levels (nodesIn count (now (leaves .entry))) d 0)) (now (out .exit)) ⌝ }
+    requires { ⌜ CanLay (now leaves) count d (length (now out)) ⌝ }
+    ensures { λ _. ⌜
+        Puts (now (out .entry)) 0 (flat (levels (nodesIn count (now (leaves .entry))) d 0))
+        (now (out .exit)) (32 * nodesOf d)
+        ⌝ }
 {
     let mut row = bottom(leaves, count);
     let mut n = width(d);

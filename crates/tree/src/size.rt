@@ -1,10 +1,10 @@
 // How large a batch is, and its tree.
 ghost use mathlib.Core.Path.{_≡_};
 ghost use Prim.Native.Nat.{_*_, _≤_, _<_, _^_};
-ghost use Rattle.laws.specs.Width.{Bits};
+ghost use Rattle.tree.specs.Width.{Bits};
 ghost use Rattle.tree.specs.Tree.{depthOf};
-ghost use Rattle.tree.specs.Laid.{nodesOf};
-ghost use Rattle.tree.specs.Answers.{most, countOf, heldOf};
+ghost use Rattle.tree.specs.AllRows.{nodesOf};
+ghost use Rattle.tree.specs.Batch.{most, countOf, heldOf};
 
 // The most leaves of a batch: a power of two. The definitions' `most` goes with it.
 pub const MOST: usize = 64;
@@ -53,7 +53,8 @@ pub fn bytes(d: u32) -> usize
     32 * (2 * width(d) - 1)
 }
 
-// Of how many leaves size bytes are the rows, where count is asked for: of count, or of 0 where that is above MOST or the bytes are too few.
+// Of how many leaves size bytes are the rows, where count is asked for: of count, or of 0 where that is above MOST or
+// the bytes are too few.
 pub fn held_of(size: usize, count: usize) -> usize
     ensures { λ r. ⌜ (r ≡ heldOf size count) × (r ≤ most) ⌝ }
 {

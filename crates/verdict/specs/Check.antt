@@ -5,13 +5,14 @@ use mathlib.Core.Bool.{Bool, not, cond}
 use lib.Dec.{eqb, ltb}
 use Rattle.hash.specs.Hashes.{leafOf}
 use Rattle.laws.specs.Any.{any}
-use Rattle.laws.specs.First.{first, when}
 use Rattle.laws.specs.Same.{same}
 use Rattle.message.specs.Tags.{VER, NONC, PATH, ROOT}
 use Rattle.message.specs.Values.{valueOf}
-use Rattle.tree.specs.Check.{leadsOf}
+use Rattle.refusal.specs.Refusal.{first, when}
+use Rattle.refusal.specs.declared.Refusal.{Refusal}
+use Rattle.tree.specs.PathCheck.{leadsOf}
 use Rattle.wire.specs.Packet.{body}
-use Rattle.wire.specs.Request.{requestCode}
+use Rattle.wire.specs.Request.{requestBad}
 use Rattle.wire.specs.Response.{srep, indxIn, verIn, radiIn, midpIn, mintIn, maxtIn, responseCode}
 use Rattle.wire.specs.Versions.{lacksVersion}
 use Rattle.verdict.specs.Window.{windowOf}
@@ -24,10 +25,6 @@ abbrev pub pathLeads : List ℕ → List ℕ → Bool
 pathLeads q b = leadsOf (leafOf q) (indxIn b) (valueOf b PATH) (valueOf (srep b) ROOT)
 
 -- ---- the checks, of a request's message a and a response's message b
-
--- 14: the request lent with a response is bad
-unfoldable pub requestBad : List ℕ → Bool
-requestBad q = not (eqb (requestCode q) 0)
 
 -- 8: SREP's VER does not stand in the request's VER
 unfoldable pub versionUnasked : List ℕ → List ℕ → Bool
@@ -46,11 +43,11 @@ unfoldable pub timeOutside : List ℕ → Bool
 timeOutside b = any (ltb (midpIn b) (mintIn b) ∷ ltb (maxtIn b) (midpIn b) ∷ [])
 
 -- 12 and 13: a signature answer is no
-unfoldable pub answersCode : Bool → Bool → ℕ
+unfoldable pub answersCode : Bool → Bool → Refusal
 answersCode d s = first (when (not d) 12 ∷ when (not s) 13 ∷ [])
 
 -- codes 8 to 13: the response's message b to the packet q, whose message is a; d and s are the signature answers
-unfoldable pub agreementCode : List ℕ → List ℕ → List ℕ → Bool → Bool → ℕ
+unfoldable pub agreementCode : List ℕ → List ℕ → List ℕ → Bool → Bool → Refusal
 agreementCode q a b d s =
     first
     (when (versionUnasked a b) 8
@@ -60,8 +57,8 @@ agreementCode q a b d s =
     ∷ answersCode d s
     ∷ [])
 
--- 14, then 1 to 8 of the response alone, then its agreement with the request
-unfoldable pub checkCode : List ℕ → List ℕ → Bool → Bool → ℕ
+-- 14: the request lent with a response is bad; then 1 to 8 of the response alone; then its agreement with the request
+unfoldable pub checkCode : List ℕ → List ℕ → Bool → Bool → Refusal
 checkCode q p d s = first (when (requestBad q) 14 ∷ responseCode p ∷ agreementCode q (body q) (body p) d s ∷ [])
 
 -- ---- the answer
@@ -70,11 +67,15 @@ checkCode q p d s = first (when (requestBad q) 14 ∷ responseCode p ∷ agreeme
 unfoldable pub windowIn : List ℕ → Window
 windowIn b = windowOf (midpIn b) (radiIn b)
 
+-- the answer by its refusal: the window w where nothing is refused
+abbrev pub verdictBy : Refusal → Window → Verdict
+verdictBy why w = cond (eqb (why .code) 0) (Valid w) (Refused why)
+
 -- what the check answers to the response packet p to the request packet q
 unfoldable pub verdictOf : List ℕ → List ℕ → Bool → Bool → Verdict
-verdictOf q p d s = cond (eqb (checkCode q p d s) 0) (Valid (windowIn (body p))) (Refused (checkCode q p d s))
+verdictOf q p d s = verdictBy (checkCode q p d s) (windowIn (body p))
 
--- document 01's number of an answer, 0 where nothing was refused
+-- document 01's number of an answer: 0 with the window, or the refusal's
 abbrev pub verdictNumber : Verdict → ℕ
 verdictNumber (Valid w) = 0
-verdictNumber (Refused code) = code
+verdictNumber (Refused why) = why .code

@@ -1,26 +1,27 @@
--- When a response is valid, as document 01 says it (draft 19, 5.4): all of these at once.
+-- When a response is valid, as document 01 says it (draft 19, 5.4): all of these at once. No code stands in it.
 use Prim.Native.Nat.{ℕ, _≤_}
 use mathlib.Core.Path.{_≡_}
-use mathlib.Core.Bool.{Bool, true, false}
+use mathlib.Core.Bool.{Bool, true}
 use mathlib.Core.List.{List}
 use Rattle.message.specs.Tags.{VER, NONC}
 use Rattle.message.specs.Values.{valueOf}
+use Rattle.wire.specs.Good.{GoodRequest, GoodResponse}
 use Rattle.wire.specs.Packet.{body}
-use Rattle.wire.specs.Request.{requestCode}
-use Rattle.wire.specs.Response.{verIn, midpIn, mintIn, maxtIn, responseCode}
-use Rattle.wire.specs.Versions.{lacksVersion}
+use Rattle.wire.specs.Response.{verIn, midpIn, mintIn, maxtIn}
+use Rattle.wire.specs.Versions.{HoldsVersion}
 use Rattle.verdict.specs.Check.{pathLeads}
 
--- the response packet p to the request packet q, where d and s say whether the delegation's and the response's signatures verify
+-- the response packet p to the request packet q, where d and s say whether the delegation's and the response's
+-- signatures verify
 pub record Passes (q p : List ℕ) (d s : Bool) : Type 0 where
   -- the request lent with it is a good request
-  pub request : requestCode q ≡ 0
+  pub request : GoodRequest q
   -- shapes are right; TYPE and version are right
-  pub shape : responseCode p ≡ 0
+  pub shape : GoodResponse p
   -- NONC equals the request's
   pub nonce : valueOf (body q) NONC ≡ valueOf (body p) NONC
   -- SREP's VER stands in the request's VER
-  pub version : lacksVersion (valueOf (body q) VER) (verIn (body p)) ≡ false
+  pub version : HoldsVersion (valueOf (body q) VER) (verIn (body p))
   -- the path leads from the request's leaf to ROOT
   pub path : pathLeads q (body p) ≡ true
   -- MINT <= MIDP <= MAXT

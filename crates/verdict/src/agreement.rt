@@ -2,7 +2,8 @@
 ghost use mathlib.Core.Path.{_≡_};
 ghost use mathlib.Core.Bool.{not};
 ghost use Rattle.wire.specs.Facts.{Asks, Shaped};
-ghost use Rattle.verdict.specs.Check.{versionUnasked, nonceDiffers, pathMisses, timeOutside, answersCode, agreementCode};
+ghost use Rattle.verdict.specs.Check.{versionUnasked, nonceDiffers, pathMisses, timeOutside, answersCode};
+ghost use Rattle.verdict.specs.Check.{agreementCode};
 use hash::leaf;
 use message::tags::INDX;
 use message::tags::MAXT;
@@ -15,6 +16,10 @@ use message::tags::SREP;
 use message::tags::VER;
 use message::value_of;
 use octets::equal;
+use refusal::PASSED;
+use refusal::Refusal;
+use refusal::codes;
+use refusal::refuse;
 use tree::leads;
 use wire::dele_of;
 use wire::fields::lacks_version;
@@ -30,36 +35,36 @@ pub fn agreement_code<'a>(
     b: &'a [u8],
     delegation: bool,
     signature: bool,
-) -> u8
+) -> Refusal
     requires { ⌜ Asks (now a) × Shaped (now b) ⌝ }
     ensures { λ r. ⌜ r ≡ agreementCode (now (q .entry)) (now (a .entry)) (now (b .entry)) delegation signature ⌝ }
 {
     if version_unasked(a, b) {
-        return 8;
+        return refuse(codes::TYPE_OR_VERSION);
     }
     if nonce_differs(a, b) {
-        return 9;
+        return refuse(codes::NONCE);
     }
     if path_misses(q, b) {
-        return 10;
+        return refuse(codes::PATH);
     }
     if time_outside(b) {
-        return 11;
+        return refuse(codes::TIME);
     }
     answers_code(delegation, signature)
 }
 
 // Codes 12 and 13 of the two signature answers.
-fn answers_code(delegation: bool, signature: bool) -> u8
+fn answers_code(delegation: bool, signature: bool) -> Refusal
     ensures { λ r. ⌜ r ≡ answersCode delegation signature ⌝ }
 {
     if said_no(delegation) {
-        return 12;
+        return refuse(codes::DELEGATION);
     }
     if said_no(signature) {
-        return 13;
+        return refuse(codes::SIGNATURE);
     }
-    0
+    PASSED
 }
 
 // SREP's version does not stand in the request's VER.

@@ -1,47 +1,45 @@
 // The response check: 14 for the request, then 1 to 13.
 ghost use mathlib.Core.Path.{_≡_};
-ghost use Rattle.verdict.specs.Check.{requestBad, checkCode, verdictOf};
+ghost use Rattle.verdict.specs.Check.{checkCode, verdictOf, verdictNumber};
 use super::Verdict;
 use super::agreement::agreement_code;
 use super::windows::window_in;
+use refusal::Refusal;
+use refusal::codes;
+use refusal::refuse;
 use wire::packet::body_of;
-use wire::request_code;
+use wire::request_bad;
 use wire::response_code;
 
-// Checks a response packet against the request packet that it answers, with the answers for its two signatures: that of the delegation, and
-// that of the response.
+// Checks a response packet against the request packet that it answers, with the answers for its two signatures: that of
+// the delegation, and that of the response.
 pub fn check_response<'a>(
     request: &'a [u8],
     response: &'a [u8],
     delegation: bool,
     signature: bool,
 ) -> Verdict
+    ensures { λ r. ⌜ verdictNumber r
+        ≡ checkCode (now (request .entry)) (now (response .entry)) delegation signature .code ⌝ }
     ensures { λ r. ⌜ r ≡ verdictOf (now (request .entry)) (now (response .entry)) delegation signature ⌝ }
 {
     let c = check_code(request, response, delegation, signature);
-    if c != 0 {
+    if c.code != 0 {
         return Verdict::Refused(c);
     }
     Verdict::Valid(window_in(body_of(response)))
 }
 
-// Codes 14 and 1 to 13 of a response, 0 where it passes.
-fn check_code<'a>(q: &'a [u8], p: &'a [u8], delegation: bool, signature: bool) -> u8
+// Codes 14 and 1 to 13 of a response.
+fn check_code<'a>(q: &'a [u8], p: &'a [u8], delegation: bool, signature: bool) -> Refusal
     ensures { λ r. ⌜ r ≡ checkCode (now (q .entry)) (now (p .entry)) delegation signature ⌝ }
 {
     if request_bad(q) {
-        return 14;
+        return refuse(codes::REQUEST);
     }
     let c = response_code(p);
-    if c != 0 {
+    if c.code != 0 {
         return c;
     }
     agreement_code(q, body_of(q), body_of(p), delegation, signature)
-}
-
-// The request is refused.
-fn request_bad(q: &[u8]) -> bool
-    ensures { λ r. ⌜ r ≡ requestBad (now (q .entry)) ⌝ }
-{
-    request_code(q) != 0
 }

@@ -1,9 +1,11 @@
-// The response check (draft 19, section 5.4): a response passes exactly when every check holds, and then its window comes out.
+// The response check (draft 19, section 5.4): a response passes exactly when every check holds, and then its window
+// comes out.
 mod agreement;
 mod checking;
 mod windows;
 
 pub use checking::check_response;
+use refusal::Refusal;
 pub use windows::window_at;
 
 // What a valid response says of the time: MIDP and RADI, and the ends of its window, which stop at 0 and at 2^64 - 1.
@@ -14,8 +16,9 @@ pub struct Window {
     pub high: u64,
 }
 
-// The window of a response that passes, or the code of its refusal.
+// Why a response is refused, or its window where it passes. The refusal comes first, so that the value that has only
+// zeros is no valid verdict.
 pub enum Verdict {
+    Refused(Refusal),
     Valid(Window),
-    Refused(u8),
 }

@@ -1,13 +1,15 @@
--- A packet (draft 19, section 5): the eight bytes ROUGHTIM, a u32 length, and a message of that length. House: 12 to 2,000 bytes in all.
+-- A packet (draft 19, section 5): the eight bytes ROUGHTIM, a u32 length, and a message of that length. House: 12 to
+-- 2,000 bytes in all.
 use Prim.Native.Nat.{ℕ, _-_}
 use mathlib.Core.List.{List, [], _∷_, _++_}
 use mathlib.Core.Bool.{Bool, not}
 use lib.ListN.{length, take, drop}
 use lib.Dec.{ltb, eqb}
 use Rattle.laws.specs.Ascii.{ascii}
-use Rattle.laws.specs.First.{first, when}
 use Rattle.laws.specs.Numbers.{le, leBytes}
 use Rattle.laws.specs.Same.{same}
+use Rattle.refusal.specs.Refusal.{first, when}
+use Rattle.refusal.specs.declared.Refusal.{Refusal}
 
 abbrev pub mark : List ℕ
 mark = ascii "ROUGHTIM"
@@ -21,7 +23,7 @@ unfoldable pub lengthWrong : List ℕ → Bool
 lengthWrong p = not (eqb (le 4 p 8) (length p - 12))
 
 -- codes 1 to 3 of a packet
-unfoldable pub packetCode : List ℕ → ℕ
+unfoldable pub packetCode : List ℕ → Refusal
 packetCode p =
     first
     (when (ltb (length p) 12) 1

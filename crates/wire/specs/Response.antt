@@ -3,15 +3,15 @@ use Prim.Native.Nat.{ℕ}
 use mathlib.Core.List.{List, [], _∷_}
 use mathlib.Core.Bool.{not, cond}
 use lib.Dec.{eqb}
-use Rattle.laws.specs.First.{first, when}
 use Rattle.laws.specs.Numbers.{le}
+use Rattle.refusal.specs.Refusal.{passed, first, when}
+use Rattle.refusal.specs.declared.Refusal.{Refusal}
 use Rattle.message.specs.Rules.{messageCode}
 use Rattle.message.specs.Tags.{VER, NONC, DELE, TYPE, RADI, MIDP, SREP, MINT, ROOT, CERT, MAXT, INDX}
 use Rattle.message.specs.Values.{valueOf}
 use Rattle.wire.specs.Packet.{packetCode, body}
-use Rattle.wire.specs.Request.{zeros32}
+use Rattle.wire.specs.Blank.{zeros32}
 use Rattle.wire.specs.Tables.{rootTable, srepTable, certTable, deleTable}
-use Rattle.wire.specs.declared.Answer.the-variants.{Passed, Refused}
 use Rattle.wire.specs.declared.Response.{Response}
 
 -- the messages within a response's
@@ -47,7 +47,7 @@ abbrev pub maxtIn : List ℕ → ℕ
 maxtIn m = le 8 (valueOf (dele m) MAXT) 0
 
 -- codes 4 to 7 of the message m: the root's, then SREP's, CERT's, DELE's
-unfoldable pub shapeCode : List ℕ → ℕ
+unfoldable pub shapeCode : List ℕ → Refusal
 shapeCode m =
     first
     (messageCode m rootTable
@@ -57,11 +57,11 @@ shapeCode m =
     ∷ [])
 
 -- codes 1 to 7 of a response packet: what the signed texts ask
-unfoldable pub signedCode : List ℕ → ℕ
+unfoldable pub signedCode : List ℕ → Refusal
 signedCode p = first (packetCode p ∷ shapeCode (body p) ∷ [])
 
 -- codes 4 to 8: the shape, then that TYPE is 1 and SREP's VER is 1
-unfoldable pub responseMessageCode : List ℕ → ℕ
+unfoldable pub responseMessageCode : List ℕ → Refusal
 responseMessageCode m =
     first
     (shapeCode m
@@ -70,18 +70,18 @@ responseMessageCode m =
     ∷ [])
 
 -- codes 1 to 8 of a response packet
-unfoldable pub responseCode : List ℕ → ℕ
+unfoldable pub responseCode : List ℕ → Refusal
 responseCode p = first (packetCode p ∷ responseMessageCode (body p) ∷ [])
 
 -- the answer to a refused response
-abbrev pub noResponse : ℕ → Response
-noResponse code = record { answer = Refused code; nonc = zeros32; indx = 0; midp = 0; radi = 0; root = zeros32 }
+abbrev pub noResponse : Refusal → Response
+noResponse refusal = record { answer = refusal; nonc = zeros32; indx = 0; midp = 0; radi = 0; root = zeros32 }
 
 -- the answer to a good one, of its message
 unfoldable pub responseIn : List ℕ → Response
 responseIn m =
     record {
-      answer = Passed;
+      answer = passed;
       nonc = valueOf m NONC;
       indx = indxIn m;
       midp = midpIn m;
@@ -91,4 +91,4 @@ responseIn m =
 
 -- what reading a response packet answers
 unfoldable pub responseOf : List ℕ → Response
-responseOf p = cond (eqb (responseCode p) 0) (responseIn (body p)) (noResponse (responseCode p))
+responseOf p = cond (eqb (responseCode p .code) 0) (responseIn (body p)) (noResponse (responseCode p))

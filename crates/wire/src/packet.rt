@@ -5,27 +5,31 @@ ghost use lib.ListN.{length};
 ghost use Rattle.wire.specs.Packet.{markWrong, lengthWrong, packetCode, body};
 use octets::equal;
 use octets::le32;
+use refusal::PASSED;
+use refusal::Refusal;
+use refusal::codes;
+use refusal::refuse;
 
 // The eight bytes that every packet begins with.
 pub const MARK: [u8; 8] = *b"ROUGHTIM";
 
-// Codes 1 to 3 of a packet, 0 where none applies.
-pub fn packet_code(p: &[u8]) -> u8
+// Codes 1 to 3 of a packet.
+pub fn packet_code(p: &[u8]) -> Refusal
     ensures { λ r. ⌜ r ≡ packetCode (now (p .entry)) ⌝ }
 {
     if p.len() < 12 {
-        return 1;
+        return refuse(codes::PACKET_SIZE);
     }
     if 2000 < p.len() {
-        return 1;
+        return refuse(codes::PACKET_SIZE);
     }
     if mark_wrong(p) {
-        return 2;
+        return refuse(codes::MARK);
     }
     if length_wrong(p) {
-        return 3;
+        return refuse(codes::PACKET_LENGTH);
     }
-    0
+    PASSED
 }
 
 // The first eight bytes are not the mark.

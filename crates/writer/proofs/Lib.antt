@@ -1,5 +1,6 @@
 -- Laws that belong to no one function.
-pub mod Answering
-pub mod Laying
+pub mod Answered
+pub mod Exactly
 pub mod Once
+pub mod RequestPieces
 pub mod ReadBack

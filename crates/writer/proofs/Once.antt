@@ -1,32 +1,34 @@
 -- Each operation's contract settles its result, and what it leaves in the lent buffer.
--- Assumes nothing.
-use mathlib.Core.Path.{sym, ap, _∙_}
-use Rattle.laws.proofs.Once.{Settles, SettlesExit}
-use Rattle.writer.specs.Signing.{delegationText, responseText, textLeft}
-use Rattle.writer.specs.declared.Text.{Text}
-use Rattle.writer.proofs.asking.write_request.Kinds as write-request-kinds
-use Rattle.writer.proofs.asking.write_request.Reads as write-request-reads
-use Rattle.writer.proofs.signing.delegation_text.Kinds as delegation-text-kinds
-use Rattle.writer.proofs.signing.delegation_text.Reads as delegation-text-reads
-use Rattle.writer.proofs.signing.response_text.Kinds as response-text-kinds
-use Rattle.writer.proofs.signing.response_text.Reads as response-text-reads
+use mathlib.Core.Path.{_≡_, sym, ap, _∙_}
+use mathlib.Core.List.{List}
+use Prim.Native.Nat.{ℕ}
+use Rattle.laws.specs.Written.{written}
+use Rattle.laws.proofs.Once.{Settles}
+use Rattle.refusal.specs.declared.Refusal.{Refusal}
+use Rattle.writer.specs.Answered.{wroteNumber}
+use Rattle.writer.specs.declared.Wrote.{Wrote}
+use Rattle.writer.proofs.Answered.{Writes}
+use Rattle.writer.proofs.request.write_request.Kinds as request-kinds
+use Rattle.writer.proofs.request.write_request.Reads as request-reads
+use Rattle.writer.proofs.texts.delegation_text.Kinds as delegation-kinds
+use Rattle.writer.proofs.texts.delegation_text.Reads as delegation-reads
+use Rattle.writer.proofs.texts.response_text.Kinds as response-kinds
+use Rattle.writer.proofs.texts.response_text.Reads as response-reads
 
-pub write-request-once : Settles 1 write-request-kinds.ps write-request-kinds.r write-request-reads.Post
-write-request-once κs a x e y f p q = p .0 ∙ sym (q .0)
+-- the contract of any writer settles what it leaves
+leaves-once : {x y : Wrote} {d e : List ℕ} (why : Refusal) (p o : List ℕ)
+    → Writes why p o x d → Writes why p o y e → d ≡ e
+leaves-once why p o v w =
+    v .1 ∙ ap (λ (r : Wrote). written (wroteNumber r) p o) (v .0 ∙ sym (w .0)) ∙ sym (w .1)
 
-pub write-request-leaves-once : SettlesExit 1 write-request-kinds.ps write-request-kinds.r write-request-reads.Post (λ κs e. e .1 .1 .0 .now)
-write-request-leaves-once κs a x e y f p q = p .1 ∙ sym (q .1)
+pub write-request-once : Settles request-kinds.ps request-kinds.r request-reads.Learnt
+write-request-once κs a x u y v p q =
+    (p .0 ∙ sym (q .0), ap (λ (out : List ℕ). (tt, (tt, (out, tt)))) (leaves-once _ _ _ p q))
 
-pub delegation-text-once : Settles 2 delegation-text-kinds.ps delegation-text-kinds.r delegation-text-reads.Post
-delegation-text-once κs a x e y f p q = p .0 ∙ sym (q .0)
+pub delegation-text-once : Settles delegation-kinds.ps delegation-kinds.r delegation-reads.Learnt
+delegation-text-once κs a x u y v p q =
+    (p .0 ∙ sym (q .0), ap (λ (out : List ℕ). (tt, (out, tt))) (leaves-once _ _ _ p q))
 
-pub delegation-text-leaves-once : SettlesExit 2 delegation-text-kinds.ps delegation-text-kinds.r delegation-text-reads.Post (λ κs e. e .1 .0 .now)
-delegation-text-leaves-once κs a x e y f p q =
-    p .1 ∙ ap (λ (r : Text). textLeft r (delegationText (a .0 .now)) (a .1 .0 .now)) (delegation-text-once κs a x e y f p q) ∙ sym (q .1)
-
-pub response-text-once : Settles 2 response-text-kinds.ps response-text-kinds.r response-text-reads.Post
-response-text-once κs a x e y f p q = p .0 ∙ sym (q .0)
-
-pub response-text-leaves-once : SettlesExit 2 response-text-kinds.ps response-text-kinds.r response-text-reads.Post (λ κs e. e .1 .0 .now)
-response-text-leaves-once κs a x e y f p q =
-    p .1 ∙ ap (λ (r : Text). textLeft r (responseText (a .0 .now)) (a .1 .0 .now)) (response-text-once κs a x e y f p q) ∙ sym (q .1)
+pub response-text-once : Settles response-kinds.ps response-kinds.r response-reads.Learnt
+response-text-once κs a x u y v p q =
+    (p .0 ∙ sym (q .0), ap (λ (out : List ℕ). (tt, (out, tt))) (leaves-once _ _ _ p q))

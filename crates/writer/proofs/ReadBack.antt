@@ -1,34 +1,38 @@
--- Reading what we write gives that nonce and the SRV value of that server: over the reader's own definition, by the format's theorem.
--- Assumes nothing.
-use Prim.Native.Nat.{ℕ, zero, suc, _+_, _%_, _^_, _<_, _≤_}
+-- Reading our request gives its nonce and the SRV value of its server, by the reader's own definition.
+use Prim.Native.Nat.{ℕ, zero, suc, _+_, _%_, _^_, _<_}
 use mathlib.Core.Path.{_≡_, refl, sym, ap, _∙_}
 use mathlib.Core.Bool.{true, false}
-use mathlib.Core.List.{List, [], _∷_, _++_}
+use mathlib.Core.List.{List, [], _∷_}
 use native.Mathlib.Omega.{arith}
-use borrow.Author.Tests.{eq-eqb, le-leb}
-use lib.ListN.{length, getD, take, drop}
+use borrow.Author.Tests.{eq-eqb}
+use lib.ListN.{length, getD, take}
 use Rattle.hash.specs.Hashes.{srvOf}
 use Rattle.hash.proofs.Lengths.{length-srv}
 use Rattle.laws.specs.Any.{any}
-use Rattle.laws.specs.First.{code}
 use Rattle.laws.specs.Least.{least, somewhere}
 use Rattle.laws.specs.Numbers.{le, leBytes}
-use Rattle.laws.proofs.First.{pass, skip, skip-ne, done}
+use Rattle.laws.proofs.First.{says-0, test-false, equal, is-last, is-empty, none-quiet}
 use Rattle.message.specs.Encode.{Field, Fields, field, starts, offsets, encode, among, valueAmong}
 use Rattle.message.specs.Rules.{versionsBad, valueBad}
 use Rattle.message.specs.Tags.{VER, SRV, NONC, TYPE}
 use Rattle.message.specs.Values.{valueOf}
 use Rattle.message.proofs.Encoded.{has-encoded, value-encoded}
-use Rattle.message.proofs.Keeping.{Keeps, encode-kept}
-use Rattle.octets.specs.Written.{written}
-use lib.Seq.{take-at}
+use Rattle.message.proofs.FieldRows.{Keeps, encode-kept}
+use Rattle.refusal.specs.Refusal.{passed, refusals}
 use Rattle.wire.specs.Request.{requestMessageCode, requestCode, requestIn, requestOf}
+use Rattle.wire.specs.declared.Request.{Request}
 use Rattle.wire.specs.Tables.{requestTable}
 use Rattle.wire.specs.Versions.{lacksVersion}
-use Rattle.wire.specs.declared.Answer.the-variants.{Passed}
-use Rattle.wire.proofs.Packed.{body-packed, packet-packed}
-use Rattle.writer.specs.Asking.{requestFields, requestBytes}
-use Rattle.writer.proofs.Laying.{length-message, length-request}
+use Rattle.wire.proofs.Packets.{body-packed, packet-packed}
+use Rattle.writer.specs.Request.{requestFields, requestBytes}
+use Rattle.writer.specs.declared.Wrote.{Wrote}
+use Rattle.writer.specs.declared.Wrote.the-variants.{Done}
+use Rattle.writer.proofs.Answered.{Writes, done-front}
+use Rattle.writer.proofs.RequestPieces.{length-message}
+
+-- what reading a request to the server with this key, with this nonce, is to answer
+abbrev pub asked : List ℕ → List ℕ → Request
+asked key nonce = record { answer = passed; nonc = nonce; «with_srv» = true; srv = srvOf key }
 
 module _ (key nonce : List ℕ) (n32 : length nonce ≡ 32) where
   abbrev fs : List Field
@@ -97,31 +101,32 @@ module _ (key nonce : List ℕ) (n32 : length nonce ≡ 32) where
   unfolding valueAmong leBytes le lacksVersion somewhere least
   version-read = rw (value-encoded fs kept VER)
 
-  message-good : 0 ≡ requestMessageCode (encode fs)
+  message-good : passed ≡ requestMessageCode (encode fs)
   unfolding requestMessageCode
   message-good =
-      pass code _ refl (encode-kept fs kept requestTable rows)
-      (skip-ne code (le 4 (valueOf (encode fs) TYPE) 0) 0 8 _ type-read (skip code 8 _ version-read refl (done code refl)))
+      says-0 refusals _ _ refl (none-quiet refusals (encode-kept fs kept requestTable rows))
+      (equal refusals (le 4 (valueOf (encode fs) TYPE) 0) 0 _ _ type-read
+      (test-false refusals _ _ version-read refl (is-empty refusals refl)))
 
-  request-good : 0 ≡ requestCode (requestBytes key nonce)
+  request-good : passed ≡ requestCode (requestBytes key nonce)
   unfolding requestBytes requestCode
   request-good =
-      pass code _ refl (sym (packet-packed (encode fs) (omega (arith, length-message key nonce n32))))
-      (pass code _ refl (ap requestMessageCode (body-packed (encode fs)) ∙ sym message-good) (done code refl))
+      says-0 refusals _ _ (packet-packed (encode fs) (omega (arith, length-message key nonce n32))) refl
+      (is-last refusals (message-good ∙ ap requestMessageCode (sym (body-packed (encode fs)))))
 
   -- what is written is read back
-  pub read-back : requestOf (requestBytes key nonce) ≡ record { answer = Passed; nonc = nonce; «with_srv» = true; srv = srvOf key }
+  pub read-back : requestOf (requestBytes key nonce) ≡ asked key nonce
   unfolding requestOf requestIn requestBytes among valueAmong
   read-back =
-      rw (eq-eqb (requestCode (requestBytes key nonce)) 0 (sym request-good), body-packed, has-encoded fs kept SRV, value-encoded fs kept NONC, value-encoded fs kept SRV)
+      rw (
+        eq-eqb (requestCode (requestBytes key nonce) .code) 0 (none-quiet refusals (sym request-good)),
+        body-packed,
+        has-encoded fs kept SRV,
+        value-encoded fs kept NONC,
+        value-encoded fs kept SRV,
+      )
 
-  -- and it stands in the first 1,036 bytes of every buffer that has room for it, so that reading these gives the same
-  pub front-reads-back : (out : List ℕ) → 1036 ≤ length out
-      → requestOf (take 1036 (written (requestBytes key nonce) out)) ≡ record { answer = Passed; nonc = nonce; «with_srv» = true; srv = srvOf key }
-  unfolding written
-  front-reads-back out room =
-      let n = length-request key nonce n32 in
-      let p = requestBytes key nonce in
-      let fits : length p ≤ length out = omega arith in
-      let left : written p out ≡ p ++ drop (length p) out = rw (le-leb (length p) (length out) fits) in
-      ap requestOf (ap (take 1036) left ∙ take-at p (drop (length p) out) 1036 n) ∙ read-back
+  -- and so are the first n bytes of what `write_request` leaves, where it answers n
+  pub front-reads-back : {r : Wrote} {d : List ℕ} (out : List ℕ) (n : ℕ)
+      → Writes passed (requestBytes key nonce) out r d → r ≡ Done n → requestOf (take n d) ≡ asked key nonce
+  front-reads-back out n w e = ap requestOf (done-front passed (requestBytes key nonce) out n w e) ∙ read-back

@@ -1,3 +1,4 @@
--- What we write: what a reader must believe is Asking and Signing.
-pub mod Asking
-pub mod Signing
+-- What we write: what a reader must believe is Answered, Request and Texts.
+pub mod Answered
+pub mod Request
+pub mod Texts

@@ -1,15 +1,17 @@
-// What we write: the request, and the two texts that are signed. Each writes at the front of the lent buffer, where later bytes stay, or nothing.
-mod asking;
-mod signing;
+// What we write: the request, and the two texts that are signed.
+// Each writer writes at the front of the lent buffer, where later bytes stay, or nothing.
+mod request;
+mod texts;
 
-pub use asking::write_request;
-pub use signing::DELEGATION;
-pub use signing::RESPONSE;
-pub use signing::delegation_text;
-pub use signing::response_text;
+use refusal::Refusal;
+pub use request::write_request;
+pub use texts::DELEGATION;
+pub use texts::RESPONSE;
+pub use texts::delegation_text;
+pub use texts::response_text;
 
-// What the writer of a signed text answers: how many bytes it wrote, or the code of its refusal.
-pub enum Text {
-    Wrote(usize),
-    Refused(u8),
+// How many bytes stand at the front of the buffer, or why nothing was written.
+pub enum Wrote {
+    Done(usize),
+    Refused(Refusal),
 }

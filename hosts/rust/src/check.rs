@@ -15,17 +15,31 @@ pub struct Window {
     pub high: u64,
 }
 
-/// The window of `response`, where it is a valid answer to `request`. The refusals are 14 and then 1 to 13.
+/// The window of `response`, where it is a valid answer to `request`. The refusals are 14 and then
+/// 1 to 13.
 ///
-/// The caller checks both signatures: `delegation` is its answer for that in CERT, over [`delegation_text`](crate::delegation_text),
-/// and `signature` for that of SREP, over [`response_text`](crate::response_text). Neither the signatures (SIG of the outermost message,
-/// SIG of CERT) nor the delegated key (PUBK of DELE) are handed out here: the caller reads these three from the packet by their tags, and
-/// never at a fixed place.
-pub fn check_response(request: &[u8], response: &[u8], delegation: bool, signature: bool) -> Result<Window, Refusal> {
-    let (n, m) = (request.len(), response.len());
+/// The caller checks both signatures with what [`signed_parts`](crate::signed_parts) hands out:
+/// `delegation` says whether the delegation's verifies, over
+/// [`delegation_text`](crate::delegation_text), and `signature` whether the response's does, over
+/// [`response_text`](crate::response_text).
+pub fn check_response(
+    request: &[u8],
+    response: &[u8],
+    delegation: bool,
+    signature: bool,
+) -> Result<Window, Refusal> {
     // SAFETY: see raw.
-    let verdict = unsafe { raw::tb_check_response(request.as_ptr(), n, response.as_ptr(), m, delegation, signature) };
-    Refusal::check_wide(verdict.code)?;
-    // RADI has 32 bits, so nothing is lost.
-    Ok(Window { midp: verdict.midp, radi: verdict.radi as u32, low: verdict.low, high: verdict.high })
+    let verdict = unsafe {
+        raw::tb_check_response(
+            request.as_ptr(),
+            request.len(),
+            response.as_ptr(),
+            response.len(),
+            u32::from(delegation),
+            u32::from(signature),
+        )
+    };
+    Refusal::check(verdict.code)?;
+    let raw::tb_verdict { midp, radi, low, high, .. } = verdict;
+    Ok(Window { midp, radi, low, high })
 }

@@ -1,12 +1,18 @@
 //! The proved Roughtime library, for Rust.
 //!
-//! Each function here calls the function of the proved library that has the same name after `tb_`, and adds nothing to it.
-//! The proofs speak of the library's own code; that these few lines declare and call it rightly is shown by the tests alone,
-//! which compare every function with an implementation that shares no code with the library.
+//! Each function here calls the function of the proved library that has the same name after `tb_`,
+//! and adds nothing to it; [`cut`], [`Record`] and [`Pile`] only lay out bytes beside such calls.
+//! The proofs speak of the library's own code; that these few lines declare and call it rightly is
+//! shown by the tests alone, which compare every function with an implementation that shares no
+//! code with the library.
 //!
-//! H, below, is Roughtime's hash: the first 32 bytes of SHA-512.
+//! H, below, is Roughtime's hash: the first 32 bytes of SHA-512. The example `console` goes from
+//! the request to the window, with both signatures verified, and takes a file for what the server
+//! answered.
 //!
 //! ```
+//! use trawlbeacon::Refusal;
+//!
 //! let (key, nonce) = ([1; 32], [2; 32]);
 //! let mut packet = [0; trawlbeacon::REQUEST_LENGTH];
 //! trawlbeacon::write_request(&key, &nonce, &mut packet)?;
@@ -15,32 +21,39 @@
 //! assert_eq!(request.nonc, nonce);
 //! assert_eq!(request.srv, Some(trawlbeacon::srv_value(&key)));
 //!
-//! // A request is no response: it has no SIG, which is a refusal with the code 6.
-//! assert_eq!(trawlbeacon::read_response(&packet).unwrap_err().code(), 6);
-//! # Ok::<(), trawlbeacon::Refusal>(())
+//! // A request is no response: it has no SIG.
+//! let refusal = trawlbeacon::read_response(&packet).unwrap_err();
+//! assert_eq!((refusal, refusal.code()), (Refusal::TagAbsent, 6));
+//! # Ok::<(), Refusal>(())
 //! ```
 
 #![warn(missing_docs)]
 
 mod check;
+mod gathering;
 mod packets;
 mod piles;
 pub mod raw;
 mod refusal;
 mod servers;
+mod signing;
 mod trees;
 
 pub use check::{check_response, Window};
+pub use gathering::{Pile, Record};
 pub use packets::{
-    delegation_text, read_request, read_response, response_text, write_request, Request, Response, REQUEST_LENGTH,
+    read_request, read_response, write_request, Request, Response, LONGEST_PACKET, REQUEST_LENGTH,
 };
 pub use piles::{
-    check_report, contradicts, cut_run, first_rand_zero, judge, linked, pile_code, Pair, ReportRefusal, Run,
-    MOST_RECORDS, RECORD_LENGTH,
+    check_report, contradicts, cut, cut_run, first_rand_zero, judge, linked, pile_code, Cut, Pair,
+    ReportRefusal, Run, MOST_RECORDS, RECORD_LENGTH,
 };
 pub use refusal::Refusal;
-pub use servers::{find_server, Found, List};
-pub use trees::{leads, path, path_from, root, rows, Placed, Rooted, MOST_LEAVES, MOST_ROWS_LENGTH};
+pub use servers::{find_server, Found, List, SERVER_LENGTH};
+pub use signing::{delegation_text, response_text, signed_parts, SignedParts, LONGEST_TEXT};
+pub use trees::{
+    leads, path, path_from, root, rows, Placed, Rooted, MOST_LEAVES, MOST_ROWS_LENGTH,
+};
 
 /// A SHA-512 digest.
 pub type Digest = [u8; 64];
@@ -49,6 +62,7 @@ pub type Digest = [u8; 64];
 pub type Hash = [u8; 32];
 
 /// The SHA-512 digest of `message`.
+#[must_use]
 pub fn sha512(message: &[u8]) -> Digest {
     let mut out = [0; 64];
     // SAFETY: see raw.
@@ -57,6 +71,7 @@ pub fn sha512(message: &[u8]) -> Digest {
 }
 
 /// The leaf of a request packet in the Merkle tree: H(0x00, packet).
+#[must_use]
 pub fn leaf(packet: &[u8]) -> Hash {
     let mut out = [0; 32];
     // SAFETY: see raw.
@@ -65,6 +80,7 @@ pub fn leaf(packet: &[u8]) -> Hash {
 }
 
 /// The node above two nodes of the tree: H(0x01, left, right).
+#[must_use]
 pub fn parent(left: &Hash, right: &Hash) -> Hash {
     let mut out = [0; 32];
     // SAFETY: see raw.
@@ -73,6 +89,7 @@ pub fn parent(left: &Hash, right: &Hash) -> Hash {
 }
 
 /// What stands at a leaf of the tree where there is no packet: H(0x00).
+#[must_use]
 pub fn empty_place() -> Hash {
     let mut out = [0; 32];
     // SAFETY: see raw.
@@ -80,7 +97,9 @@ pub fn empty_place() -> Hash {
     out
 }
 
-/// The SRV value, by which a request names the server it is meant for: H(0xff, key), of the server's long-term public key.
+/// The SRV value, by which a request names the server it is meant for: H(0xff, key), of the
+/// server's long-term public key.
+#[must_use]
 pub fn srv_value(key: &[u8; 32]) -> Hash {
     let mut out = [0; 32];
     // SAFETY: see raw.
@@ -89,6 +108,7 @@ pub fn srv_value(key: &[u8; 32]) -> Hash {
 }
 
 /// The nonce that ties the next request of a chain to `response`: H(response, rand).
+#[must_use]
 pub fn link(response: &[u8], rand: &[u8; 32]) -> Hash {
     let mut out = [0; 32];
     // SAFETY: see raw.

@@ -1,6 +1,9 @@
-//! Requests and responses: reading both, writing a request, and writing the two texts that are signed.
+//! Requests and responses: reading both, and writing a request.
 
 use crate::{raw, Hash, Refusal};
+
+/// Bytes of the longest packet that is read.
+pub const LONGEST_PACKET: usize = 2000;
 
 /// Bytes of the request that [`write_request`] writes.
 pub const REQUEST_LENGTH: usize = 1036;
@@ -14,7 +17,8 @@ pub struct Request {
     pub srv: Option<Hash>,
 }
 
-/// What a good response says. Whether it is valid is another question, and needs the request and both signatures.
+/// What a good response says. Whether it is valid is another question, and needs the request and
+/// both signatures.
 #[derive(Clone, Copy, Debug, PartialEq, Eq)]
 pub struct Response {
     /// NONC: the nonce of the request.
@@ -42,32 +46,21 @@ pub fn read_response(packet: &[u8]) -> Result<Response, Refusal> {
     // SAFETY: see raw.
     let read = unsafe { raw::tb_read_response(packet.as_ptr(), packet.len()) };
     Refusal::check(read.code)?;
-    Ok(Response { nonc: read.nonc, indx: read.indx, midp: read.midp, radi: read.radi, root: read.root })
+    let raw::tb_response { nonc, indx, midp, radi, root, .. } = read;
+    Ok(Response { nonc, indx, midp, radi, root })
 }
 
-/// Writes the request with `nonce` to the server with the long-term key `key` at the front of `out`: [`REQUEST_LENGTH`] bytes.
-/// What follows them stays. The only refusal is 19, and then all of `out` stays.
-pub fn write_request(key: &[u8; 32], nonce: &[u8; 32], out: &mut [u8]) -> Result<(), Refusal> {
+/// Writes the request with `nonce` to the server with the long-term key `key` at the front of
+/// `out`, and tells how many bytes it has: [`REQUEST_LENGTH`]. What follows them stays. The only
+/// refusal is 19, and then all of `out` stays.
+pub fn write_request(key: &[u8; 32], nonce: &[u8; 32], out: &mut [u8]) -> Result<usize, Refusal> {
     // SAFETY: see raw.
-    Refusal::check(unsafe { raw::tb_write_request(key, nonce, out.as_mut_ptr(), out.len()) })
+    wrote(unsafe { raw::tb_write_request(key, nonce, out.as_mut_ptr(), out.len()) })
 }
 
-/// Writes what the signature in CERT was made of, in the response that `packet` is, at the front of `out`, and tells how many
-/// bytes it has: 2,000 are room for any. What follows them stays. The refusals are 1 to 7 and then 19, and then all of `out` stays.
-pub fn delegation_text(packet: &[u8], out: &mut [u8]) -> Result<usize, Refusal> {
-    // SAFETY: see raw.
-    written(unsafe { raw::tb_delegation_text(packet.as_ptr(), packet.len(), out.as_mut_ptr(), out.len()) })
-}
-
-/// Writes what the signature of SREP was made of, in the response that `packet` is, at the front of `out`, and tells how many
-/// bytes it has: 2,000 are room for any. What follows them stays. The refusals are 1 to 7 and then 19, and then all of `out` stays.
-pub fn response_text(packet: &[u8], out: &mut [u8]) -> Result<usize, Refusal> {
-    // SAFETY: see raw.
-    written(unsafe { raw::tb_response_text(packet.as_ptr(), packet.len(), out.as_mut_ptr(), out.len()) })
-}
-
-/// The length of a text, or why there is none. It is the length of a part of a slice, so nothing is lost here.
-fn written(text: raw::Text) -> Result<usize, Refusal> {
-    Refusal::check_wide(text.code)?;
-    Ok(text.length as usize)
+/// How many bytes were written, or why none were. They are a part of a slice, so that nothing is
+/// lost where their number becomes a usize.
+pub(crate) fn wrote(wrote: raw::tb_wrote) -> Result<usize, Refusal> {
+    Refusal::check(wrote.code)?;
+    Ok(wrote.length as usize)
 }

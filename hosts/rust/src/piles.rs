@@ -1,9 +1,12 @@
-//! Piles of records, which are requests with the responses that answer them: what each record says, whether a pile is a report, and the
-//! run of records that convicts by itself.
+//! Piles of records, which are requests with the responses that answer them: what each record says,
+//! whether a pile is a report, and the run of records that convicts by itself.
+//!
+//! Here piles are bytes, as they are kept and sent. [`Pile`](crate::Pile) makes them.
 
-// A place that the library answers is one of a record of the pile, so nothing is lost where it becomes a usize.
+// A place that the library answers is one of a record of the pile, so nothing is lost where it
+// becomes a usize.
 
-use std::fmt;
+use core::fmt;
 
 use crate::{raw, Refusal, Window};
 
@@ -20,11 +23,12 @@ use crate::{raw, Refusal, Window};
 /// | 2,096 to 4,095 | the response packet, then zeros |
 pub const RECORD_LENGTH: usize = 4096;
 
-/// The most records that a pile has. It has at least one, and they stand one after the other; places of records count from 0.
+/// The most records that a pile has. It has at least one, and they stand one after the other;
+/// places of records count from 0.
 ///
-/// Beside a pile come its answers, two bytes a record in the same order: whether the signature in CERT verifies, over
-/// [`delegation_text`](crate::delegation_text), and then whether that of SREP does, over [`response_text`](crate::response_text).
-/// Each is 1 for yes or 0 for no.
+/// Beside a pile come its answers, two bytes a record in the same order: whether the delegation's
+/// signature verifies, and then whether the response's does, as [`SignedParts`](crate::SignedParts)
+/// says. Each is 1 for yes or 0 for no, and no other byte.
 pub const MOST_RECORDS: usize = 16;
 
 /// The two records of a report that contradict each other, by their places.
@@ -45,19 +49,38 @@ pub struct Run {
     pub last: usize,
 }
 
+impl Run {
+    /// How many records it has.
+    #[must_use]
+    pub const fn records(self) -> usize {
+        self.last - self.first + 1
+    }
+}
+
+/// A run of records with its bytes.
+#[derive(Clone, Debug, PartialEq, Eq)]
+pub struct Cut {
+    /// Where it stood in the pile.
+    pub run: Run,
+    /// Its records, with the rand of the first of them set to zero: with their answers, a report.
+    pub bytes: Vec<u8>,
+}
+
 /// Why a pile is no report.
 #[derive(Clone, Copy, Debug, PartialEq, Eq)]
+#[must_use]
 pub struct ReportRefusal {
     /// The refusal.
     pub refusal: Refusal,
-    /// The place of the record to which it applies: there is one exactly where the code is 1 to 14, 16 or 17.
+    /// The place of the record to which it applies: there is one exactly where the code is 1 to 14,
+    /// 16 or 17.
     pub place: Option<usize>,
 }
 
 impl fmt::Display for ReportRefusal {
     fn fmt(&self, f: &mut fmt::Formatter) -> fmt::Result {
         match self.place {
-            Some(place) => write!(f, "record {place} {}", self.refusal),
+            Some(place) => write!(f, "record {place}: {}", self.refusal),
             None => self.refusal.fmt(f),
         }
     }
@@ -65,54 +88,62 @@ impl fmt::Display for ReportRefusal {
 
 impl std::error::Error for ReportRefusal {}
 
-/// Whether `pile` is 1 to 16 whole records and `answers` two bytes for each, none above 1. The only refusal is 15.
+/// Whether `pile` is 1 to 16 whole records and `answers` two bytes for each, none above 1. The only
+/// refusal is 15.
 ///
 /// ```
-/// use trawlbeacon::{pile_code, RECORD_LENGTH};
+/// use trawlbeacon::{pile_code, Refusal, RECORD_LENGTH};
 ///
 /// assert_eq!(pile_code(&[0; RECORD_LENGTH], &[1, 0]), Ok(()));
-/// assert_eq!(pile_code(&[], &[]).unwrap_err().code(), 15);
-/// assert_eq!(pile_code(&[0; RECORD_LENGTH], &[1, 2]).unwrap_err().code(), 15);
+/// assert_eq!(pile_code(&[], &[]), Err(Refusal::Pile));
+/// assert_eq!(pile_code(&[0; RECORD_LENGTH], &[1, 2]), Err(Refusal::Pile));
 /// ```
 pub fn pile_code(pile: &[u8], answers: &[u8]) -> Result<(), Refusal> {
+    let (from, told) = (pile.as_ptr(), answers.as_ptr());
     // SAFETY: see raw.
-    Refusal::check(unsafe { raw::tb_pile_code(pile.as_ptr(), pile.len(), answers.as_ptr(), answers.len()) })
+    Refusal::check(unsafe { raw::tb_pile_code(from, pile.len(), told, answers.len()) })
 }
 
-/// The window of the record at `place`, where it is valid. The refusals are 15, also where the pile has no such record, then 16, 14 and
-/// 1 to 13. Its rand and its links play no part.
+/// The window of the record at `place`, where it is valid. The refusals are 15, also where the pile
+/// has no such record, then 16, 14 and 1 to 13. Its rand and its links play no part.
 ///
 /// ```
-/// use trawlbeacon::{judge, RECORD_LENGTH};
+/// use trawlbeacon::{judge, Refusal, RECORD_LENGTH};
 ///
 /// // A record of zeros has no request, and there is no second record.
-/// assert_eq!(judge(&[0; RECORD_LENGTH], &[1, 1], 0).unwrap_err().code(), 14);
-/// assert_eq!(judge(&[0; RECORD_LENGTH], &[1, 1], 1).unwrap_err().code(), 15);
+/// assert_eq!(judge(&[0; RECORD_LENGTH], &[1, 1], 0), Err(Refusal::Request));
+/// assert_eq!(judge(&[0; RECORD_LENGTH], &[1, 1], 1), Err(Refusal::Pile));
 /// ```
 pub fn judge(pile: &[u8], answers: &[u8], place: usize) -> Result<Window, Refusal> {
+    let (from, told) = (pile.as_ptr(), answers.as_ptr());
     // SAFETY: see raw.
-    let judged = unsafe { raw::tb_judge(pile.as_ptr(), pile.len(), answers.as_ptr(), answers.len(), place) };
-    Refusal::check_wide(judged.code)?;
-    // RADI has 32 bits, so nothing is lost.
-    Ok(Window { midp: judged.midp, radi: judged.radi as u32, low: judged.low, high: judged.high })
+    let judged = unsafe { raw::tb_judge(from, pile.len(), told, answers.len(), place) };
+    Refusal::check(judged.code)?;
+    let raw::tb_judged { midp, radi, low, high, .. } = judged;
+    Ok(Window { midp, radi, low, high })
 }
 
-/// Whether the record at `place` is linked: the NONC of its request is H(whole response packet of the record before, its own rand).
-/// It is not where that cannot be asked: the pile is not 1 to 16 whole records, it has no such record, there is none before it, one of the
-/// two lengths is above 2,000, or the request is bad.
+/// Whether the record at `place` is linked: the NONC of its request is H(whole response packet of
+/// the record before, its own rand). It is not where that cannot be asked: the pile is not 1 to 16
+/// whole records, it has no such record, there is none before it, one of the two lengths is above
+/// 2,000, or the request is bad.
+#[must_use]
 pub fn linked(pile: &[u8], place: usize) -> bool {
     // SAFETY: see raw.
     unsafe { raw::tb_linked(pile.as_ptr(), pile.len(), place) }
 }
 
-/// Whether the rand of the first record is all zero. It is not where the pile is not 1 to 16 whole records.
+/// Whether the rand of the first record is all zero. It is not where the pile is not 1 to 16 whole
+/// records.
+#[must_use]
 pub fn first_rand_zero(pile: &[u8]) -> bool {
     // SAFETY: see raw.
     unsafe { raw::tb_first_rand_zero(pile.as_ptr(), pile.len()) }
 }
 
-/// Whether two windows contradict each other, of which the server told `earlier` before `later`: MIDP - RADI of the earlier one is
-/// above MIDP + RADI of the later one, in whole numbers. Their ends, which stop at 0 and at 2^64 - 1, play no part.
+/// Whether two windows contradict each other, of which `earlier` was told before `later`:
+/// MIDP - RADI of the earlier one is above MIDP + RADI of the later one, in whole numbers. Their
+/// ends, which stop at 0 and at 2^64 - 1, play no part.
 ///
 /// ```
 /// use trawlbeacon::{contradicts, Window};
@@ -121,54 +152,70 @@ pub fn first_rand_zero(pile: &[u8]) -> bool {
 /// assert!(!contradicts(&earlier, &Window { midp: 990, radi: 5, low: 985, high: 995 }));
 /// assert!(contradicts(&earlier, &Window { midp: 990, radi: 4, low: 986, high: 994 }));
 /// ```
+#[must_use]
 pub fn contradicts(earlier: &Window, later: &Window) -> bool {
     // SAFETY: no pointer is passed.
     unsafe { raw::tb_contradicts(earlier.midp, earlier.radi, later.midp, later.radi) }
 }
 
-/// The pair that a report names. A pile is a report where each record is valid, the first rand is all zero, each later record is linked,
-/// and two records contradict each other; the pair is the closest together, and of those as close the first.
+/// The pair that a report names. A pile is a report where each record is valid, the first rand is
+/// all zero, each later record is linked, and two records contradict each other; the pair is the
+/// closest together, and of those as close the first.
 ///
-/// The refusals are 15; then 16, 14 and 1 to 13 of the first record to which one applies; then 17 of the first record that is not
-/// linked, or the first one of all where its rand is not zero; then 18.
+/// The refusals are 15; then 16, 14 and 1 to 13 of the first record to which one applies; then 17
+/// of the first record that is not linked, or the first one of all where its rand is not zero; then
+/// 18.
 ///
 /// ```
-/// use trawlbeacon::{check_report, RECORD_LENGTH};
+/// use trawlbeacon::{check_report, Refusal, ReportRefusal, RECORD_LENGTH};
 ///
-/// let refused = check_report(&[0; RECORD_LENGTH], &[1, 1]).unwrap_err();
-/// assert_eq!((refused.refusal.code(), refused.place), (14, Some(0)));
-/// let refused = check_report(&[0; RECORD_LENGTH + 1], &[1, 1]).unwrap_err();
-/// assert_eq!((refused.refusal.code(), refused.place), (15, None));
+/// let refused = |refusal, place| Err(ReportRefusal { refusal, place });
+/// let zeros = [0; RECORD_LENGTH + 1];
+/// assert_eq!(check_report(&zeros[1..], &[1, 1]), refused(Refusal::Request, Some(0)));
+/// assert_eq!(check_report(&zeros, &[1, 1]), refused(Refusal::Pile, None));
 /// ```
 pub fn check_report(pile: &[u8], answers: &[u8]) -> Result<Pair, ReportRefusal> {
+    let (from, told) = (pile.as_ptr(), answers.as_ptr());
     // SAFETY: see raw.
-    let checked = unsafe { raw::tb_check_report(pile.as_ptr(), pile.len(), answers.as_ptr(), answers.len()) };
-    match Refusal::check_wide(checked.code) {
+    let checked = unsafe { raw::tb_check_report(from, pile.len(), told, answers.len()) };
+    match Refusal::check(checked.code) {
         Ok(()) => Ok(Pair { first: checked.first as usize, second: checked.second as usize }),
         Err(refusal) => {
-            let of_a_record = !matches!(refusal.code(), 15 | 18);
+            let of_a_record = !matches!(refusal, Refusal::Pile | Refusal::NoContradiction);
             Err(ReportRefusal { refusal, place: of_a_record.then_some(checked.place as usize) })
         }
     }
 }
 
-/// Cuts the run that convicts by itself out of a pile: its records are valid, each after its first is linked, and two of them contradict
-/// each other. It is the shortest such run, and of those as short the first. A bad record is no refusal; no run goes through it.
+/// Cuts the run that convicts by itself out of a pile: its records are valid, each after its first
+/// is linked, and two of them contradict each other. It is the shortest such run, and of those as
+/// short the first. A bad record is no refusal; no run goes through it.
 ///
-/// The records of the run are written at the front of `out`, with the rand of the first of them set to zero, so that they are a report.
-/// What follows them stays. `out` must be as long as the pile at least. The refusals are 15, 19 and 18, and then all of `out` stays.
+/// The records of the run are written at the front of `out`, with the rand of the first of them set
+/// to zero, so that they are a report. What follows them stays. `out` must be as long as the pile
+/// at least. The refusals are 15, 19 and 18, and then all of `out` stays.
 ///
 /// ```
-/// use trawlbeacon::{cut_run, RECORD_LENGTH};
+/// use trawlbeacon::{cut_run, Refusal, RECORD_LENGTH};
 ///
 /// let (pile, mut out) = ([0; RECORD_LENGTH], [0; RECORD_LENGTH]);
-/// assert_eq!(cut_run(&pile, &[1, 1], &mut out).unwrap_err().code(), 18);
-/// assert_eq!(cut_run(&pile, &[1, 1], &mut out[1..]).unwrap_err().code(), 19);
+/// assert_eq!(cut_run(&pile, &[1, 1], &mut out), Err(Refusal::NoContradiction));
+/// assert_eq!(cut_run(&pile, &[1, 1], &mut out[1..]), Err(Refusal::Room));
 /// ```
 pub fn cut_run(pile: &[u8], answers: &[u8], out: &mut [u8]) -> Result<Run, Refusal> {
-    let (n, m, room) = (pile.len(), answers.len(), out.len());
+    let (from, told, to) = (pile.as_ptr(), answers.as_ptr(), out.as_mut_ptr());
     // SAFETY: see raw.
-    let cut = unsafe { raw::tb_cut_run(pile.as_ptr(), n, answers.as_ptr(), m, out.as_mut_ptr(), room) };
-    Refusal::check_wide(cut.code)?;
+    let cut = unsafe { raw::tb_cut_run(from, pile.len(), told, answers.len(), to, out.len()) };
+    Refusal::check(cut.code)?;
     Ok(Run { first: cut.first as usize, last: cut.last as usize })
+}
+
+/// What [`cut_run`] does, without a buffer that is lent. The refusals are 15 and 18.
+pub fn cut(pile: &[u8], answers: &[u8]) -> Result<Cut, Refusal> {
+    // No room is taken for bytes that are no pile.
+    pile_code(pile, answers)?;
+    let mut bytes = vec![0; pile.len()];
+    let run = cut_run(pile, answers, &mut bytes)?;
+    bytes.truncate(run.records() * RECORD_LENGTH);
+    Ok(Cut { run, bytes })
 }

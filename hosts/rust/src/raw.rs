@@ -1,17 +1,21 @@
-//! The C functions of the proved library, and the structs that they answer with, as `include/trawlbeacon.h` declares them.
+//! The C functions of the proved library, and the structs that they answer with, as
+//! `include/trawlbeacon.h` declares them and under its names. The header says what each does.
 //!
-//! A slice is passed as a pointer and then a length. The pointer must not be null, whatever the length.
-//! A reference to an array is a plain pointer to C, and says here how many bytes it must lead to.
-//! What is written to must be initialised, and must overlap nothing that is read.
+//! A slice is passed as a pointer and then a length. The pointer must not be null, whatever the
+//! length. A reference to an array is a plain pointer to C, and says here how many bytes it must
+//! lead to. What is written to must be initialised, and must overlap nothing that is read.
 //!
-//! Why the safe functions of this package are sound: the library only reads its inputs, only writes within `out`, and keeps no pointer. A Rust
-//! slice's pointer is never null, also where the slice is empty; what it leads to is initialised; and a mutable one, or a new array that is
-//! filled with zeros first, overlaps no other.
+//! Why the safe functions of this package are sound: the library only reads its inputs, only writes
+//! within `out`, and keeps no pointer. A Rust slice's pointer is never null, also where the slice
+//! is empty; what it leads to is initialised; and a mutable one, or a new array that is filled with
+//! zeros first, overlaps no other.
+
+#![allow(non_camel_case_types)]
 
 /// What [`tb_read_request`] answers.
 #[repr(C)]
 #[derive(Clone, Copy, Debug, PartialEq, Eq)]
-pub struct Request {
+pub struct tb_request {
     /// 0, or a refusal; then all else is 0.
     pub code: u32,
     /// 1 where the request has an SRV, else 0; then `srv` is all 0.
@@ -25,13 +29,13 @@ pub struct Request {
 /// What [`tb_read_response`] answers.
 #[repr(C)]
 #[derive(Clone, Copy, Debug, PartialEq, Eq)]
-pub struct Response {
-    /// MIDP.
-    pub midp: u64,
+pub struct tb_response {
     /// 0, or a refusal; then all else is 0.
     pub code: u32,
     /// INDX.
     pub indx: u32,
+    /// MIDP.
+    pub midp: u64,
     /// RADI.
     pub radi: u32,
     /// NONC.
@@ -40,24 +44,54 @@ pub struct Response {
     pub root: [u8; 32],
 }
 
-/// What a function answers that writes a text.
+/// What a function answers that writes a request or a text.
 #[repr(C)]
 #[derive(Clone, Copy, Debug, PartialEq, Eq)]
-pub struct Text {
+pub struct tb_wrote {
     /// 0, or a refusal.
-    pub code: u64,
+    pub code: u32,
     /// How many bytes were written: 0 on a refusal.
     pub length: u64,
+}
+
+/// What [`tb_signed_parts`] answers.
+#[repr(C)]
+#[derive(Clone, Copy, Debug, PartialEq, Eq)]
+pub struct tb_parts {
+    /// 0, or a refusal; then all else is 0.
+    pub code: u32,
+    /// SIG of the outermost message.
+    pub signature: [u8; 64],
+    /// SIG of CERT.
+    pub delegation: [u8; 64],
+    /// PUBK of DELE.
+    pub pubk: [u8; 32],
+}
+
+/// What [`tb_check_response`] answers.
+#[repr(C)]
+#[derive(Clone, Copy, Debug, PartialEq, Eq)]
+pub struct tb_verdict {
+    /// 0, or a refusal; then all else is 0.
+    pub code: u32,
+    /// RADI.
+    pub radi: u32,
+    /// MIDP.
+    pub midp: u64,
+    /// The low end of the window.
+    pub low: u64,
+    /// The high end of the window.
+    pub high: u64,
 }
 
 /// What [`tb_root`] answers.
 #[repr(C)]
 #[derive(Clone, Copy, Debug, PartialEq, Eq)]
-pub struct Rooted {
+pub struct tb_rooted {
     /// 0, or a refusal; then all else is 0.
-    pub code: u64,
+    pub code: u32,
     /// How many steps lead from a leaf to the root.
-    pub depth: u64,
+    pub depth: u32,
     /// The root.
     pub root: [u8; 32],
 }
@@ -65,49 +99,33 @@ pub struct Rooted {
 /// What a function answers that writes a path.
 #[repr(C)]
 #[derive(Clone, Copy, Debug, PartialEq, Eq)]
-pub struct Placed {
+pub struct tb_placed {
     /// 0, or a refusal; then all else is 0.
-    pub code: u64,
+    pub code: u32,
     /// INDX.
-    pub indx: u64,
+    pub indx: u32,
     /// How many siblings were written.
-    pub depth: u64,
+    pub depth: u32,
 }
 
 /// What [`tb_rows`] answers.
 #[repr(C)]
 #[derive(Clone, Copy, Debug, PartialEq, Eq)]
-pub struct Laid {
+pub struct tb_laid {
     /// 0, or a refusal.
-    pub code: u64,
+    pub code: u32,
     /// How many steps lead from a leaf to the root: 0 on a refusal.
-    pub depth: u64,
-}
-
-/// What [`tb_check_response`] answers.
-#[repr(C)]
-#[derive(Clone, Copy, Debug, PartialEq, Eq)]
-pub struct Verdict {
-    /// 0, or a refusal; then all else is 0.
-    pub code: u64,
-    /// MIDP.
-    pub midp: u64,
-    /// RADI.
-    pub radi: u64,
-    /// The low end of the window.
-    pub low: u64,
-    /// The high end of the window.
-    pub high: u64,
+    pub depth: u32,
 }
 
 /// What [`tb_find_server`] answers.
 #[repr(C)]
 #[derive(Clone, Copy, Debug, PartialEq, Eq)]
-pub struct Found {
+pub struct tb_found {
     /// 0, or a refusal; then all else is 0.
-    pub code: u64,
+    pub code: u32,
     /// 0 where the record is in the owner's list, 1 where it is in the shipped one.
-    pub list: u64,
+    pub list: u32,
     /// Where in that list the record starts.
     pub offset: u64,
 }
@@ -115,15 +133,15 @@ pub struct Found {
 /// What [`tb_judge`] answers.
 #[repr(C)]
 #[derive(Clone, Copy, Debug, PartialEq, Eq)]
-pub struct Judged {
+pub struct tb_judged {
     /// 0, or a refusal; then all else but the place is 0.
-    pub code: u64,
+    pub code: u32,
+    /// RADI.
+    pub radi: u32,
     /// The place that was asked for.
     pub place: u64,
     /// MIDP.
     pub midp: u64,
-    /// RADI.
-    pub radi: u64,
     /// The low end of the window.
     pub low: u64,
     /// The high end of the window.
@@ -133,10 +151,11 @@ pub struct Judged {
 /// What [`tb_check_report`] answers.
 #[repr(C)]
 #[derive(Clone, Copy, Debug, PartialEq, Eq)]
-pub struct Reported {
+pub struct tb_reported {
     /// 0, or a refusal; then all else but the place is 0.
-    pub code: u64,
-    /// The place of the record to which the refusal applies: 0 where there is none, as with 0, 15 and 18.
+    pub code: u32,
+    /// The place of the record to which the refusal applies: 0 where there is none, as with 0, 15
+    /// and 18.
     pub place: u64,
     /// The place of the earlier record of the pair.
     pub first: u64,
@@ -147,9 +166,9 @@ pub struct Reported {
 /// What [`tb_cut_run`] answers.
 #[repr(C)]
 #[derive(Clone, Copy, Debug, PartialEq, Eq)]
-pub struct Cut {
+pub struct tb_cut {
     /// 0, or a refusal; then all else is 0.
-    pub code: u64,
+    pub code: u32,
     /// The place of the first record of the run.
     pub first: u64,
     /// The place of the last one.
@@ -158,9 +177,9 @@ pub struct Cut {
 
 extern "C" {
     /// SHA-512.
-    pub fn tb_sha512(s: *const u8, n: usize, out: &mut [u8; 64]);
+    pub fn tb_sha512(message: *const u8, message_len: usize, out: &mut [u8; 64]);
     /// The leaf of a request packet.
-    pub fn tb_leaf(packet: *const u8, n: usize, out: &mut [u8; 32]);
+    pub fn tb_leaf(packet: *const u8, packet_len: usize, out: &mut [u8; 32]);
     /// The node above two nodes.
     pub fn tb_parent(left: &[u8; 32], right: &[u8; 32], out: &mut [u8; 32]);
     /// A leaf without a packet.
@@ -168,54 +187,125 @@ extern "C" {
     /// The SRV value of a server's key.
     pub fn tb_srv_value(key: &[u8; 32], out: &mut [u8; 32]);
     /// The nonce of the next request of a chain.
-    pub fn tb_link(response: *const u8, n: usize, rand: &[u8; 32], out: &mut [u8; 32]);
+    pub fn tb_link(response: *const u8, response_len: usize, rand: &[u8; 32], out: &mut [u8; 32]);
 
     /// Reads a request.
-    pub fn tb_read_request(packet: *const u8, n: usize) -> Request;
+    pub fn tb_read_request(packet: *const u8, packet_len: usize) -> tb_request;
     /// Reads a response.
-    pub fn tb_read_response(packet: *const u8, n: usize) -> Response;
-    /// Writes a request; answers 0 or 19.
-    pub fn tb_write_request(key: &[u8; 32], nonce: &[u8; 32], out: *mut u8, n: usize) -> u32;
-    /// Writes what the signature in CERT was made of.
-    pub fn tb_delegation_text(packet: *const u8, n: usize, out: *mut u8, m: usize) -> Text;
-    /// Writes what the signature of SREP was made of.
-    pub fn tb_response_text(packet: *const u8, n: usize, out: *mut u8, m: usize) -> Text;
+    pub fn tb_read_response(packet: *const u8, packet_len: usize) -> tb_response;
+    /// Writes a request.
+    pub fn tb_write_request(
+        key: &[u8; 32],
+        nonce: &[u8; 32],
+        out: *mut u8,
+        out_len: usize,
+    ) -> tb_wrote;
 
-    /// Whether a path leads from a leaf to a root.
-    pub fn tb_leads(leaf: &[u8; 32], indx: u32, path: *const u8, n: usize, root: &[u8; 32]) -> bool;
-    /// The root of a tree.
-    pub fn tb_root(leaves: *const u8, n: usize) -> Rooted;
-    /// Writes the path of a leaf.
-    pub fn tb_path(leaves: *const u8, n: usize, place: usize, out: *mut u8, m: usize) -> Placed;
-    /// Writes all rows of a tree.
-    pub fn tb_rows(leaves: *const u8, n: usize, out: *mut u8, m: usize) -> Laid;
-    /// Writes the path of a leaf as it stands in rows.
-    pub fn tb_path_from(rows: *const u8, n: usize, count: usize, place: usize, out: *mut u8, m: usize) -> Placed;
-
-    /// Checks a response.
+    /// Takes out of a response what is verified.
+    pub fn tb_signed_parts(packet: *const u8, packet_len: usize) -> tb_parts;
+    /// Writes the text that the delegation signs.
+    pub fn tb_delegation_text(
+        packet: *const u8,
+        packet_len: usize,
+        out: *mut u8,
+        out_len: usize,
+    ) -> tb_wrote;
+    /// Writes the text that the response signs.
+    pub fn tb_response_text(
+        packet: *const u8,
+        packet_len: usize,
+        out: *mut u8,
+        out_len: usize,
+    ) -> tb_wrote;
+    /// Checks a response. Of the two answers 1 is yes, and every other number is no.
     pub fn tb_check_response(
         request: *const u8,
-        n: usize,
+        request_len: usize,
         response: *const u8,
-        m: usize,
-        delegation: bool,
-        signature: bool,
-    ) -> Verdict;
+        response_len: usize,
+        delegation: u32,
+        signature: u32,
+    ) -> tb_verdict;
+
+    /// Whether a path leads from a leaf to a root.
+    pub fn tb_leads(
+        leaf: &[u8; 32],
+        indx: u32,
+        path: *const u8,
+        path_len: usize,
+        root: &[u8; 32],
+    ) -> bool;
+    /// The root of a tree.
+    pub fn tb_root(leaves: *const u8, leaves_len: usize) -> tb_rooted;
+    /// Writes the path of a leaf.
+    pub fn tb_path(
+        leaves: *const u8,
+        leaves_len: usize,
+        place: usize,
+        out: *mut u8,
+        out_len: usize,
+    ) -> tb_placed;
+    /// Writes all rows of a tree.
+    pub fn tb_rows(leaves: *const u8, leaves_len: usize, out: *mut u8, out_len: usize) -> tb_laid;
+    /// Writes the path of a leaf as it stands in rows.
+    pub fn tb_path_from(
+        rows: *const u8,
+        rows_len: usize,
+        count: usize,
+        place: usize,
+        out: *mut u8,
+        out_len: usize,
+    ) -> tb_placed;
+
     /// Looks a server up.
-    pub fn tb_find_server(owner: *const u8, n: usize, shipped: *const u8, m: usize, srv: &[u8; 32]) -> Found;
+    pub fn tb_find_server(
+        owner: *const u8,
+        owner_len: usize,
+        shipped: *const u8,
+        shipped_len: usize,
+        srv: &[u8; 32],
+    ) -> tb_found;
 
     /// Code 15 of a pile and its answers, or 0.
-    pub fn tb_pile_code(pile: *const u8, n: usize, answers: *const u8, m: usize) -> u32;
+    pub fn tb_pile_code(
+        pile: *const u8,
+        pile_len: usize,
+        answers: *const u8,
+        answers_len: usize,
+    ) -> u32;
     /// Judges a record of a pile.
-    pub fn tb_judge(pile: *const u8, n: usize, answers: *const u8, m: usize, place: usize) -> Judged;
+    pub fn tb_judge(
+        pile: *const u8,
+        pile_len: usize,
+        answers: *const u8,
+        answers_len: usize,
+        place: usize,
+    ) -> tb_judged;
     /// Whether a record of a pile is linked to the one before it.
-    pub fn tb_linked(pile: *const u8, n: usize, place: usize) -> bool;
+    pub fn tb_linked(pile: *const u8, pile_len: usize, place: usize) -> bool;
     /// Whether the first rand of a pile is all zero.
-    pub fn tb_first_rand_zero(pile: *const u8, n: usize) -> bool;
+    pub fn tb_first_rand_zero(pile: *const u8, pile_len: usize) -> bool;
     /// Whether two windows contradict each other.
-    pub fn tb_contradicts(earlier_midp: u64, earlier_radi: u32, later_midp: u64, later_radi: u32) -> bool;
+    pub fn tb_contradicts(
+        earlier_midp: u64,
+        earlier_radi: u32,
+        later_midp: u64,
+        later_radi: u32,
+    ) -> bool;
     /// Checks whether a pile is a report.
-    pub fn tb_check_report(pile: *const u8, n: usize, answers: *const u8, m: usize) -> Reported;
+    pub fn tb_check_report(
+        pile: *const u8,
+        pile_len: usize,
+        answers: *const u8,
+        answers_len: usize,
+    ) -> tb_reported;
     /// Writes the run of a pile that convicts by itself.
-    pub fn tb_cut_run(pile: *const u8, n: usize, answers: *const u8, m: usize, out: *mut u8, room: usize) -> Cut;
+    pub fn tb_cut_run(
+        pile: *const u8,
+        pile_len: usize,
+        answers: *const u8,
+        answers_len: usize,
+        out: *mut u8,
+        out_len: usize,
+    ) -> tb_cut;
 }

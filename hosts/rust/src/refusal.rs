@@ -1,65 +1,206 @@
 //! Why a call was refused.
 
-use std::fmt;
+use core::fmt;
 
-/// A refusal. Its number says why, and is the same in every language.
+/// A refusal: the first that applies, in the order in which the function that gives it names them.
 ///
-/// | Code | Given when |
-/// |---|---|
-/// | 1 | the packet has under 12 or over 2,000 bytes |
-/// | 2 | its first eight bytes are wrong |
-/// | 3 | its length field differs from the rest |
-/// | 4 | a message's length, its number of pairs, the length of its header, or an offset is wrong |
-/// | 5 | the tags of a message do not rise |
-/// | 6 | a needed tag is absent |
-/// | 7 | a value's length is wrong, or a version list does not rise |
-/// | 8 | TYPE or the version is wrong |
-/// | 9 | NONC differs from that of the request |
-/// | 10 | INDX is too large, or the path does not lead to ROOT |
-/// | 11 | MIDP is below MINT or above MAXT |
-/// | 12 | the delegation's signature was answered no |
-/// | 13 | the response's signature was answered no |
-/// | 14 | the request lent with a response is bad |
-/// | 15 | a pile is not 1 to 16 whole records, or its answers are not two bytes a record, each 0 or 1 |
-/// | 16 | a record of a pile has a length above 2,000, or a byte that must be zero is not |
-/// | 17 | a record of a pile is not linked to the one before it, or the first rand is not zero |
-/// | 18 | no two records of a pile contradict each other; of the cutter, there is no run |
-/// | 19 | the buffer to be written into is too short |
-/// | 20 | the leaves are not 1 to 64 whole ones, or the place is past the last |
-/// | 21 | a list of servers is not whole records |
-/// | 22 | no list has the server |
-///
-/// Where several apply, the first of them is given; a response's messages are judged one after the other, the outermost first,
-/// then SREP, CERT and DELE, each by 4 to 7, and 8 comes after them all. Before 1 to 13 comes 14, before 14 comes 16 and before all comes
-/// 15; 19 comes before 18, and 20 before 19.
-#[derive(Clone, Copy, Debug, PartialEq, Eq)]
-pub struct Refusal(u32);
+/// A response's messages are judged one after the other, the outermost first, then SREP, CERT and
+/// DELE, each by codes 4 to 7, and 8 comes after them all.
+#[derive(Clone, Copy, Debug, PartialEq, Eq, Hash)]
+#[must_use]
+// Between the two marks stands what tools/codes makes of the library's own table.
+// codes: begin
+pub enum Refusal {
+    /// the packet has under 12 or over 2,000 bytes
+    PacketSize,
+    /// the packet does not begin with ROUGHTIM
+    Mark,
+    /// the packet's length field differs from the rest
+    PacketLength,
+    /// a message's length, number of tags, header or offset is wrong
+    Frame,
+    /// the tags of a message do not rise
+    TagOrder,
+    /// a needed tag is absent
+    TagAbsent,
+    /// a value's length is wrong, or a version list does not rise
+    Value,
+    /// TYPE or the version is wrong
+    TypeOrVersion,
+    /// NONC is not the request's
+    Nonce,
+    /// INDX is too large, or the path does not lead to ROOT
+    Path,
+    /// MIDP is outside MINT to MAXT
+    Time,
+    /// the delegation's signature does not verify
+    Delegation,
+    /// the response's signature does not verify
+    Signature,
+    /// the request that the response answers is bad
+    Request,
+    /// the pile is not 1 to 16 whole records, or its answers are not two bytes a record, each 1 or
+    /// 0
+    Pile,
+    /// a record's lengths are above 2,000, or a byte that must be zero is not
+    Record,
+    /// the first rand is not zero, or a record is not linked to the one before it
+    Link,
+    /// no two records contradict each other, or no run of records convicts
+    NoContradiction,
+    /// the buffer is too short
+    Room,
+    /// the leaves are not 1 to 64 whole ones, or the place is past the last
+    Leaves,
+    /// a list of servers is not whole records
+    Lists,
+    /// no list has the server
+    UnknownServer,
+}
 
 impl Refusal {
-    /// The number of this refusal, which is never 0.
-    pub fn code(self) -> u32 {
-        self.0
-    }
-
-    /// Nothing where the library answered 0, which is how it says that a call passed, or else the refusal.
-    pub(crate) fn check(code: u32) -> Result<(), Refusal> {
-        if code == 0 {
-            Ok(())
-        } else {
-            Err(Refusal(code))
+    /// Its number, which is the same in every language and never 0.
+    #[must_use]
+    pub const fn code(self) -> u32 {
+        match self {
+            Refusal::PacketSize => 1,
+            Refusal::Mark => 2,
+            Refusal::PacketLength => 3,
+            Refusal::Frame => 4,
+            Refusal::TagOrder => 5,
+            Refusal::TagAbsent => 6,
+            Refusal::Value => 7,
+            Refusal::TypeOrVersion => 8,
+            Refusal::Nonce => 9,
+            Refusal::Path => 10,
+            Refusal::Time => 11,
+            Refusal::Delegation => 12,
+            Refusal::Signature => 13,
+            Refusal::Request => 14,
+            Refusal::Pile => 15,
+            Refusal::Record => 16,
+            Refusal::Link => 17,
+            Refusal::NoContradiction => 18,
+            Refusal::Room => 19,
+            Refusal::Leaves => 20,
+            Refusal::Lists => 21,
+            Refusal::UnknownServer => 22,
         }
     }
 
-    /// The same, where the library answers in 64 bits. A code is small, so nothing is lost.
-    pub(crate) fn check_wide(code: u64) -> Result<(), Refusal> {
-        Refusal::check(code as u32)
+    /// What is wrong, in words.
+    #[must_use]
+    pub const fn words(self) -> &'static str {
+        match self {
+            Refusal::PacketSize => "the packet has under 12 or over 2,000 bytes",
+            Refusal::Mark => "the packet does not begin with ROUGHTIM",
+            Refusal::PacketLength => "the packet's length field differs from the rest",
+            Refusal::Frame => "a message's length, number of tags, header or offset is wrong",
+            Refusal::TagOrder => "the tags of a message do not rise",
+            Refusal::TagAbsent => "a needed tag is absent",
+            Refusal::Value => "a value's length is wrong, or a version list does not rise",
+            Refusal::TypeOrVersion => "TYPE or the version is wrong",
+            Refusal::Nonce => "NONC is not the request's",
+            Refusal::Path => "INDX is too large, or the path does not lead to ROOT",
+            Refusal::Time => "MIDP is outside MINT to MAXT",
+            Refusal::Delegation => "the delegation's signature does not verify",
+            Refusal::Signature => "the response's signature does not verify",
+            Refusal::Request => "the request that the response answers is bad",
+            Refusal::Pile => {
+                "the pile is not 1 to 16 whole records, or its answers are not two bytes a record, \
+                 each 1 or 0"
+            }
+            Refusal::Record => {
+                "a record's lengths are above 2,000, or a byte that must be zero is not"
+            }
+            Refusal::Link => {
+                "the first rand is not zero, or a record is not linked to the one before it"
+            }
+            Refusal::NoContradiction => {
+                "no two records contradict each other, or no run of records convicts"
+            }
+            Refusal::Room => "the buffer is too short",
+            Refusal::Leaves => {
+                "the leaves are not 1 to 64 whole ones, or the place is past the last"
+            }
+            Refusal::Lists => "a list of servers is not whole records",
+            Refusal::UnknownServer => "no list has the server",
+        }
+    }
+
+    /// The refusal with this number, if there is one.
+    #[must_use]
+    pub const fn from_code(code: u32) -> Option<Refusal> {
+        Some(match code {
+            1 => Refusal::PacketSize,
+            2 => Refusal::Mark,
+            3 => Refusal::PacketLength,
+            4 => Refusal::Frame,
+            5 => Refusal::TagOrder,
+            6 => Refusal::TagAbsent,
+            7 => Refusal::Value,
+            8 => Refusal::TypeOrVersion,
+            9 => Refusal::Nonce,
+            10 => Refusal::Path,
+            11 => Refusal::Time,
+            12 => Refusal::Delegation,
+            13 => Refusal::Signature,
+            14 => Refusal::Request,
+            15 => Refusal::Pile,
+            16 => Refusal::Record,
+            17 => Refusal::Link,
+            18 => Refusal::NoContradiction,
+            19 => Refusal::Room,
+            20 => Refusal::Leaves,
+            21 => Refusal::Lists,
+            22 => Refusal::UnknownServer,
+            _ => return None,
+        })
+    }
+}
+// codes: end
+
+impl Refusal {
+    /// Nothing where the library answered 0, which is how it says that a call passed, or else the
+    /// refusal.
+    ///
+    /// # Panics
+    ///
+    /// The library answers with no other number than those of its table. One that is not there
+    /// means that an archive of another version was linked, whose answers mean nothing here.
+    pub(crate) fn check(code: u32) -> Result<(), Refusal> {
+        if code == 0 {
+            return Ok(());
+        }
+        match Refusal::from_code(code) {
+            Some(refusal) => Err(refusal),
+            None => panic!("libcapi.a answered with {code}, which is no code of this version"),
+        }
     }
 }
 
 impl fmt::Display for Refusal {
     fn fmt(&self, f: &mut fmt::Formatter) -> fmt::Result {
-        write!(f, "refused with code {}", self.0)
+        f.write_str(self.words())
     }
 }
 
 impl std::error::Error for Refusal {}
+
+#[cfg(test)]
+mod tests {
+    use super::Refusal;
+
+    #[test]
+    fn each_number_stands_for_one_refusal() {
+        let all: Vec<Refusal> = (0..=1_000).filter_map(Refusal::from_code).collect();
+        assert!(!all.is_empty());
+        for (place, refusal) in all.iter().enumerate() {
+            assert_eq!(refusal.code(), place as u32 + 1);
+            assert_eq!(refusal.to_string(), refusal.words());
+            assert_eq!(Refusal::check(refusal.code()), Err(*refusal));
+        }
+        assert_eq!(Refusal::check(0), Ok(()));
+        assert_eq!(Refusal::from_code(u32::MAX), None);
+    }
+}

@@ -1,9 +1,9 @@
-//! Lists of servers: records of 64 bytes, a long-term key and then its SRV value, with nothing around them.
+//! Lists of servers: records of a long-term key and then its SRV value, with nothing around them.
 
 use crate::{raw, Hash, Refusal};
 
-/// Bytes of a record.
-const RECORD: usize = 64;
+/// Bytes of a record of a list of servers.
+pub const SERVER_LENGTH: usize = 64;
 
 /// The list that a server was found in.
 #[derive(Clone, Copy, Debug, PartialEq, Eq)]
@@ -25,13 +25,20 @@ pub struct Found<'a> {
     pub record: &'a [u8],
 }
 
-/// The first record with the SRV value `srv`, in the owner's list or else in the shipped one. The refusals are 21 and then 22.
-pub fn find_server<'a>(owner: &'a [u8], shipped: &'a [u8], srv: &Hash) -> Result<Found<'a>, Refusal> {
+/// The first record with the SRV value `srv`, in the owner's list or else in the shipped one. The
+/// refusals are 21 and then 22.
+pub fn find_server<'a>(
+    owner: &'a [u8],
+    shipped: &'a [u8],
+    srv: &Hash,
+) -> Result<Found<'a>, Refusal> {
+    let (first, second) = (owner.as_ptr(), shipped.as_ptr());
     // SAFETY: see raw.
-    let found = unsafe { raw::tb_find_server(owner.as_ptr(), owner.len(), shipped.as_ptr(), shipped.len(), srv) };
-    Refusal::check_wide(found.code)?;
-    let (list, bytes) = if found.list == 0 { (List::Owner, owner) } else { (List::Shipped, shipped) };
+    let found = unsafe { raw::tb_find_server(first, owner.len(), second, shipped.len(), srv) };
+    Refusal::check(found.code)?;
+    let (list, bytes) =
+        if found.list == 0 { (List::Owner, owner) } else { (List::Shipped, shipped) };
     // It is the offset of a part of a slice, so nothing is lost.
     let offset = found.offset as usize;
-    Ok(Found { list, offset, record: &bytes[offset..offset + RECORD] })
+    Ok(Found { list, offset, record: &bytes[offset..offset + SERVER_LENGTH] })
 }

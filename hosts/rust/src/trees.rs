@@ -1,6 +1,9 @@
-//! The Merkle tree of a batch of requests: its root and its rows, the path of a leaf, and the check of a path.
+//! The Merkle tree of a batch of requests: its root and its rows, the path of a leaf, and the check
+//! of a path.
 //!
 //! Leaves, siblings and rows are bytes here, one hash of 32 bytes after the other.
+
+// A depth is at most 6, so nothing is lost where it becomes a usize.
 
 use crate::{raw, Hash, Refusal};
 
@@ -28,8 +31,9 @@ pub struct Placed {
     pub depth: usize,
 }
 
-/// Whether the siblings at `path` lead from `leaf` to `root`, and `indx` needs no more bits than there are siblings.
-/// Bytes that are not 0 to 32 whole siblings lead nowhere.
+/// Whether the siblings at `path` lead from `leaf` to `root`, and `indx` needs no more bits than
+/// there are siblings. Bytes that are not 0 to 32 whole siblings lead nowhere.
+#[must_use]
 pub fn leads(leaf: &Hash, indx: u32, path: &[u8], root: &Hash) -> bool {
     // SAFETY: see raw.
     unsafe { raw::tb_leads(leaf, indx, path.as_ptr(), path.len(), root) }
@@ -39,35 +43,46 @@ pub fn leads(leaf: &Hash, indx: u32, path: &[u8], root: &Hash) -> bool {
 pub fn root(leaves: &[u8]) -> Result<Rooted, Refusal> {
     // SAFETY: see raw.
     let rooted = unsafe { raw::tb_root(leaves.as_ptr(), leaves.len()) };
-    Refusal::check_wide(rooted.code)?;
+    Refusal::check(rooted.code)?;
     Ok(Rooted { depth: rooted.depth as usize, root: rooted.root })
 }
 
-/// Writes the siblings of the leaf at `place`, counted from 0 at the left, at the front of `out`, that beside the leaf first.
-/// What follows them stays. The refusals are 20 and then 19, and then all of `out` stays.
+/// Writes the siblings of the leaf at `place`, counted from 0 at the left, at the front of `out`,
+/// that beside the leaf first. What follows them stays. The refusals are 20 and then 19, and then
+/// all of `out` stays.
 pub fn path(leaves: &[u8], place: usize, out: &mut [u8]) -> Result<Placed, Refusal> {
+    let (from, to) = (leaves.as_ptr(), out.as_mut_ptr());
     // SAFETY: see raw.
-    placed(unsafe { raw::tb_path(leaves.as_ptr(), leaves.len(), place, out.as_mut_ptr(), out.len()) })
+    placed(unsafe { raw::tb_path(from, leaves.len(), place, to, out.len()) })
 }
 
-/// Writes all rows of the tree of `leaves` at the front of `out` and tells its depth: the leaves first, with every empty place
-/// filled, and the root last. What follows them stays. The refusals are 20 and then 19, and then all of `out` stays.
+/// Writes all rows of the tree of `leaves` at the front of `out` and tells its depth: the leaves
+/// first, with every empty place filled, and the root last. What follows them stays. The refusals
+/// are 20 and then 19, and then all of `out` stays.
 pub fn rows(leaves: &[u8], out: &mut [u8]) -> Result<usize, Refusal> {
+    let (from, to) = (leaves.as_ptr(), out.as_mut_ptr());
     // SAFETY: see raw.
-    let laid = unsafe { raw::tb_rows(leaves.as_ptr(), leaves.len(), out.as_mut_ptr(), out.len()) };
-    Refusal::check_wide(laid.code)?;
+    let laid = unsafe { raw::tb_rows(from, leaves.len(), to, out.len()) };
+    Refusal::check(laid.code)?;
     Ok(laid.depth as usize)
 }
 
-/// What [`path`] does, without a hash: the siblings are read out of the rows that [`rows`] wrote for `count` leaves. Other rows are
-/// taken as they are. The refusals are 20, also where the rows are too short for that many leaves, and then 19.
-pub fn path_from(rows: &[u8], count: usize, place: usize, out: &mut [u8]) -> Result<Placed, Refusal> {
+/// What [`path`] does, without a hash: the siblings are read out of the rows that [`rows`] wrote
+/// for `count` leaves. Other rows are taken as they are. The refusals are 20, also where the rows
+/// are too short for that many leaves, and then 19.
+pub fn path_from(
+    rows: &[u8],
+    count: usize,
+    place: usize,
+    out: &mut [u8],
+) -> Result<Placed, Refusal> {
+    let (from, to) = (rows.as_ptr(), out.as_mut_ptr());
     // SAFETY: see raw.
-    placed(unsafe { raw::tb_path_from(rows.as_ptr(), rows.len(), count, place, out.as_mut_ptr(), out.len()) })
+    placed(unsafe { raw::tb_path_from(from, rows.len(), count, place, to, out.len()) })
 }
 
-/// The place, or why there is none. INDX is below 64 and the depth at most 6, so nothing is lost here.
-fn placed(placed: raw::Placed) -> Result<Placed, Refusal> {
-    Refusal::check_wide(placed.code)?;
-    Ok(Placed { indx: placed.indx as u32, depth: placed.depth as usize })
+/// The place, or why there is none.
+fn placed(placed: raw::tb_placed) -> Result<Placed, Refusal> {
+    Refusal::check(placed.code)?;
+    Ok(Placed { indx: placed.indx, depth: placed.depth as usize })
 }

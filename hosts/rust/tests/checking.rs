@@ -1,8 +1,8 @@
-//! Responses checked against requests by the proved library and by the independent implementation: every code and every window
-//! must be the same.
+//! Responses checked against requests by the proved library and by the independent implementation:
+//! every code and every window must be the same.
 //!
-//! Where the rules that a pair breaks are known, so is the code that is due, and then both sides are held to it as well; where it
-//! breaks none, they are held to the window that its fields make.
+//! Where the rules that a pair breaks are known, so is the code that is due, and then both sides
+//! are held to it as well; where it breaks none, they are held to the window that its fields make.
 
 mod support;
 
@@ -61,7 +61,8 @@ impl Comparison {
         self.cut[1] += usize::from(midp + radi > u64::MAX.into());
     }
 
-    /// Asks about a pair with the signatures answered in all four ways. The pair breaks the rule `due`, or none.
+    /// Asks about a pair with the signatures answered in all four ways. The pair breaks the rule
+    /// `due`, or none.
     fn four_ways(&mut self, pair: &Pair, due: u32) {
         for (delegation, signature) in ANSWERS {
             let answered = Pair { delegation, signature, ..pair.clone() };
@@ -103,7 +104,8 @@ fn every_depth(seen: &mut Comparison) {
     }
 }
 
-/// A number that needs more bits than the path has siblings, each bit in turn, though by its lower bits it leads to the root.
+/// A number that needs more bits than the path has siblings, each bit in turn, though by its lower
+/// bits it leads to the root.
 fn long_numbers(seen: &mut Comparison) {
     for depth in 0..DEEPEST {
         let right = Pair::random(&mut seen.random, depth);
@@ -119,9 +121,10 @@ fn long_numbers(seen: &mut Comparison) {
 fn ends(seen: &mut Comparison) {
     let radius = u64::from(u32::MAX);
     let last = u64::MAX;
-    let midps = [0, 1, 4, 5, 6, radius - 1, radius, radius + 1, 1 << 63, last - radius - 1, last - radius]
-        .into_iter()
-        .chain([last - radius + 1, last - 6, last - 5, last - 4, last - 1, last]);
+    let midps =
+        [0, 1, 4, 5, 6, radius - 1, radius, radius + 1, 1 << 63, last - radius - 1, last - radius]
+            .into_iter()
+            .chain([last - radius + 1, last - 6, last - 5, last - 4, last - 1, last]);
     for midp in midps {
         for radi in [0, 1, 5, 1 << 31, u32::MAX - 1, u32::MAX] {
             let mut pair = seen.any_pair();
@@ -139,7 +142,8 @@ fn ends(seen: &mut Comparison) {
     }
 }
 
-/// What a check has no rule for: the signatures' bytes, the delegated key, the server's versions and the radius.
+/// What a check has no rule for: the signatures' bytes, the delegated key, the server's versions
+/// and the radius.
 fn free_fields(seen: &mut Comparison) {
     for _ in 0..1_500 {
         let mut pair = seen.any_pair();
@@ -174,7 +178,8 @@ fn several_rules(seen: &mut Comparison) {
     }
 }
 
-/// Good requests that are not the one that was answered: every part of the packet is part of the leaf.
+/// Good requests that are not the one that was answered: every part of the packet is part of the
+/// leaf.
 fn changed_requests(seen: &mut Comparison) {
     for _ in 0..2_000 {
         let pair = seen.any_pair();
@@ -190,7 +195,8 @@ fn changed_requests(seen: &mut Comparison) {
     }
 }
 
-/// Responses to other requests, requests in the place of responses, and bytes that nobody meant anything by.
+/// Responses to other requests, requests in the place of responses, and bytes that nobody meant
+/// anything by.
 fn crossed(seen: &mut Comparison) {
     for _ in 0..1_000 {
         let (one, other) = (seen.any_pair().question(), seen.any_pair().question());
@@ -199,7 +205,10 @@ fn crossed(seen: &mut Comparison) {
         seen.ask(&Question { response: other.response.clone(), ..one.clone() }, Some(9));
         seen.ask(&Question { response: one.request.clone(), ..one.clone() }, Some(6));
         seen.ask(&Question { request: one.response.clone(), ..one.clone() }, Some(14));
-        seen.ask(&Question { request: one.response.clone(), response: one.request.clone(), ..one }, Some(14));
+        seen.ask(
+            &Question { request: one.response.clone(), response: one.request.clone(), ..one },
+            Some(14),
+        );
         seen.ask(&Question { response: noise.clone(), ..other.clone() }, None);
         seen.ask(&Question { request: noise, ..other }, None);
     }
@@ -222,12 +231,14 @@ fn flipped_bits(seen: &mut Comparison) {
     }
 }
 
-/// Either packet cut short at every length, with the length field that it had and with the right one.
+/// Either packet cut short at every length, with the length field that it had and with the right
+/// one.
 fn cut_short(seen: &mut Comparison) {
     for depth in [0, 3] {
         let whole = Pair::random(&mut seen.random, depth).question();
         for length in 0..whole.response.len() {
-            let mut short = Question { response: whole.response[..length].to_vec(), ..whole.clone() };
+            let mut short =
+                Question { response: whole.response[..length].to_vec(), ..whole.clone() };
             seen.ask(&short, Some(if length < packet::HEADER { 1 } else { 3 }));
             if length >= packet::HEADER {
                 set_word(&mut short.response, 2, (length - packet::HEADER) as u32);
@@ -235,12 +246,16 @@ fn cut_short(seen: &mut Comparison) {
             }
         }
         for length in 0..whole.request.len() {
-            seen.ask(&Question { request: whole.request[..length].to_vec(), ..whole.clone() }, Some(14));
+            seen.ask(
+                &Question { request: whole.request[..length].to_vec(), ..whole.clone() },
+                Some(14),
+            );
         }
     }
 }
 
-/// Values of each field of the response that are wrong by themselves: the first of them, or a later rule, counts.
+/// Values of each field of the response that are wrong by themselves: the first of them, or a later
+/// rule, counts.
 fn each_field(seen: &mut Comparison) {
     for _ in 0..40 {
         let mut pair = seen.any_pair();
@@ -254,7 +269,9 @@ fn each_field(seen: &mut Comparison) {
                 question.response = without.packet();
                 seen.ask(&question, Some(6));
                 for _ in 0..4 {
-                    let Some((value, code)) = damage::wrong_value(&mut seen.random, plan.kind, *level, *tag) else {
+                    let Some((value, code)) =
+                        damage::wrong_value(&mut seen.random, plan.kind, *level, *tag)
+                    else {
                         continue;
                     };
                     let mut wrong = plan.clone();
@@ -276,7 +293,8 @@ fn unaligned(seen: &mut Comparison) {
             let Question { request, response, .. } = pair.question();
             let (front, front_too) = (vec![0; start], vec![0; 15 - start]);
             let (request, response) = ([front, request].concat(), [front_too, response].concat());
-            let told = trawlbeacon::check_response(&request[start..], &response[15 - start..], true, true);
+            let told =
+                trawlbeacon::check_response(&request[start..], &response[15 - start..], true, true);
             assert_eq!(told, Ok(pair.window()), "start {start}, request {}", hex(&request));
             seen.tally.count(CHECKS, 0);
         }
@@ -309,9 +327,14 @@ fn both_sides_check_alike() {
         println!("{:>8} pairs: {name}", seen.tally.answers() - before);
     }
     let pairs = seen.tally.answers();
-    println!("{pairs} pairs in all, ours compared with independent; how often each code was given:");
+    println!(
+        "{pairs} pairs in all, ours compared with independent; how often each code was given:"
+    );
     println!("{}", seen.tally.table("code"));
-    println!("valid pairs of known fields: {}, with a path of every depth from 0 to 32;", seen.depths.answers());
+    println!(
+        "valid pairs of known fields: {}, with a path of every depth from 0 to 32;",
+        seen.depths.answers()
+    );
     let [low, high] = seen.cut;
     println!("{low} of their windows were cut at 0, and {high} at 2^64 - 1");
     seen.tally.no_difference();
@@ -328,9 +351,12 @@ fn windows_are_what_their_numbers_say() {
     let mut pair = Pair::random(&mut random, 0);
     (pair.response.mint, pair.response.maxt) = (0, u64::MAX);
     for _ in 0..2_000 {
-        (pair.response.midp, pair.response.radi) = (number(&mut random), number(&mut random) as u32);
+        (pair.response.midp, pair.response.radi) =
+            (number(&mut random), number(&mut random) as u32);
         let both = pair.question().ask();
         assert_eq!((both.ours, both.independent), (Ok(pair.window()), Ok(pair.window())));
     }
-    println!("windows: 2000 midpoints and radii, both sides compared with the sum and the difference");
+    println!(
+        "windows: 2000 midpoints and radii, both sides compared with the sum and the difference"
+    );
 }

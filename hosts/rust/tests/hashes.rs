@@ -1,13 +1,16 @@
-//! The hashes that Roughtime makes of SHA-512: the proved library and the independent implementation must agree on each.
+//! The hashes that Roughtime makes of SHA-512: the proved library and the independent
+//! implementation must agree on each.
 
 mod support;
 
 use independent::hash;
 use support::Xorshift;
 
-/// Lengths around every place of the padding within three blocks, then those of real packets, and some far beyond any packet.
+/// Lengths around every place of the padding within three blocks, then those of real packets, and
+/// some far beyond any packet.
 fn lengths() -> impl Iterator<Item = usize> {
-    (0..=400).chain([600, 1023, 1024, 1035, 1036, 1037, 1280, 1500, 2000, 2001, 2032, 4096, 65_535, 65_536, 1 << 20])
+    let longer = [600, 1023, 1024, 1035, 1036, 1037, 1280, 1500, 2000, 2001, 2032, 4096, 65_535];
+    (0..=400).chain(longer).chain([65_536, 1 << 20])
 }
 
 #[test]
@@ -28,7 +31,11 @@ fn links() {
     let mut compared = 0;
     for length in lengths() {
         let (response, rand) = (random.bytes(length), random.array());
-        assert_eq!(trawlbeacon::link(&response, &rand), hash::link(&response, &rand), "{length} bytes");
+        assert_eq!(
+            trawlbeacon::link(&response, &rand),
+            hash::link(&response, &rand),
+            "{length} bytes"
+        );
         compared += 1;
     }
     println!("links: {compared} responses, ours compared with independent");
@@ -41,7 +48,11 @@ fn parents() {
         let (left, right) = (random.array(), random.array());
         assert_eq!(trawlbeacon::parent(&left, &right), hash::parent(&left, &right), "pair {i}");
         // The inputs are only read, so both may be one array.
-        assert_eq!(trawlbeacon::parent(&left, &left), hash::parent(&left, &left), "pair {i}, left twice");
+        assert_eq!(
+            trawlbeacon::parent(&left, &left),
+            hash::parent(&left, &left),
+            "pair {i}, left twice"
+        );
     }
     println!("parents: 10000 pairs, ours compared with independent");
 }

@@ -1,5 +1,6 @@
-//! SHA-512 over generated messages of every length up to 600 bytes, which passes each place of the padding several times, and of
-//! some longer ones: the proved library, the independent implementation and the system's sha512sum must agree.
+//! SHA-512 over generated messages of every length up to 600 bytes, which passes each place of the
+//! padding several times, and of some longer ones: the proved library, the independent
+//! implementation and the system's sha512sum must agree.
 
 mod support;
 
@@ -9,7 +10,8 @@ use std::path::{Path, PathBuf};
 use std::process::Command;
 use support::Xorshift;
 
-/// Lengths of packets (1,036 is a request of 1,024 bytes behind its header of 12), and lengths far beyond any packet's.
+/// Lengths of packets (1,036 is a request of 1,024 bytes behind its header of 12), and lengths far
+/// beyond any packet's.
 const LONGER: [usize; 5] = [1036, 2001, 2032, 65_536, 1 << 20];
 
 fn messages() -> Vec<Vec<u8>> {
@@ -22,7 +24,8 @@ struct Folder(PathBuf);
 
 impl Folder {
     fn new() -> Self {
-        let path = Path::new(env!("CARGO_TARGET_TMPDIR")).join(format!("sha512sum-{}", std::process::id()));
+        let path = Path::new(env!("CARGO_TARGET_TMPDIR"))
+            .join(format!("sha512sum-{}", std::process::id()));
         fs::create_dir_all(&path).expect("a temporary folder can be made");
         Folder(path)
     }
@@ -30,12 +33,14 @@ impl Folder {
 
 impl Drop for Folder {
     fn drop(&mut self) {
-        // What is left behind in a build folder harms nobody, and a panic here would hide the test's own.
+        // What is left behind in a build folder harms nobody, and a panic here would hide the
+        // test's own.
         let _ = fs::remove_dir_all(&self.0);
     }
 }
 
-/// The system's digests of all messages, from one run of sha512sum, or nothing where the command is not there.
+/// The system's digests of all messages, from one run of sha512sum, or nothing where the command is
+/// not there.
 fn system_digests(messages: &[Vec<u8>]) -> Option<Vec<Vec<u8>>> {
     let folder = Folder::new();
     let names: Vec<String> = (0..messages.len()).map(|i| format!("message-{i}")).collect();
@@ -49,7 +54,8 @@ fn system_digests(messages: &[Vec<u8>]) -> Option<Vec<Vec<u8>>> {
     assert!(ran.status.success(), "sha512sum failed: {}", String::from_utf8_lossy(&ran.stderr));
     let said = String::from_utf8(ran.stdout).expect("sha512sum writes text");
     let digest = |line: &str| support::unhex(line.split(' ').next()?);
-    let digests: Vec<_> = said.lines().map(|line| digest(line).expect("a digest starts the line")).collect();
+    let digests: Vec<_> =
+        said.lines().map(|line| digest(line).expect("a digest starts the line")).collect();
     assert_eq!(digests.len(), messages.len(), "sha512sum gave another number of digests");
     Some(digests)
 }
@@ -59,18 +65,30 @@ fn all_agree_at_every_length() {
     let messages = messages();
     for message in &messages {
         let ours = trawlbeacon::sha512(message);
-        assert_eq!(ours, independent::sha512::sha512(message), "{} bytes: ours, independent", message.len());
+        assert_eq!(
+            ours,
+            independent::sha512::sha512(message),
+            "{} bytes: ours, independent",
+            message.len()
+        );
     }
     let count = messages.len();
     println!("lengths 0 to 600 and {LONGER:?}: {count} messages, ours compared with independent");
     match system_digests(&messages) {
         Some(digests) => {
             for (message, digest) in messages.iter().zip(&digests) {
-                assert_eq!(trawlbeacon::sha512(message)[..], digest[..], "{} bytes: ours, sha512sum", message.len());
+                assert_eq!(
+                    trawlbeacon::sha512(message)[..],
+                    digest[..],
+                    "{} bytes: ours, sha512sum",
+                    message.len()
+                );
             }
             println!("the same {count} messages, ours compared with the system's sha512sum");
         }
-        None => println!("NOT COMPARED with the system's sha512sum: this machine has no such command"),
+        None => {
+            println!("NOT COMPARED with the system's sha512sum: this machine has no such command")
+        }
     }
 }
 

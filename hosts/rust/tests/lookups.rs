@@ -1,5 +1,5 @@
-//! Servers looked up in two lists by the proved library and by the independent implementation: the list, the place and every byte
-//! of the record must be the same.
+//! Servers looked up in two lists by the proved library and by the independent implementation: the
+//! list, the place and every byte of the record must be the same.
 
 mod support;
 
@@ -81,18 +81,24 @@ impl Lookup {
     /// What is wrong with the fields that hosts/rust does not show, or not whole.
     fn unseen_fields(&self, due: &Result<Found, u32>) -> Option<String> {
         let Lookup { owner, shipped, srv } = self;
-        let ((start, n), (start_too, m)) = ((owner.as_ptr(), owner.len()), (shipped.as_ptr(), shipped.len()));
+        let ((start, n), (start_too, m)) =
+            ((owner.as_ptr(), owner.len()), (shipped.as_ptr(), shipped.len()));
         // SAFETY: the library only reads both lists and the SRV value.
         let found = unsafe { raw::tb_find_server(start, n, start_too, m, srv) };
         let due = match due {
-            Ok(due) => raw::Found { code: 0, list: due.list.into(), offset: due.offset as u64 },
-            Err(code) => raw::Found { code: (*code).into(), list: 0, offset: 0 },
+            Ok(due) => raw::tb_found { code: 0, list: due.list, offset: due.offset as u64 },
+            Err(code) => raw::tb_found { code: *code, list: 0, offset: 0 },
         };
         (found != due).then(|| format!("tb_find_server answered {found:?}"))
     }
 
     fn show(&self) -> String {
-        format!("SRV {}\n  owner's {}\n  shipped {}", hex(&self.srv), hex(&self.owner), hex(&self.shipped))
+        format!(
+            "SRV {}\n  owner's {}\n  shipped {}",
+            hex(&self.srv),
+            hex(&self.owner),
+            hex(&self.shipped)
+        )
     }
 }
 
@@ -105,9 +111,11 @@ struct Comparison {
 impl Comparison {
     fn ask(&mut self, lookup: &Lookup) {
         let (both, due) = (lookup.ask(), lookup.due());
-        self.tally.answer(LOOKUPS, &both, Some(*due.as_ref().err().unwrap_or(&0)), || lookup.show());
+        self.tally
+            .answer(LOOKUPS, &both, Some(*due.as_ref().err().unwrap_or(&0)), || lookup.show());
         if both.ours != due {
-            self.tally.differs(format!("the record is not the one that is due, for {}", lookup.show()));
+            self.tally
+                .differs(format!("the record is not the one that is due, for {}", lookup.show()));
         }
         if let Some(wrong) = lookup.unseen_fields(&due) {
             self.tally.differs(format!("{wrong}\n  for {}", lookup.show()));
@@ -128,7 +136,8 @@ impl Comparison {
     }
 }
 
-/// Lists of any lengths, with so few SRV values that many stand several times, in one list or in both.
+/// Lists of any lengths, with so few SRV values that many stand several times, in one list or in
+/// both.
 fn duplicates(seen: &mut Comparison) {
     for _ in 0..6_000 {
         let count = 1 + seen.random.below(12);
@@ -155,13 +164,16 @@ fn every_place(seen: &mut Comparison) {
     }
 }
 
-/// SRV values that stand in no record, or only where none stands: at a key, across a record, or off by one bit.
+/// SRV values that stand in no record, or only where none stands: at a key, across a record, or off
+/// by one bit.
 fn no_match(seen: &mut Comparison) {
     for round in 0..300 {
         let srvs = seen.srvs(5);
         let (few, many) = (round % 5, 1 + round % 7);
         let (owner, shipped) = (seen.list(few, &srvs), seen.list(many, &srvs));
-        let mut ask = |srv: [u8; 32]| seen.ask(&Lookup { owner: owner.clone(), shipped: shipped.clone(), srv });
+        let mut ask = |srv: [u8; 32]| {
+            seen.ask(&Lookup { owner: owner.clone(), shipped: shipped.clone(), srv })
+        };
         ask([0; 32]);
         ask([0xff; 32]);
         for start in (0..shipped.len() - 32).step_by(4) {
@@ -175,7 +187,8 @@ fn no_match(seen: &mut Comparison) {
     }
 }
 
-/// Lists of every length up to some records, and far longer ones, with a whole list beside them that has what is sought.
+/// Lists of every length up to some records, and far longer ones, with a whole list beside them
+/// that has what is sought.
 fn ragged(seen: &mut Comparison) {
     for length in (0..=330).chain([4095, 4096, 4097, 65_535, 65_536]) {
         let srvs = seen.srvs(2);
@@ -202,10 +215,15 @@ fn unaligned(seen: &mut Comparison) {
         let lookup = Lookup { owner, shipped, srv };
         let due = lookup.due();
         let Lookup { owner, shipped, .. } = lookup;
-        let (owner, shipped) = ([vec![0; start], owner].concat(), [vec![0; 15 - start], shipped].concat());
+        let (owner, shipped) =
+            ([vec![0; start], owner].concat(), [vec![0; 15 - start], shipped].concat());
         let found = trawlbeacon::find_server(&owner[start..], &shipped[15 - start..], &srv);
         let code = found.map_or_else(trawlbeacon::Refusal::code, |_| 0);
-        assert_eq!(found.ok().map(|found| found.record.to_vec()), due.ok().map(|due| due.record), "start {start}");
+        assert_eq!(
+            found.ok().map(|found| found.record.to_vec()),
+            due.ok().map(|due| due.record),
+            "start {start}"
+        );
         seen.tally.count(LOOKUPS, code);
     }
 }
@@ -218,8 +236,14 @@ fn both_sides_find_alike() {
         group(&mut seen);
     }
     seen.ask(&Lookup { owner: vec![], shipped: vec![], srv: [0; 32] });
-    println!("lookups, ours compared with independent; how often each code was given:\n{}", seen.tally.table("code"));
-    println!("servers found in the owner's list (0) and in the shipped one (1):\n{}", seen.lists.table("list"));
+    println!(
+        "lookups, ours compared with independent; how often each code was given:\n{}",
+        seen.tally.table("code")
+    );
+    println!(
+        "servers found in the owner's list (0) and in the shipped one (1):\n{}",
+        seen.lists.table("list")
+    );
     seen.tally.no_difference();
     seen.tally.at_least(1_000, LOOKUPS, [0, 21, 22]);
     seen.lists.at_least(1_000, LISTS, [0, 1]);

@@ -1,5 +1,5 @@
-//! The malfeasance report of draft 19, appendix B: packets that neither side made. Both must read all six, find each response valid,
-//! take them as a pile for a report, and say the same.
+//! The malfeasance report of draft 19, appendix B: packets that neither side made. Both must read
+//! all six, find each response valid, take them as a pile for a report, and say the same.
 
 mod support;
 
@@ -20,7 +20,12 @@ fn agreed<T: std::fmt::Debug>(both: answers::Both<Result<T, u32>>, what: &str) -
 where
     Result<T, u32>: answers::Answer,
 {
-    assert!(both.ours == both.independent, "{what}: ours {:?}, independent {:?}", both.ours, both.independent);
+    assert!(
+        both.ours == both.independent,
+        "{what}: ours {:?}, independent {:?}",
+        both.ours,
+        both.independent
+    );
     both.ours.unwrap_or_else(|code| panic!("{what}: refused with code {code}"))
 }
 
@@ -38,11 +43,19 @@ fn show(index: usize, entry: &Entry, request: &Request, response: &Response) {
 fn compare_texts(index: usize, entry: &Entry) {
     let shaped = response::shaped(&entry.response).expect("it was read before");
     let (dele, srep) = (shaped.dele.bytes, shaped.srep.bytes);
-    let mut out = [0; 2000];
+    let mut out = [0; trawlbeacon::LONGEST_TEXT];
     let length = trawlbeacon::delegation_text(&entry.response, &mut out).expect("there is room");
-    assert_eq!(out[..length], [b"RoughTime v1 delegation signature\0", dele].concat(), "entry {index}");
+    assert_eq!(
+        out[..length],
+        [b"RoughTime v1 delegation signature\0", dele].concat(),
+        "entry {index}"
+    );
     let length = trawlbeacon::response_text(&entry.response, &mut out).expect("there is room");
-    assert_eq!(out[..length], [b"RoughTime v1 response signature\0", srep].concat(), "entry {index}");
+    assert_eq!(
+        out[..length],
+        [b"RoughTime v1 response signature\0", srep].concat(),
+        "entry {index}"
+    );
 }
 
 #[test]
@@ -54,21 +67,37 @@ fn both_sides_read_all_six_packets() {
         let response = agreed(answers::read_response(&entry.response), "response");
         show(index, entry, &request, &response);
         compare_texts(index, entry);
-        assert_eq!(request.srv, Some(trawlbeacon::srv_value(&entry.key)), "entry {index}: SRV is the key's");
+        assert_eq!(
+            request.srv,
+            Some(trawlbeacon::srv_value(&entry.key)),
+            "entry {index}: SRV is the key's"
+        );
         assert_eq!(response.nonc, request.nonc, "entry {index}: the response answers the request");
         // With no siblings the leaf is the root.
-        assert_eq!(response.root, trawlbeacon::leaf(&entry.request), "entry {index}: ROOT is the request's leaf");
+        assert_eq!(
+            response.root,
+            trawlbeacon::leaf(&entry.request),
+            "entry {index}: ROOT is the request's leaf"
+        );
         // The draft's client writes the request that we write.
         let mut ours = [0; trawlbeacon::REQUEST_LENGTH];
         trawlbeacon::write_request(&entry.key, &request.nonc, &mut ours).expect("there is room");
         assert_eq!(ours[..], entry.request, "entry {index}: the request, written by us");
     }
-    println!("draft 19, appendix B: 3 requests and 3 responses, all fields of ours compared with independent");
+    println!(
+        "draft 19, appendix B: 3 requests and 3 responses, all fields of ours compared with \
+         independent"
+    );
 }
 
 /// What a check is asked about the request of one entry and the response of another.
 fn question(request: &Entry, response: &Entry, delegation: bool, signature: bool) -> Question {
-    Question { request: request.request.clone(), response: response.response.clone(), delegation, signature }
+    Question {
+        request: request.request.clone(),
+        response: response.response.clone(),
+        delegation,
+        signature,
+    }
 }
 
 /// The paths are empty, so that nothing here tells which of two hashes goes first.
@@ -78,18 +107,30 @@ fn both_sides_find_each_response_valid() {
     for (index, entry) in entries.iter().enumerate() {
         let window = agreed(question(entry, entry, true, true).ask(), "both signatures right");
         let (midp, radi) = WINDOWS[index];
-        assert_eq!(window, Window { midp, radi, low: midp - u64::from(radi), high: midp + u64::from(radi) });
+        assert_eq!(
+            window,
+            Window { midp, radi, low: midp - u64::from(radi), high: midp + u64::from(radi) }
+        );
         println!("entry {index}: valid, from {} to {}", window.low, window.high);
-        for (delegation, signature, due) in [(false, true, 12), (true, false, 13), (false, false, 12)] {
+        for (delegation, signature, due) in
+            [(false, true, 12), (true, false, 13), (false, false, 12)]
+        {
             let both = question(entry, entry, delegation, signature).ask();
             assert_eq!((both.ours, both.independent), (Err(due), Err(due)), "entry {index}");
         }
         for (other_index, other) in entries.iter().enumerate().filter(|other| other.0 != index) {
             let both = question(entry, other, true, true).ask();
-            assert_eq!((both.ours, both.independent), (Err(9), Err(9)), "request {index}, response {other_index}");
+            assert_eq!(
+                (both.ours, both.independent),
+                (Err(9), Err(9)),
+                "request {index}, response {other_index}"
+            );
         }
     }
-    println!("draft 19, appendix B: 3 responses, the windows that both sides tell compared with their MIDP and RADI");
+    println!(
+        "draft 19, appendix B: 3 responses, the windows that both sides tell compared with their \
+         MIDP and RADI"
+    );
 }
 
 #[test]
@@ -104,8 +145,8 @@ fn each_request_is_linked_to_the_response_before_it() {
     println!("draft 19, appendix B: 2 links, the nonces of the draft compared with ours");
 }
 
-/// The first server's time is a day ahead of the second's, and the second was asked later: they are the pair. The third agrees with
-/// the second.
+/// The first server's time is a day ahead of the second's, and the second was asked later: they are
+/// the pair. The third agrees with the second.
 #[test]
 fn both_sides_find_the_report_to_be_one() {
     let Made { pile, answers } = appendix::pile();
@@ -113,17 +154,25 @@ fn both_sides_find_the_report_to_be_one() {
     let report = asked.report();
     assert_eq!((report.ours, report.independent), (Reported(Ok((0, 1))), Reported(Ok((0, 1)))));
     let both = asked.cut(&[0xee; 3 * RECORD_LENGTH + 1]);
-    assert!(both.ours == both.independent, "ours: {}, independent: {}", both.ours.show(), both.independent.show());
+    assert!(
+        both.ours == both.independent,
+        "ours: {}, independent: {}",
+        both.ours.show(),
+        both.independent.show()
+    );
     assert_eq!(both.ours.answer, Ok(Run { first: 0, last: 1 }));
     // The first record of a chain has no rand, so that nothing had to be set to zero.
     let (run, rest) = both.ours.buffer.split_at(2 * RECORD_LENGTH);
     assert!(run == &pile[..2 * RECORD_LENGTH] && rest.iter().all(|byte| *byte == 0xee));
     let alone = Asked { pile: run, answers: &answers[..4] }.report();
     assert_eq!((alone.ours, alone.independent), (Reported(Ok((0, 1))), Reported(Ok((0, 1)))));
-    println!("draft 19, appendix B: a report for its entries 0 and 1, which are the run that is cut");
+    println!(
+        "draft 19, appendix B: a report for its entries 0 and 1, which are the run that is cut"
+    );
 }
 
-/// Without the first server's word nobody is convicted: each later refusal in turn, by the answers about one record.
+/// Without the first server's word nobody is convicted: each later refusal in turn, by the answers
+/// about one record.
 #[test]
 fn both_sides_find_no_run_without_the_first_entry() {
     let Made { pile, answers } = appendix::pile();

@@ -1,4 +1,5 @@
-//! Every message of NIST's files: the proved library and the independent implementation must both give NIST's digest.
+//! Every message of NIST's files: the proved library and the independent implementation must both
+//! give NIST's digest.
 
 mod support;
 
@@ -8,7 +9,11 @@ fn compare(file: &str, expected: usize) {
     assert_eq!(entries.len(), expected, "{file} has another number of entries than it should");
     for entry in &entries {
         let length = entry.message.len();
-        assert_eq!(trawlbeacon::sha512(&entry.message)[..], entry.digest, "{file}: ours, {length} bytes");
+        assert_eq!(
+            trawlbeacon::sha512(&entry.message)[..],
+            entry.digest,
+            "{file}: ours, {length} bytes"
+        );
         assert_eq!(
             independent::sha512::sha512(&entry.message)[..],
             entry.digest,
@@ -17,7 +22,8 @@ fn compare(file: &str, expected: usize) {
     }
     let longest = entries.iter().map(|entry| entry.message.len()).max().unwrap_or(0);
     println!(
-        "{file}: {expected} messages of up to {longest} bytes, ours and independent both compared with NIST's digests"
+        "{file}: {expected} messages of up to {longest} bytes, ours and independent both compared \
+         with NIST's digests"
     );
 }
 

@@ -1,7 +1,8 @@
-//! Piles judged, checked as reports and cut by the proved library and by the independent implementation: every code, window, place
-//! and byte must be the same.
+//! Piles judged, checked as reports and cut by the proved library and by the independent
+//! implementation: every code, window, place and byte must be the same.
 //!
-//! Most piles are made so that it is known what must be said of them, and then both sides are held to it as well.
+//! Most piles are made so that it is known what must be said of them, and then both sides are held
+//! to it as well.
 
 mod support;
 
@@ -60,23 +61,25 @@ impl Due {
         let untouched = |code| Written { answer: Err(code), buffer: before.to_vec() };
         match self {
             Due::Known(_) if before.len() < pile.len() => Some(untouched(19)),
-            Due::Known(truth) => {
-                Some(truth.run().map_or(untouched(18), |(first, last)| taken(pile, before, first, last)))
-            }
+            Due::Known(truth) => Some(
+                truth.run().map_or(untouched(18), |(first, last)| taken(pile, before, first, last)),
+            ),
             Due::Refused => Some(untouched(15)),
             Due::Unknown => None,
         }
     }
 }
 
-/// A run in a buffer, by the words of the document: its records, with the first one's rand set to zero, and what stood behind.
+/// A run in a buffer, by the words of the document: its records, with the first one's rand set to
+/// zero, and what stood behind.
 fn taken(pile: &[u8], before: &[u8], first: usize, last: usize) -> Written<Run> {
     let run = &pile[first * RECORD..(last + 1) * RECORD];
     let buffer = [&run[..32], &[0; 32], &run[64..], &before[run.len()..]].concat();
     Written { answer: Ok(Run { first, last }), buffer }
 }
 
-/// Bytes for a buffer to hold, of which no two neighbours are equal, nor any where two records have the same place.
+/// Bytes for a buffer to hold, of which no two neighbours are equal, nor any where two records have
+/// the same place.
 fn pattern(random: &mut Xorshift, length: usize) -> Vec<u8> {
     let start = random.below(256);
     (0..length).map(|at| (start + at + at / RECORD) as u8).collect()
@@ -91,7 +94,8 @@ struct Comparison {
     random: Xorshift,
     group: &'static str,
     piles: usize,
-    /// How often a record was not linked and was, and two windows did not contradict each other and did.
+    /// How often a record was not linked and was, and two windows did not contradict each other and
+    /// did.
     links: [usize; 2],
     contradictions: [usize; 2],
     /// Piles whose first rand was not zero, and was.
@@ -112,10 +116,17 @@ impl Comparison {
         }
     }
 
-    /// The inputs are the same in every run, so that the number of a pile is enough to find it again.
+    /// The inputs are the same in every run, so that the number of a pile is enough to find it
+    /// again.
     fn namer<'a>(&self, asked: Asked<'a>) -> impl Fn() -> String + 'a {
         let (group, number) = (self.group, self.piles);
-        move || format!("pile {number} ({group}), {} bytes, answers {}", asked.pile.len(), hex(asked.answers))
+        move || {
+            format!(
+                "pile {number} ({group}), {} bytes, answers {}",
+                asked.pile.len(),
+                hex(asked.answers)
+            )
+        }
     }
 
     /// Both sides must say the same, and what is due where that is known.
@@ -123,7 +134,12 @@ impl Comparison {
         let name = self.namer(asked);
         self.tally.answer(column, both, due.as_ref().map(Answer::code), &name);
         if let Some(due) = due.filter(|due| *due != both.ours && due.code() == both.ours.code()) {
-            self.tally.differs(format!("{column}: {}\n  ours {}\n  due  {}", name(), both.ours.show(), due.show()));
+            self.tally.differs(format!(
+                "{column}: {}\n  ours {}\n  due  {}",
+                name(),
+                both.ours.show(),
+                due.show()
+            ));
         }
     }
 
@@ -132,7 +148,9 @@ impl Comparison {
         let Both { ours, independent } = both;
         if ours != independent || due.map_or(false, |due| due != ours) {
             let name = self.namer(asked)();
-            self.tally.differs(format!("{what}: {name}: ours {ours}, independent {independent}, due {due:?}"));
+            self.tally.differs(format!(
+                "{what}: {name}: ours {ours}, independent {independent}, due {due:?}"
+            ));
         }
         ours
     }
@@ -182,7 +200,8 @@ impl Comparison {
     }
 
     fn ask_links(&mut self, asked: Asked, due: &Due) {
-        let whole = asked.pile.len() % RECORD == 0 && (1..=MOST_RECORDS).contains(&(asked.pile.len() / RECORD));
+        let whole = asked.pile.len() % RECORD == 0
+            && (1..=MOST_RECORDS).contains(&(asked.pile.len() / RECORD));
         for place in 0..=asked.pile.len() / RECORD + 1 {
             let due = match due {
                 Due::Known(truth) => Some(truth.linked.get(place).copied().unwrap_or(false)),
@@ -199,11 +218,13 @@ impl Comparison {
         self.first_rands[usize::from(told)] += 1;
     }
 
-    /// Cuts into a buffer that is too short, by one byte or by more, and into one that is as long as the pile or longer.
+    /// Cuts into a buffer that is too short, by one byte or by more, and into one that is as long
+    /// as the pile or longer.
     fn ask_cuts(&mut self, asked: Asked, due: &Due) {
         let length = asked.pile.len();
         let (any, more) = (self.random.below(length + 1), self.random.below(5_000));
-        let short = self.random.pick(&[length.saturating_sub(1), any.min(length.saturating_sub(1)), 0]);
+        let short =
+            self.random.pick(&[length.saturating_sub(1), any.min(length.saturating_sub(1)), 0]);
         let enough = length + self.random.pick(&[0, 1, more]);
         for room in [short, enough] {
             let before = pattern(&mut self.random, room);
@@ -213,6 +234,22 @@ impl Comparison {
                 self.runs.count(RUNS, (last + 1 - first) as u32);
                 self.ask_evidence(asked, &both.ours.buffer, first, last);
             }
+            if room >= length {
+                self.ask_own_cut(asked, &both.ours);
+            }
+        }
+    }
+
+    /// What is cut without a lent buffer is what stands in front in one that is long enough.
+    fn ask_own_cut(&mut self, asked: Asked, lent: &Written<Run>) {
+        let own = trawlbeacon::cut(asked.pile, asked.answers);
+        let own = own.map(|cut| (cut.run, cut.bytes)).map_err(trawlbeacon::Refusal::code);
+        let due = lent.answer.map(|run| (run, lent.buffer[..run.records() * RECORD].to_vec()));
+        if own != due {
+            let (own, due) = (own.map(|cut| cut.0), due.map(|cut| cut.0));
+            let name = self.namer(asked)();
+            self.tally
+                .differs(format!("cut of {name}: {own:?} instead of {due:?}, or other bytes"));
         }
     }
 
@@ -225,7 +262,8 @@ impl Comparison {
         }
     }
 
-    /// What was cut stands by itself: with the answers about its records it is a report, for its first and its last record.
+    /// What was cut stands by itself: with the answers about its records it is a report, for its
+    /// first and its last record.
     fn ask_evidence(&mut self, asked: Asked, buffer: &[u8], first: usize, last: usize) {
         let run = &buffer[..(last + 1 - first) * RECORD];
         let alone = Asked { pile: run, answers: &asked.answers[2 * first..2 * last + 2] };
@@ -233,7 +271,10 @@ impl Comparison {
         let both = alone.report();
         if (both.ours, both.independent) != (due, due) {
             let (ours, independent) = (both.ours.show(), both.independent.show());
-            self.tally.differs(format!("the run of {}: ours {ours}, independent {independent}", self.namer(asked)()));
+            self.tally.differs(format!(
+                "the run of {}: ours {ours}, independent {independent}",
+                self.namer(asked)()
+            ));
         }
     }
 }
@@ -292,7 +333,8 @@ fn broken_links(random: &mut Xorshift) -> Subject {
     subject(random, &wishes)
 }
 
-/// Bad records and broken links in any places, so that runs begin, end and are looked for everywhere.
+/// Bad records and broken links in any places, so that runs begin, end and are looked for
+/// everywhere.
 fn mixed(random: &mut Xorshift) -> Subject {
     let mut wishes = wishes(random, false, close);
     let seldom = random.pick(&[4, 8, 16]);
@@ -307,8 +349,8 @@ fn mixed(random: &mut Xorshift) -> Subject {
     subject(random, &wishes)
 }
 
-/// Times that fall so slowly that it takes `apart` steps for two records to contradict each other, and then several runs are equally
-/// long. Now and then a radius is larger, or a link is broken.
+/// Times that fall so slowly that it takes `apart` steps for two records to contradict each other,
+/// and then several runs are equally long. Now and then a radius is larger, or a link is broken.
 fn far_apart(random: &mut Xorshift) -> Subject {
     let (step, apart) = (2 + random.below(20) as u64, 1 + random.below(MOST_RECORDS - 1));
     let count = apart + 1 + random.below(MOST_RECORDS - apart);
@@ -327,10 +369,17 @@ fn far_apart(random: &mut Xorshift) -> Subject {
 fn ends_of_time(random: &mut Xorshift) -> Subject {
     let wishes = wishes(random, false, |random| {
         let (little, radius) = (random.below(12) as u64, u64::from(u32::MAX));
-        let midps = [little, radius - little, radius + little, u64::MAX - little, u64::MAX - radius + little];
+        let midps = [
+            little,
+            radius - little,
+            radius + little,
+            u64::MAX - little,
+            u64::MAX - radius + little,
+        ];
         let far = [u64::MAX - 2 * radius - little, 1 << 63, number(random)];
         let midp = if random.once_in(4) { random.pick(&far) } else { random.pick(&midps) };
-        let radii = [0, 1, little as u32, 5, u32::MAX - little as u32, u32::MAX, number(random) as u32];
+        let radii =
+            [0, 1, little as u32, 5, u32::MAX - little as u32, u32::MAX, number(random) as u32];
         (midp, random.pick(&radii))
     });
     subject(random, &wishes)
@@ -344,7 +393,9 @@ fn refused(random: &mut Xorshift) -> Subject {
     match random.below(7) {
         0 => made.pile.truncate(made.pile.len() - 1 - random.below(RECORD - 1)),
         1 => made.pile.extend(random.bytes(1)),
-        2 => made = Made { pile: made.pile.repeat(17)[..17 * RECORD].to_vec(), answers: vec![1; 34] },
+        2 => {
+            made = Made { pile: made.pile.repeat(17)[..17 * RECORD].to_vec(), answers: vec![1; 34] }
+        }
         3 => made = Made { pile: vec![], answers: vec![1; 2 * random.below(3)] },
         4 => made.answers[random.below(2 * count)] = random.pick(&[2, 3, 4, 128, 254, 255]),
         5 => made.answers.truncate(random.below(2 * count)),
@@ -361,13 +412,18 @@ fn flipped(random: &mut Xorshift) -> Subject {
     for _ in 0..1 + random.below(4) {
         let at = random.below(made.pile.len());
         // The first bytes of an area have a meaning more often than others.
-        let at = if random.once_in(2) { at } else { at - at % RECORD + random.pick(&[96, 2096]) + random.below(80) };
+        let at = if random.once_in(2) {
+            at
+        } else {
+            at - at % RECORD + random.pick(&[96, 2096]) + random.below(80)
+        };
         made.pile[at] ^= 1 << random.below(8);
     }
     (made, Due::Unknown)
 }
 
-/// Records of bytes that nobody meant anything by, some of them laid out as they must be, and records in another order.
+/// Records of bytes that nobody meant anything by, some of them laid out as they must be, and
+/// records in another order.
 fn noise(random: &mut Xorshift) -> Subject {
     let wishes = wishes(random, false, close);
     let (made, _) = piles::build(random, &wishes, true);
@@ -414,11 +470,22 @@ fn both_sides_say_the_same_of_piles() {
         }
         println!("{count:>8} piles: {name}");
     }
-    println!("{} piles in all, ours compared with independent; how often each code was given:", seen.piles);
+    println!(
+        "{} piles in all, ours compared with independent; how often each code was given:",
+        seen.piles
+    );
     println!("{}", seen.tally.table("code"));
     println!("runs that were cut, by their number of records:\n{}", seen.runs.table("length"));
-    let Comparison { links: [apart, linked], contradictions: [agreeing, contradicting], first_rands, .. } = seen;
-    println!("{linked} places held a linked record, and {apart} did not, the first and past the last counted;");
+    let Comparison {
+        links: [apart, linked],
+        contradictions: [agreeing, contradicting],
+        first_rands,
+        ..
+    } = seen;
+    println!(
+        "{linked} places held a linked record, and {apart} did not, the first and past the last \
+         counted;"
+    );
     println!("{contradicting} pairs of windows contradicted each other, and {agreeing} did not;");
     println!("{} piles had a first rand of zero, and {} had not", first_rands[1], first_rands[0]);
     seen.tally.no_difference();
@@ -440,7 +507,12 @@ fn enough(seen: &Comparison) {
 /// Both sides' run in a pile, where they agree.
 fn run_of(Made { pile, answers }: &Made) -> Result<(usize, usize), u32> {
     let both = Asked { pile, answers }.cut(pile);
-    assert!(both.ours == both.independent, "ours: {}, independent: {}", both.ours.show(), both.independent.show());
+    assert!(
+        both.ours == both.independent,
+        "ours: {}, independent: {}",
+        both.ours.show(),
+        both.independent.show()
+    );
     both.ours.answer.map(|run| (run.first, run.last))
 }
 
@@ -458,5 +530,7 @@ fn the_examples_of_the_document() {
     assert_eq!(run_of(&apart), Err(18));
     assert_eq!(run_of(&pile_of(&[(1000, 5); 16])), Err(18));
     assert_eq!(run_of(&pile_of(&[(1000, 5); 17])), Err(15));
-    println!("the examples of the document about piles: 9 piles, both sides compared with what it says");
+    println!(
+        "the examples of the document about piles: 9 piles, both sides compared with what it says"
+    );
 }

@@ -1,8 +1,9 @@
-//! Packets right and wrong, read by the proved library and by the independent implementation: every code and every field must be
-//! the same.
+//! Packets right and wrong, read by the proved library and by the independent implementation: every
+//! code and every field must be the same.
 //!
-//! Each packet goes through both readers and both writers of signed texts, whatever it is meant to be. Where the damage that was
-//! done to a packet is known, so is the code that is due, and then both sides are held to it as well.
+//! Each packet goes through both readers, both writers of signed texts and the taker of what is
+//! verified, whatever it is meant to be. Where the damage that was done to a packet is known, so is
+//! the code that is due, and then both sides are held to it as well.
 
 mod support;
 
@@ -18,6 +19,7 @@ const REQUESTS: &str = "requests";
 const RESPONSES: &str = "responses";
 const DELEGATIONS: &str = "delegation texts";
 const TEXTS: &str = "response texts";
+const PARTS: &str = "signed parts";
 /// Requests read as responses, and responses as requests.
 const CROSSED: &str = "crossed";
 
@@ -34,8 +36,8 @@ struct Comparison {
 }
 
 impl Comparison {
-    /// Compares all that both sides say of `packet`. `due` is the code that the reader of its kind must give, or both readers
-    /// where it has none.
+    /// Compares all that both sides say of `packet`. `due` is the code that the reader of its kind
+    /// must give, or both readers where it has none.
     fn packet(&mut self, packet: &[u8], kind: Option<Kind>, due: Option<u32>) {
         self.packets += 1;
         let tally = &mut self.tally;
@@ -45,15 +47,16 @@ impl Comparison {
             _ => (REQUESTS, due),
         };
         tally.answer(requests, &answers::read_request(packet), due_request, input);
-        let (responses, delegations, texts, due_response) = match kind {
-            Some(Kind::Request) => (CROSSED, CROSSED, CROSSED, None),
-            _ => (RESPONSES, DELEGATIONS, TEXTS, due),
+        let (responses, delegations, texts, parts, due_response) = match kind {
+            Some(Kind::Request) => (CROSSED, CROSSED, CROSSED, CROSSED, None),
+            _ => (RESPONSES, DELEGATIONS, TEXTS, PARTS, due),
         };
         tally.answer(responses, &answers::read_response(packet), due_response, input);
-        // TYPE and the version stop no text.
+        // TYPE and the version stop neither a text nor the parts.
         let due_text = due_response.map(|code| if code == 8 { 0 } else { code });
         tally.answer(delegations, &answers::delegation_text(packet, &BUFFER), due_text, input);
         tally.answer(texts, &answers::response_text(packet, &BUFFER), due_text, input);
+        tally.answer(parts, &answers::signed_parts(packet), due_text, input);
         if let Some(wrong) = answers::unseen_fields(packet) {
             tally.differs(format!("{wrong}\n  for {}", hex(packet)));
         }
@@ -113,6 +116,12 @@ fn good_responses(seen: &mut Comparison, shapes: &mut Shapes) {
         let ResponseFields { nonc, indx, midp, radi, root, .. } = response;
         if read != Ok(trawlbeacon::Response { nonc, indx, midp, radi, root }) {
             seen.tally.differs(format!("{read:?} was read of {response:?}"));
+        }
+        let parts = trawlbeacon::signed_parts(&packet);
+        let taken =
+            parts.map(|parts| [&parts.signature, &parts.delegation, &parts.pubk[..]].concat());
+        if taken != Ok([&response.sig[..], &response.cert_sig, &response.pubk].concat()) {
+            seen.tally.differs(format!("{parts:?} were taken out of {response:?}"));
         }
         for (pairs, message) in shapes.pairs.iter_mut().zip(&response.plan().messages) {
             pairs.insert(message.len());
@@ -186,7 +195,8 @@ fn more_pairs(seen: &mut Comparison) {
     }
 }
 
-/// Numbers that sit at the edge of something: of a word, of a message, of 32 bits, and of 8 N in 32 bits.
+/// Numbers that sit at the edge of something: of a word, of a message, of 32 bits, and of 8 N in 32
+/// bits.
 #[rustfmt::skip]
 const EDGES: [u32; 22] = [
     0, 1, 2, 3, 4, 5, 8, 31, 32, 33, 64, 128, 1024, 2000, 0x2000_0001, 0x2000_0002,
@@ -195,7 +205,8 @@ const EDGES: [u32; 22] = [
 
 /// Those, and the neighbours of what a word is.
 fn other_words(word: u32) -> Vec<u32> {
-    let near = [word.wrapping_sub(4), word.wrapping_sub(1), word.wrapping_add(1), word.wrapping_add(4)];
+    let near =
+        [word.wrapping_sub(4), word.wrapping_sub(1), word.wrapping_add(1), word.wrapping_add(4)];
     let turned = [word ^ 1 << 31, word.swap_bytes()];
     let all = EDGES.into_iter().chain(near).chain(turned);
     all.filter(|other| *other != word).collect()
@@ -271,7 +282,8 @@ fn each_field(seen: &mut Comparison) {
     }
 }
 
-/// Two neighbouring offsets made equal, so that one value is empty and the next has the bytes of both.
+/// Two neighbouring offsets made equal, so that one value is empty and the next has the bytes of
+/// both.
 fn equal_offsets(seen: &mut Comparison) {
     let mut random = Xorshift::new(0x5eed_0106);
     for plan in samples(&mut random, 300) {
@@ -289,8 +301,8 @@ fn equal_offsets(seen: &mut Comparison) {
     }
 }
 
-/// Each packet cut at every length, with the length field that it had and with the right one, and each nested message cut at
-/// every length.
+/// Each packet cut at every length, with the length field that it had and with the right one, and
+/// each nested message cut at every length.
 fn cut_short(seen: &mut Comparison) {
     let mut random = Xorshift::new(0x5eed_0107);
     for plan in samples(&mut random, 4) {
@@ -299,7 +311,8 @@ fn cut_short(seen: &mut Comparison) {
             let due = if length < packet::HEADER { 1 } else { 3 };
             seen.packet(&whole[..length], kind, Some(due));
             if length >= packet::HEADER {
-                // At a whole number of words a pair may still be what it was, if nothing but an unknown value was cut.
+                // At a whole number of words a pair may still be what it was, if nothing but an
+                // unknown value was cut.
                 let due = if length % 4 == 0 { None } else { Some(4) };
                 seen.packet(&packet::encode(&whole[packet::HEADER..length]), kind, due);
             }
@@ -320,13 +333,19 @@ fn cut_nested(seen: &mut Comparison, plan: &Plan, level: Level) {
                 bytes.resize(length, 0);
             }
         });
-        // Where a nested message has no whole words, neither has the outermost, or one of its offsets.
+        // Where a nested message has no whole words, neither has the outermost, or one of its
+        // offsets.
         let due = if length % 4 == 0 { None } else { Some(4) };
-        seen.packet(&packet, Some(plan.kind), if packet.len() > packet::MOST { Some(1) } else { due });
+        seen.packet(
+            &packet,
+            Some(plan.kind),
+            if packet.len() > packet::MOST { Some(1) } else { due },
+        );
     }
 }
 
-/// Every size around the smallest and the largest, with bytes that mean nothing and with a good packet padded to it.
+/// Every size around the smallest and the largest, with bytes that mean nothing and with a good
+/// packet padded to it.
 fn sizes(seen: &mut Comparison) {
     let mut random = Xorshift::new(0x5eed_0108);
     for size in (0..=40).chain(1980..=2020).chain([4096, 65_535, 65_536, 1 << 20]) {
@@ -398,7 +417,8 @@ fn spliced(seen: &mut Comparison) {
     }
 }
 
-/// Bytes that nobody meant anything by: alone, behind a right header, and behind a right header and a likely number of pairs.
+/// Bytes that nobody meant anything by: alone, behind a right header, and behind a right header and
+/// a likely number of pairs.
 fn random_bytes(seen: &mut Comparison) {
     let mut random = Xorshift::new(0x5eed_010b);
     for _ in 0..10_000 {
@@ -430,7 +450,7 @@ type Group = (&'static str, fn(&mut Comparison));
 
 #[test]
 fn both_sides_read_alike() {
-    let tally = Tally::new(&[REQUESTS, RESPONSES, DELEGATIONS, TEXTS, CROSSED]);
+    let tally = Tally::new(&[REQUESTS, RESPONSES, DELEGATIONS, TEXTS, PARTS, CROSSED]);
     let mut seen = Comparison { tally, packets: 0 };
     let groups: [Group; 13] = [
         ("good, with every number of pairs, of versions and of siblings", good_packets),
@@ -455,9 +475,15 @@ fn both_sides_read_alike() {
     let before = seen.packets;
     let places = damaged_packets(&mut seen);
     println!("{:>8} packets: damaged in up to six places", seen.packets - before);
-    println!("{} packets in all, ours compared with independent; how often each code was given:", seen.packets);
+    println!(
+        "{} packets in all, ours compared with independent; how often each code was given:",
+        seen.packets
+    );
     println!("{}", seen.tally.table("code"));
-    println!("the messages of damaged responses that the codes 4 to 7 were due to:\n{}", places.table("code"));
+    println!(
+        "the messages of damaged responses that the codes 4 to 7 were due to:\n{}",
+        places.table("code")
+    );
     seen.tally.no_difference();
     enough(&seen, &places);
 }
@@ -468,7 +494,7 @@ fn enough(seen: &Comparison, places: &Tally) {
     for column in [REQUESTS, RESPONSES] {
         seen.tally.at_least(100, column, 0..=8);
     }
-    for column in [DELEGATIONS, TEXTS] {
+    for column in [DELEGATIONS, TEXTS, PARTS] {
         seen.tally.at_least(100, column, 0..=7);
     }
     for place in PLACES {

@@ -1,5 +1,6 @@
-//! Trees of every size, built by the proved library and by the independent implementation: roots, paths, rows and every byte of the
-//! buffers must be the same, and so must the verdict on every path, right or wrong.
+//! Trees of every size, built by the proved library and by the independent implementation: roots,
+//! paths, rows and every byte of the buffers must be the same, and so must the verdict on every
+//! path, right or wrong.
 
 mod support;
 
@@ -38,10 +39,12 @@ impl Comparison {
     }
 
     fn root(&mut self, leaves: &[u8], due: u32) {
-        self.tally.answer(ROOTS, &trees::root(leaves), Some(due), || format!("leaves {}", hex(leaves)));
+        self.tally
+            .answer(ROOTS, &trees::root(leaves), Some(due), || format!("leaves {}", hex(leaves)));
     }
 
-    /// Lends a buffer of `length` random bytes. Not by the other side's word alone: what must stay of it is what it was.
+    /// Lends a buffer of `length` random bytes. Not by the other side's word alone: what must stay
+    /// of it is what it was.
     fn write<T>(
         &mut self,
         column: &str,
@@ -58,7 +61,10 @@ impl Comparison {
         let both = ask(&buffer);
         self.tally.answer(column, &both, Some(code), &input);
         if both.ours.buffer[written..] != buffer[written..] {
-            self.tally.differs(format!("{column}: more than {written} bytes of {length} changed, for {}", input()));
+            self.tally.differs(format!(
+                "{column}: more than {written} bytes of {length} changed, for {}",
+                input()
+            ));
         }
         both.ours.buffer[..written].to_vec()
     }
@@ -67,7 +73,13 @@ impl Comparison {
     fn path(&mut self, leaves: &[u8], place: usize, length: usize, due: u32) -> Vec<u8> {
         let written = if due == 0 { 32 * depth(leaves.len() / 32) } else { 0 };
         let input = || format!("place {place}, {length} bytes, leaves {}", hex(leaves));
-        self.write(PATHS, length, (due, written), |buffer| trees::path(leaves, place, buffer), input)
+        self.write(
+            PATHS,
+            length,
+            (due, written),
+            |buffer| trees::path(leaves, place, buffer),
+            input,
+        )
     }
 
     fn rows(&mut self, leaves: &[u8], length: usize, due: u32) -> Vec<u8> {
@@ -76,15 +88,29 @@ impl Comparison {
         self.write(ROWS, length, (due, written), |buffer| trees::rows(leaves, buffer), input)
     }
 
-    fn path_from(&mut self, rows: &[u8], count: usize, place: usize, length: usize, due: u32) -> Vec<u8> {
+    fn path_from(
+        &mut self,
+        rows: &[u8],
+        count: usize,
+        place: usize,
+        length: usize,
+        due: u32,
+    ) -> Vec<u8> {
         let written = if due == 0 { 32 * depth(count) } else { 0 };
         let input = || format!("place {place} of {count}, {length} bytes, rows {}", hex(rows));
-        self.write(PATHS_FROM, length, (due, written), |buffer| trees::path_from(rows, count, place, buffer), input)
+        self.write(
+            PATHS_FROM,
+            length,
+            (due, written),
+            |buffer| trees::path_from(rows, count, place, buffer),
+            input,
+        )
     }
 
     fn unseen(&mut self, bytes: &[u8], count: usize, place: usize) {
         if let Some(wrong) = trees::unseen_fields(bytes, count, place) {
-            self.tally.differs(format!("{wrong}\n  for place {place} of {count} in {}", hex(bytes)));
+            self.tally
+                .differs(format!("{wrong}\n  for place {place} of {count} in {}", hex(bytes)));
         }
     }
 
@@ -180,12 +206,16 @@ fn wrong_lengths(seen: &mut Comparison, walk: &Walk) {
         if extra <= path.len() {
             seen.walk(&Walk { path: path[..path.len() - extra].to_vec(), ..walk.clone() }, false);
             seen.walk(&Walk { path: path[extra..].to_vec(), ..walk.clone() }, false);
-            seen.walk(&Walk { path: path[extra..].to_vec(), indx: walk.indx >> 1, ..walk.clone() }, false);
+            seen.walk(
+                &Walk { path: path[extra..].to_vec(), indx: walk.indx >> 1, ..walk.clone() },
+                false,
+            );
         }
     }
 }
 
-/// Leaves that are none, too many, or not whole. A buffer that is too short as well changes nothing.
+/// Leaves that are none, too many, or not whole. A buffer that is too short as well changes
+/// nothing.
 fn wrong_leaves(seen: &mut Comparison) {
     let counts = [0, 65, 66, 96, 127, 128, 129, 256, 1000].map(|count| 32 * count);
     let ragged = (0..=65).flat_map(|count| [1, 4, 16, 31].map(|more| 32 * count + more));
@@ -200,7 +230,8 @@ fn wrong_leaves(seen: &mut Comparison) {
     }
 }
 
-/// Places that have no leaf: the first of them may be an empty place of the tree, and others be small again in 32 bits.
+/// Places that have no leaf: the first of them may be an empty place of the tree, and others be
+/// small again in 32 bits.
 fn past(count: usize) -> [usize; 9] {
     let (width, high) = (1 << depth(count), 1 << 32);
     [count, count + 1, width, 2 * width, 64, 65, high, usize::MAX, usize::MAX - 31]
@@ -241,7 +272,8 @@ fn buffers(seen: &mut Comparison) {
     }
 }
 
-/// Rows that are too short, too long, of another tree, or no rows at all. What is no tree is still read as it stands.
+/// Rows that are too short, too long, of another tree, or no rows at all. What is no tree is still
+/// read as it stands.
 fn other_rows(seen: &mut Comparison) {
     for count in 1..=MOST_LEAVES {
         let leaves = seen.random.bytes(32 * count);
@@ -254,7 +286,11 @@ fn other_rows(seen: &mut Comparison) {
         let more = seen.random.bytes(100);
         let longer = [&rows[..], &more[..1 + place]].concat();
         let path = seen.path_from(&longer, count, place, room, 0);
-        assert_eq!(path, seen.path(&leaves, place, room, 0), "place {place} of {count}: rows with bytes behind them");
+        assert_eq!(
+            path,
+            seen.path(&leaves, place, room, 0),
+            "place {place} of {count}: rows with bytes behind them"
+        );
         let any = seen.random.bytes(MOST_ROWS_LENGTH);
         seen.path_from(&any, count, place, room, 0);
         for wrong in [0, 65, 128, 1 << 32 | count, usize::MAX, usize::MAX - 63] {
@@ -332,7 +368,8 @@ fn both_sides_build_and_check_alike() {
         println!("{:>8} answers: {name}", seen.tally.answers() - before);
     }
     println!(
-        "trees, ours compared with independent; how often each code was given, and 10 where a path leads elsewhere:"
+        "trees, ours compared with independent; how often each code was given, and 10 where a path \
+         leads elsewhere:"
     );
     println!("{}", seen.tally.table("code"));
     seen.tally.no_difference();

@@ -1,5 +1,5 @@
-//! The writers: what the proved library puts into a buffer is what the independent implementation puts there, to the last byte
-//! of the buffer, and where there is no room nothing is touched.
+//! The writers: what the proved library puts into a buffer is what the independent implementation
+//! puts there, to the last byte of the buffer, and where there is no room nothing is touched.
 
 mod support;
 
@@ -25,8 +25,9 @@ fn write_requests(tally: &mut Tally) {
         let (key, nonce, buffer) = (random.array(), random.array(), random.bytes(length));
         let due = if length < REQUEST_LENGTH { 19 } else { 0 };
         let both = answers::write_request(&key, &nonce, &buffer);
-        tally
-            .answer(REQUESTS, &both, Some(due), || format!("{length} bytes, key {}, nonce {}", hex(&key), hex(&nonce)));
+        tally.answer(REQUESTS, &both, Some(due), || {
+            format!("{length} bytes, key {}, nonce {}", hex(&key), hex(&nonce))
+        });
         // Not by the other side's word alone: what must stay is the buffer that was lent.
         let stays = if due == 0 { REQUEST_LENGTH } else { 0 };
         assert_eq!(both.ours.buffer[stays..], buffer[stays..], "{length} bytes");
@@ -42,19 +43,24 @@ fn read_back(packet: &[u8], key: &[u8; 32], nonce: &[u8; 32]) {
     assert_eq!((both.ours, both.independent), (Ok(due), Ok(due)));
 }
 
-/// Both texts of a response, into buffers around the length that each needs, of which `code` refuses all.
+/// Both texts of a response, into buffers around the length that each needs, of which `code`
+/// refuses all.
 fn write_texts(tally: &mut Tally, random: &mut Xorshift, packet: &[u8], code: u32) {
     type Writer = fn(&[u8], &[u8]) -> answers::Both<answers::Written>;
     let delegation = text::delegation(packet).map_or(300, |text| text.len());
     let response = text::response(packet).map_or(300, |text| text.len());
-    let writers: [(&str, usize, Writer); 2] =
-        [(DELEGATIONS, delegation, answers::delegation_text), (TEXTS, response, answers::response_text)];
+    let writers: [(&str, usize, Writer); 2] = [
+        (DELEGATIONS, delegation, answers::delegation_text),
+        (TEXTS, response, answers::response_text),
+    ];
     for (column, needed, writer) in writers {
         for length in [0, 1, 31, 32, 33, 34, 35, needed - 1, needed, needed + 1, needed + 200] {
             let buffer = random.bytes(length);
             let due = if code == 0 && length < needed { 19 } else { code };
             let both = writer(packet, &buffer);
-            tally.answer(column, &both, Some(due), || format!("{length} bytes, packet {}", hex(packet)));
+            tally.answer(column, &both, Some(due), || {
+                format!("{length} bytes, packet {}", hex(packet))
+            });
             let stays = if due == 0 { needed } else { 0 };
             assert_eq!(both.ours.buffer[stays..], buffer[stays..], "{column}: {length} bytes");
         }
@@ -85,7 +91,10 @@ fn both_sides_write_alike() {
     let mut tally = Tally::new(&[REQUESTS, DELEGATIONS, TEXTS]);
     write_requests(&mut tally);
     write_all_texts(&mut tally);
-    println!("writers, ours compared with independent; how often each code was given:\n{}", tally.table("code"));
+    println!(
+        "writers, ours compared with independent; how often each code was given:\n{}",
+        tally.table("code")
+    );
     tally.no_difference();
     tally.at_least(60, REQUESTS, [0]);
     tally.at_least(100, REQUESTS, [19]);
@@ -103,9 +112,14 @@ fn buffers_may_start_anywhere() {
         let before = random.bytes(start + REQUEST_LENGTH + 16);
         let mut out = before.clone();
         let (front, end) = (start, start + REQUEST_LENGTH);
-        assert_eq!(trawlbeacon::write_request(&key, &nonce, &mut out[front..end]), Ok(()));
+        let wrote = trawlbeacon::write_request(&key, &nonce, &mut out[front..end]);
+        assert_eq!(wrote, Ok(REQUEST_LENGTH));
         assert_eq!(out[front..end], independent::write::request(&key, &nonce));
-        assert_eq!((&out[..front], &out[end..]), (&before[..front], &before[end..]), "start {start}");
+        assert_eq!(
+            (&out[..front], &out[end..]),
+            (&before[..front], &before[end..]),
+            "start {start}"
+        );
     }
     println!("unaligned buffers: 16 requests, ours compared with independent");
 }

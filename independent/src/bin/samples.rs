@@ -1,5 +1,6 @@
-//! `samples DIR` writes piles and their answers into DIR, the same in every run: NAME.pile and NAME.answers, for the programs that
-//! print a verdict to be tried with. It prints the names of the files, a pair a line.
+//! `samples DIR` writes piles and their answers into DIR, the same in every run: NAME.pile and
+//! NAME.answers, for the programs that print a verdict to be tried with. It prints the names of the
+//! files, a pair a line.
 
 use independent::appendix;
 use independent::making::{self, pile_of, Link, Made};
@@ -41,8 +42,8 @@ fn refused(code: u8) -> Made {
     Made { pile, answers: vec![u8::from(code != 12), u8::from(code != 13)] }
 }
 
-/// A record for each code that one can be refused with, and a good one. Code 15 is that of a whole pile, so the good one stands
-/// where it would.
+/// A record for each code that one can be refused with, and a good one. Code 15 is that of a whole
+/// pile, so the good one stands where it would.
 fn every_code() -> Made {
     let records: Vec<Made> = (1..=16).map(refused).collect();
     Made {

@@ -1,5 +1,5 @@
-//! `verdict PILE ANSWERS ...` prints what is to be said of the pile in each pair of files, one after the other. A proved program prints
-//! the same lines, and the two outputs are compared.
+//! `verdict PILE ANSWERS ...` prints what is to be said of the pile in each pair of files, one
+//! after the other. A proved program prints the same lines, and the two outputs are compared.
 
 use independent::verdict;
 use std::{env, fs, process};

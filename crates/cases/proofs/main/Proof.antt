@@ -1,5 +1,4 @@
 -- `cases::main` is safe and ends. Nothing has to hold from turn to turn.
--- Assumes nothing.
 use Prim.Native.Nat.{_-_}
 use borrow.Author.Needs.{needs}
 use Rattle.cases.proofs.main.Statement.{statement}

@@ -1,5 +1,4 @@
 -- `hash::empty_place` meets its contract.
--- Assumes nothing.
 use Rattle.hash.specs.Hashes.{H32, emptyPlace}
 use borrow.Author.Needs.{needs}
 use Rattle.hash.proofs.empty_place.Statement.{statement}

@@ -1,5 +1,4 @@
 -- `hash::leaf` meets its contract.
--- Assumes nothing.
 use mathlib.Core.List.{append-nil}
 use Rattle.hash.specs.Hashes.{H32, leafOf}
 use borrow.Author.Needs.{needs}

@@ -1,5 +1,4 @@
 -- `hash::link` meets its contract.
--- Assumes nothing.
 use Rattle.hash.specs.Hashes.{H32, linkOf}
 use borrow.Author.Needs.{needs}
 use Rattle.hash.proofs.link.Statement.{statement}

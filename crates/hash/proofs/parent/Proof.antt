@@ -1,5 +1,4 @@
 -- `hash::parent` meets its contract.
--- Assumes nothing.
 use mathlib.Core.Path.{_≡_, ap, _∙_}
 use mathlib.Core.List.{List}
 use Prim.Native.Nat.{ℕ}
@@ -22,11 +21,9 @@ returns c =
     let b : List ℕ = set (replicate 65 0) 0 1 in
     let n : length (g .t1) ≡ 32 = search needs in
     let m : length (g .t2) ≡ 32 = search needs in
-    c .front .ensures
-    ∙ ap (take 32)
-    (c .before .sha512 .ensures
-    ∙ ap Sha512
-    (at-put2 .put2 .ensures ∙ ap (λ (l : List ℕ). pasted l 33 (g .t2)) (at-put .put .ensures) ∙ pasted-twice b (g .t1) (g .t2) 1 33 (omega arith) (omega arith)))
+    let put = at-put2 .put2 .ensures ∙ ap (λ (l : List ℕ). pasted l 33 (g .t2)) (at-put .put .ensures) in
+    let both = put ∙ pasted-twice b (g .t1) (g .t2) 1 33 (omega arith) (omega arith) in
+    c .front .ensures ∙ ap (take 32) (c .before .sha512 .ensures ∙ ap Sha512 both)
 
 pub parent-spec : {M : Type 1} → statement M
 parent-spec =

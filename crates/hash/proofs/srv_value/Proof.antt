@@ -1,5 +1,4 @@
 -- `hash::srv_value` meets its contract.
--- Assumes nothing.
 use mathlib.Core.List.{append-nil}
 use Rattle.hash.specs.Hashes.{H32, srvOf}
 use borrow.Author.Needs.{needs}

@@ -5,7 +5,7 @@
 use super::hex;
 use independent::refusal::Refusal;
 use independent::{request, response, text, write};
-use trawlbeacon::{raw, Request, Response};
+use trawlbeacon::{raw, Request, Response, SignedParts};
 
 /// What each side answered.
 pub struct Both<T> {
@@ -48,6 +48,13 @@ impl Said for Response {
     fn say(&self) -> String {
         let numbers = format!("INDX {} MIDP {} RADI {}", self.indx, self.midp, self.radi);
         format!("NONC {} {numbers} ROOT {}", hex(&self.nonc), hex(&self.root))
+    }
+}
+
+impl Said for SignedParts {
+    fn say(&self) -> String {
+        let (signature, delegation) = (hex(&self.signature), hex(&self.delegation));
+        format!("SIG {signature} SIG of CERT {delegation} PUBK {}", hex(&self.pubk))
     }
 }
 
@@ -97,6 +104,18 @@ pub fn read_response(packet: &[u8]) -> Both<Result<Response, u32>> {
     }
 }
 
+pub fn signed_parts(packet: &[u8]) -> Both<Result<SignedParts, u32>> {
+    let independent = response::shaped(packet).map(|read| SignedParts {
+        signature: read.outer.sig,
+        delegation: read.cert.sig,
+        pubk: read.dele.pubk,
+    });
+    Both {
+        ours: trawlbeacon::signed_parts(packet).map_err(trawlbeacon::Refusal::code),
+        independent: independent.map_err(Refusal::code),
+    }
+}
+
 /// Lends each side a copy of `buffer` of its own.
 pub fn write_both<T>(
     buffer: &[u8],
@@ -106,13 +125,16 @@ pub fn write_both<T>(
     let (mut lent, mut lent_too) = (buffer.to_vec(), buffer.to_vec());
     let answer = ours(&mut lent).map_err(trawlbeacon::Refusal::code);
     let answer_too = independent(&mut lent_too).map_err(Refusal::code);
-    Both { ours: Written { answer, buffer: lent }, independent: Written { answer: answer_too, buffer: lent_too } }
+    Both {
+        ours: Written { answer, buffer: lent },
+        independent: Written { answer: answer_too, buffer: lent_too },
+    }
 }
 
 pub fn write_request(key: &[u8; 32], nonce: &[u8; 32], buffer: &[u8]) -> Both<Written> {
     write_both(
         buffer,
-        |out| trawlbeacon::write_request(key, nonce, out).map(|()| trawlbeacon::REQUEST_LENGTH),
+        |out| trawlbeacon::write_request(key, nonce, out),
         |out| write::put(&write::request(key, nonce), out),
     )
 }
@@ -133,32 +155,57 @@ pub fn response_text(packet: &[u8], buffer: &[u8]) -> Both<Written> {
     )
 }
 
-/// What is wrong with the fields that the functions of hosts/rust never show: those of a refused call, and SRV where there is
-/// none.
+/// What is wrong with the fields that the functions of hosts/rust never show: those of a refused
+/// call, and SRV where there is none.
 pub fn unseen_fields(packet: &[u8]) -> Option<String> {
     let (start, n) = (packet.as_ptr(), packet.len());
     // SAFETY: the library only reads, and only the packet.
-    let (request, response) = unsafe { (raw::tb_read_request(start, n), raw::tb_read_response(start, n)) };
+    let (request, response, parts) = unsafe {
+        (
+            raw::tb_read_request(start, n),
+            raw::tb_read_response(start, n),
+            raw::tb_signed_parts(start, n),
+        )
+    };
     if request != without_unseen(request) {
         return Some(format!("tb_read_request answered {request:?}"));
     }
-    let refused = raw::Response { midp: 0, code: response.code, indx: 0, radi: 0, nonc: [0; 32], root: [0; 32] };
-    if response.code != 0 && response != refused {
+    let code = response.code;
+    let refused =
+        raw::tb_response { code, indx: 0, midp: 0, radi: 0, nonc: [0; 32], root: [0; 32] };
+    if code != 0 && response != refused {
         return Some(format!("tb_read_response answered {response:?}"));
     }
-    // No text is as short as this buffer, so that either is refused.
+    let code = parts.code;
+    let refused = raw::tb_parts { code, signature: [0; 64], delegation: [0; 64], pubk: [0; 32] };
+    if code != 0 && parts != refused {
+        return Some(format!("tb_signed_parts answered {parts:?}"));
+    }
+    unseen_lengths(packet)
+}
+
+/// What is wrong with the length that a refused writer tells. Nothing that it writes is as short as
+/// the buffer here, so that each is refused.
+fn unseen_lengths(packet: &[u8]) -> Option<String> {
+    let (start, n) = (packet.as_ptr(), packet.len());
     let mut out = [0; 32];
     let (to, m) = (out.as_mut_ptr(), out.len());
     // SAFETY: the library only reads the packet, and only writes `out`.
-    let texts = unsafe { [raw::tb_delegation_text(start, n, to, m), raw::tb_response_text(start, n, to, m)] };
-    let wrong = texts.iter().any(|text| text.length != 0 || !(1..=19).contains(&text.code));
-    wrong.then(|| format!("tb_delegation_text and tb_response_text answered {texts:?}"))
+    let writers = unsafe {
+        [
+            raw::tb_write_request(&[0; 32], &[0; 32], to, m),
+            raw::tb_delegation_text(start, n, to, m),
+            raw::tb_response_text(start, n, to, m),
+        ]
+    };
+    let wrong = writers.iter().any(|wrote| wrote.length != 0 || !(1..=19).contains(&wrote.code));
+    wrong.then(|| format!("the writers answered {writers:?}"))
 }
 
 /// What a request's answer must be where the parts of it that mean something are these.
-fn without_unseen(request: raw::Request) -> raw::Request {
+fn without_unseen(request: raw::tb_request) -> raw::tb_request {
     let with_srv = request.code == 0 && request.with_srv == 1;
-    raw::Request {
+    raw::tb_request {
         code: request.code,
         with_srv: u32::from(with_srv),
         nonc: if request.code == 0 { request.nonc } else { [0; 32] },

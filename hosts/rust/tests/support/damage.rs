@@ -1,7 +1,8 @@
 //! Packets that are wrong, and what they must be refused with.
 //!
-//! Each damage leads to one code where nothing else is wrong. Where several are done to one packet, the order of the
-//! rules says which code comes first, so the outcome is known without any reader's help.
+//! Each damage leads to one code where nothing else is wrong. Where several are done to one packet,
+//! the order of the rules says which code comes first, so the outcome is known without any reader's
+//! help.
 
 use super::packets::{list, Kind, Level, Plan, RequestFields, ResponseFields};
 use super::Xorshift;
@@ -32,7 +33,8 @@ pub struct Damaged {
     pub done: Vec<Done>,
 }
 
-/// Damages `plan` in up to three of its values, the frames of up to two of its messages, and now and then the packet around them.
+/// Damages `plan` in up to three of its values, the frames of up to two of its messages, and now
+/// and then the packet around them.
 pub fn damaged(random: &mut Xorshift, mut plan: Plan) -> Damaged {
     let (values, frames) = random.pick(&[(1, 0), (2, 0), (3, 0), (0, 1), (1, 1), (2, 2), (0, 2)]);
     let mut done = Vec::new();
@@ -40,7 +42,8 @@ pub fn damaged(random: &mut Xorshift, mut plan: Plan) -> Damaged {
     for _ in 0..values {
         let level = random.pick(plan.kind.levels());
         let tag = random.pick(plan.kind.known(level));
-        // A second damage to one value could undo the first, and a message with no pair left would have no right frame.
+        // A second damage to one value could undo the first, and a message with no pair left would
+        // have no right frame.
         if plan.has(level, tag) && plan.pairs(level).len() > 1 && !touched.contains(&(level, tag)) {
             touched.push((level, tag));
             done.extend(damage_value(random, &mut plan, level, tag));
@@ -70,8 +73,8 @@ pub fn bad_request(random: &mut Xorshift, request: &RequestFields) -> Vec<u8> {
     }
 }
 
-/// The response with damage of any kind. What is seldom met where any value is damaged is done by itself here: to the packet around
-/// the messages, and to TYPE and the version.
+/// The response with damage of any kind. What is seldom met where any value is damaged is done by
+/// itself here: to the packet around the messages, and to TYPE and the version.
 pub fn bad_response(random: &mut Xorshift, response: &ResponseFields) -> Damaged {
     let mut plan = response.plan();
     match random.below(4) {
@@ -82,7 +85,8 @@ pub fn bad_response(random: &mut Xorshift, response: &ResponseFields) -> Damaged
         }
         1 => {
             let (level, tag) = random.pick(&[(Level::Outer, TYPE), (Level::Srep, VER)]);
-            let (value, code) = wrong_value(random, plan.kind, level, tag).expect("it holds no message");
+            let (value, code) =
+                wrong_value(random, plan.kind, level, tag).expect("it holds no message");
             plan.set(level, tag, &value);
             Damaged { packet: plan.packet(), done: vec![(level, code)] }
         }
@@ -90,7 +94,8 @@ pub fn bad_response(random: &mut Xorshift, response: &ResponseFields) -> Damaged
     }
 }
 
-/// Takes `tag` out, or gives it a value that it may not have. Says what that leads to, which is nothing where the tag can be spared.
+/// Takes `tag` out, or gives it a value that it may not have. Says what that leads to, which is
+/// nothing where the tag can be spared.
 fn damage_value(random: &mut Xorshift, plan: &mut Plan, level: Level, tag: Tag) -> Option<Done> {
     match wrong_value(random, plan.kind, level, tag) {
         Some((value, code)) if !random.once_in(3) => {
@@ -104,15 +109,25 @@ fn damage_value(random: &mut Xorshift, plan: &mut Plan, level: Level, tag: Tag) 
     }
 }
 
-/// A value that `tag` may not have, and the code for it. There is none where the value is a message, which is judged by itself.
-pub fn wrong_value(random: &mut Xorshift, kind: Kind, level: Level, tag: Tag) -> Option<(Vec<u8>, u32)> {
+/// A value that `tag` may not have, and the code for it. There is none where the value is a
+/// message, which is judged by itself.
+pub fn wrong_value(
+    random: &mut Xorshift,
+    kind: Kind,
+    level: Level,
+    tag: Tag,
+) -> Option<(Vec<u8>, u32)> {
     if [SREP, CERT, DELE].contains(&tag) {
         return None;
     }
     let meaning = match (kind, level, tag) {
-        (Kind::Request, _, VER) => Some(list(random.pick(&[&[0][..], &[2], &[0, 2, 9], &[0x0100_0000]]))),
+        (Kind::Request, _, VER) => {
+            Some(list(random.pick(&[&[0][..], &[2], &[0, 2, 9], &[0x0100_0000]])))
+        }
         (Kind::Request, _, TYPE) => Some(another_number(random, 0)),
-        (Kind::Response, Level::Outer, TYPE) | (Kind::Response, Level::Srep, VER) => Some(another_number(random, 1)),
+        (Kind::Response, Level::Outer, TYPE) | (Kind::Response, Level::Srep, VER) => {
+            Some(another_number(random, 1))
+        }
         _ => None,
     };
     match meaning {
@@ -122,7 +137,8 @@ pub fn wrong_value(random: &mut Xorshift, kind: Kind, level: Level, tag: Tag) ->
 }
 
 fn another_number(random: &mut Xorshift, right: u32) -> Vec<u8> {
-    let numbers = [0, 1, 2, 256, 257, 0x0100_0000, 0x0100_0001, 0x8000_000c, u32::MAX, random.next() as u32 | 2];
+    let any = random.next() as u32 | 2;
+    let numbers = [0, 1, 2, 256, 257, 0x0100_0000, 0x0100_0001, 0x8000_000c, u32::MAX, any];
     let wrong: Vec<u32> = numbers.into_iter().filter(|number| *number != right).collect();
     random.pick(&wrong).to_le_bytes().to_vec()
 }
@@ -172,8 +188,10 @@ pub fn set_word(bytes: &mut [u8], at: usize, word: u32) {
     bytes[4 * at..4 * at + 4].copy_from_slice(&word.to_le_bytes());
 }
 
-/// Wrong numbers of pairs. With some of them 8 N, the length of the header, is small again in 32 bits.
-const WRONG_COUNTS: [u32; 9] = [0, 33, 34, 0x100, 0x2000_0000, 0x2000_0001, 0x4000_0002, 0x8000_0001, u32::MAX];
+/// Wrong numbers of pairs. With some of them 8 N, the length of the header, is small again in 32
+/// bits.
+const WRONG_COUNTS: [u32; 9] =
+    [0, 33, 34, 0x100, 0x2000_0000, 0x2000_0001, 0x4000_0002, 0x8000_0001, u32::MAX];
 
 /// Spoils the frame of a message that has a right one, and says which code that leads to.
 fn spoil(random: &mut Xorshift, bytes: &mut Vec<u8>) -> u32 {

@@ -1,5 +1,5 @@
-//! What the tests share: bytes that are the same in every run, the files in vectors/, packets right and wrong, and the comparison of
-//! the two sides.
+//! What the tests share: bytes that are the same in every run, the files in vectors/, packets right
+//! and wrong, and the comparison of the two sides.
 
 // Each test file is a crate of its own that takes this module in, and none of them needs all of it.
 #![allow(dead_code)]
@@ -16,8 +16,8 @@ pub mod trees;
 use std::fs;
 use std::path::Path;
 
-/// Marsaglia's xorshift64: no good randomness, but bytes without a pattern that a hash could be right on by luck,
-/// and the same in every run, so that what fails once fails again.
+/// Marsaglia's xorshift64: no good randomness, but bytes without a pattern that a hash could be
+/// right on by luck, and the same in every run, so that what fails once fails again.
 pub struct Xorshift(u64);
 
 impl Xorshift {
@@ -35,7 +35,8 @@ impl Xorshift {
     }
 
     pub fn bytes(&mut self, length: usize) -> Vec<u8> {
-        let mut bytes: Vec<u8> = (0..(length + 7) / 8).flat_map(|_| self.next().to_le_bytes()).collect();
+        let mut bytes: Vec<u8> =
+            (0..(length + 7) / 8).flat_map(|_| self.next().to_le_bytes()).collect();
         bytes.truncate(length);
         bytes
     }
@@ -83,7 +84,8 @@ pub fn unhex(hex: &str) -> Option<Vec<u8>> {
     (0..hex.len()).step_by(2).map(|at| u8::from_str_radix(&hex[at..at + 2], 16).ok()).collect()
 }
 
-/// The entries of a file in vectors/. A line that is not understood stops the test, lest entries pass unread.
+/// The entries of a file in vectors/. A line that is not understood stops the test, lest entries
+/// pass unread.
 pub fn nist(file: &str) -> Vec<Entry> {
     let text = vectors(file);
     let (mut bits, mut message, mut entries) = (0, Vec::new(), Vec::new());
@@ -95,7 +97,10 @@ pub fn nist(file: &str) -> Vec<Entry> {
             Some(("Len", value)) => bits = value.parse().expect("Len is a number"),
             Some(("Msg", value)) => message = message_of(bits, value),
             Some(("MD", value)) => {
-                entries.push(Entry { message: message.clone(), digest: unhex(value).expect("MD is hex") });
+                entries.push(Entry {
+                    message: message.clone(),
+                    digest: unhex(value).expect("MD is hex"),
+                });
             }
             _ => panic!("{file}: this line is not understood: {line}"),
         }

@@ -1,8 +1,9 @@
 //! Packets that are right, in every shape that the rules allow, and the means to make others.
 //!
-//! A packet is made in three steps. Its fields say what it means ([`RequestFields`], [`ResponseFields`]). A [`Plan`] has its messages as
-//! pairs, and there tags can be added, dropped and changed. Bytes come last, the innermost message first, and each message's
-//! bytes can be changed before they go into the message around it.
+//! A packet is made in three steps. Its fields say what it means ([`RequestFields`],
+//! [`ResponseFields`]). A [`Plan`] has its messages as pairs, and there tags can be added, dropped
+//! and changed. Bytes come last, the innermost message first, and each message's bytes can be
+//! changed before they go into the message around it.
 
 use super::Xorshift;
 use independent::tag::*;
@@ -10,7 +11,8 @@ use independent::{message, packet};
 
 pub type Pairs = Vec<(Tag, Vec<u8>)>;
 
-/// The messages of a packet, in the order in which they must be judged. A request has the first alone.
+/// The messages of a packet, in the order in which they must be judged. A request has the first
+/// alone.
 #[derive(Clone, Copy, Debug, PartialEq, Eq, PartialOrd, Ord)]
 pub enum Level {
     Outer,
@@ -57,8 +59,10 @@ impl Kind {
 }
 
 /// Every tag that means something somewhere.
-const NAMED: [Tag; 18] =
-    [SIG, VER, SRV, NONC, DELE, TYPE, PATH, RADI, PUBK, MIDP, SREP, VERS, MINT, ROOT, CERT, MAXT, INDX, ZZZZ];
+const NAMED: [Tag; 18] = [
+    SIG, VER, SRV, NONC, DELE, TYPE, PATH, RADI, PUBK, MIDP, SREP, VERS, MINT, ROOT, CERT, MAXT,
+    INDX, ZZZZ,
+];
 
 /// A packet as the pairs of its messages.
 #[derive(Clone, Debug)]
@@ -91,7 +95,8 @@ impl Plan {
         self.packet_with(|_, _| ())
     }
 
-    /// The packet, where `change` was let at the bytes of each message before they went into the next.
+    /// The packet, where `change` was let at the bytes of each message before they went into the
+    /// next.
     pub fn packet_with(&self, mut change: impl FnMut(Level, &mut Vec<u8>)) -> Vec<u8> {
         let mut encoded = |level: Level, inside: &[(Tag, Vec<u8>)]| {
             let mut pairs = self.messages[level as usize].clone();
@@ -153,7 +158,8 @@ impl RequestFields {
         request
     }
 
-    /// Adds ZZZZ so that the packet has `size` bytes, where it is shorter and there is room for another tag.
+    /// Adds ZZZZ so that the packet has `size` bytes, where it is shorter and there is room for
+    /// another tag.
     pub fn pad(&mut self, size: usize) {
         let plan = self.plan();
         let padded = plan.packet().len() + 8;
@@ -232,7 +238,8 @@ impl ResponseFields {
     /// Drops other tags until the packet is no longer than it may be.
     pub fn trim(&mut self) {
         while self.packet().len() > packet::MOST {
-            let longest = self.others.iter_mut().max_by_key(|pairs| pairs.len()).expect("there are four");
+            let longest =
+                self.others.iter_mut().max_by_key(|pairs| pairs.len()).expect("there are four");
             longest.pop();
         }
     }
@@ -241,9 +248,22 @@ impl ResponseFields {
         let number = |n: u32| n.to_le_bytes().to_vec();
         let time = |n: u64| n.to_le_bytes().to_vec();
         let [mut outer, mut srep, mut cert, mut dele] = self.others.clone();
-        outer.extend([(SIG, self.sig.clone()), (NONC, self.nonc.to_vec()), (TYPE, number(self.type_number))]);
-        outer.extend([(PATH, self.path.concat()), (SREP, vec![]), (CERT, vec![]), (INDX, number(self.indx))]);
-        srep.extend([(VER, number(self.version)), (RADI, number(self.radi)), (MIDP, time(self.midp))]);
+        outer.extend([
+            (SIG, self.sig.clone()),
+            (NONC, self.nonc.to_vec()),
+            (TYPE, number(self.type_number)),
+        ]);
+        outer.extend([
+            (PATH, self.path.concat()),
+            (SREP, vec![]),
+            (CERT, vec![]),
+            (INDX, number(self.indx)),
+        ]);
+        srep.extend([
+            (VER, number(self.version)),
+            (RADI, number(self.radi)),
+            (MIDP, time(self.midp)),
+        ]);
         srep.extend([(VERS, list(&self.versions)), (ROOT, self.root.to_vec())]);
         cert.extend([(SIG, self.cert_sig.clone()), (DELE, vec![])]);
         dele.extend([(PUBK, self.pubk.to_vec()), (MINT, time(self.mint)), (MAXT, time(self.maxt))]);
@@ -278,7 +298,8 @@ fn client_versions(random: &mut Xorshift) -> Vec<u32> {
     versions
 }
 
-/// The versions that a server knows. A reader does not ask for 1 to be among them, and now and then it is not.
+/// The versions that a server knows. A reader does not ask for 1 to be among them, and now and then
+/// it is not.
 fn server_versions(random: &mut Xorshift) -> Vec<u32> {
     if random.once_in(4) {
         rising(random)
@@ -316,7 +337,8 @@ fn others(random: &mut Xorshift, known: &[Tag], most: usize) -> Pairs {
     pairs
 }
 
-/// A tag that is not `known`, though it may mean something in another message, or stand right beside a known one.
+/// A tag that is not `known`, though it may mean something in another message, or stand right
+/// beside a known one.
 fn unknown_tag(random: &mut Xorshift, known: &[Tag]) -> Tag {
     loop {
         let any = random.next() as u32;

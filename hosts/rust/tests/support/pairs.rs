@@ -1,7 +1,7 @@
 //! Requests with the responses to them: valid ones, and such as break one of the rules or several.
 //!
-//! A rule is named by the code that it leads to. No breach touches what another is about, so that the first of all rules that were
-//! broken is the one that is due.
+//! A rule is named by the code that it leads to. No breach touches what another is about, so that
+//! the first of all rules that were broken is the one that is due.
 
 use super::answers::{Both, Said};
 use super::packets::{number, RequestFields, ResponseFields};
@@ -14,6 +14,10 @@ use trawlbeacon::{raw, Window};
 
 /// The rules that come after a response's own shape.
 pub const RULES: [u32; 5] = [9, 10, 11, 12, 13];
+
+/// Numbers that are not 1, as a library may answer to say that it failed, or that are 1 in some of
+/// their bits.
+const NOES: [u32; 7] = [0, u32::MAX, 2, 3, 256, 257, 0x0100_0000];
 
 /// A request and the response to it.
 #[derive(Clone)]
@@ -173,15 +177,23 @@ impl Question {
         }
     }
 
-    /// What is wrong with the fields that hosts/rust does not show, or not whole, where it answered `ours`.
+    /// What is wrong with the fields that hosts/rust does not show, or not whole, where it answered
+    /// `ours`.
     pub fn unseen_fields(&self, ours: &Result<Window, u32>) -> Option<String> {
         let Question { request, response, delegation, signature } = self;
-        let ((start, n), (start_too, m)) = ((request.as_ptr(), request.len()), (response.as_ptr(), response.len()));
+        let ((start, n), (start_too, m)) =
+            ((request.as_ptr(), request.len()), (response.as_ptr(), response.len()));
+        // Only 1 is yes, so that each of these must do for no.
+        let no = NOES[(n + m) / 4 % NOES.len()];
+        let [delegation, signature] = [delegation, signature].map(|yes| if *yes { 1 } else { no });
         // SAFETY: the library only reads both packets.
-        let verdict = unsafe { raw::tb_check_response(start, n, start_too, m, *delegation, *signature) };
+        let verdict =
+            unsafe { raw::tb_check_response(start, n, start_too, m, delegation, signature) };
         let due = match *ours {
-            Ok(Window { midp, radi, low, high }) => raw::Verdict { code: 0, midp, radi: radi.into(), low, high },
-            Err(code) => raw::Verdict { code: code.into(), midp: 0, radi: 0, low: 0, high: 0 },
+            Ok(Window { midp, radi, low, high }) => {
+                raw::tb_verdict { code: 0, radi, midp, low, high }
+            }
+            Err(code) => raw::tb_verdict { code, radi: 0, midp: 0, low: 0, high: 0 },
         };
         (verdict != due).then(|| format!("tb_check_response answered {verdict:?}"))
     }

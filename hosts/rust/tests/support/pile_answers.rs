@@ -50,7 +50,8 @@ pub type Judged = Result<Vec<Result<check::Window, Refusal>>, Refusal>;
 impl Asked<'_> {
     pub fn code(self) -> Both<Result<(), u32>> {
         Both {
-            ours: trawlbeacon::pile_code(self.pile, self.answers).map_err(trawlbeacon::Refusal::code),
+            ours: trawlbeacon::pile_code(self.pile, self.answers)
+                .map_err(trawlbeacon::Refusal::code),
             independent: pile::read(self.pile, self.answers).map(drop).map_err(Refusal::code),
         }
     }
@@ -60,24 +61,32 @@ impl Asked<'_> {
         pile::judge_all(self.pile, self.answers)
     }
 
-    /// What is said of the record at `place`, where the independent side said `judged`. Where there is no such record, code 15 is due.
+    /// What is said of the record at `place`, where the independent side said `judged`. Where there
+    /// is no such record, code 15 is due.
     pub fn judge(self, place: usize, judged: &Judged) -> Both<Result<Window, u32>> {
         let independent = match judged {
             Ok(judged) => judged.get(place).copied().unwrap_or(Err(Refusal::Pile)),
             Err(refusal) => Err(*refusal),
         };
         Both {
-            ours: trawlbeacon::judge(self.pile, self.answers, place).map_err(trawlbeacon::Refusal::code),
+            ours: trawlbeacon::judge(self.pile, self.answers, place)
+                .map_err(trawlbeacon::Refusal::code),
             independent: independent.map(same_window).map_err(Refusal::code),
         }
     }
 
     pub fn linked(self, place: usize) -> Both<bool> {
-        Both { ours: trawlbeacon::linked(self.pile, place), independent: pile::linked(self.pile, place) }
+        Both {
+            ours: trawlbeacon::linked(self.pile, place),
+            independent: pile::linked(self.pile, place),
+        }
     }
 
     pub fn first_rand_zero(self) -> Both<bool> {
-        Both { ours: trawlbeacon::first_rand_zero(self.pile), independent: pile::first_rand_zero(self.pile) }
+        Both {
+            ours: trawlbeacon::first_rand_zero(self.pile),
+            independent: pile::first_rand_zero(self.pile),
+        }
     }
 
     pub fn report(self) -> Both<Reported> {
@@ -85,7 +94,8 @@ impl Asked<'_> {
         let independent = report::check(self.pile, self.answers);
         Both {
             ours: Reported(
-                ours.map(|Pair { first, second }| (first, second)).map_err(|no| (no.refusal.code(), no.place)),
+                ours.map(|Pair { first, second }| (first, second))
+                    .map_err(|no| (no.refusal.code(), no.place)),
             ),
             independent: Reported(independent.map_err(|no| (no.refusal.code(), no.place))),
         }
@@ -95,12 +105,15 @@ impl Asked<'_> {
         answers::write_both(
             buffer,
             |out| trawlbeacon::cut_run(self.pile, self.answers, out),
-            |out| report::cut(self.pile, self.answers, out).map(|(first, last)| Run { first, last }),
+            |out| {
+                report::cut(self.pile, self.answers, out).map(|(first, last)| Run { first, last })
+            },
         )
     }
 
-    /// What is wrong with the fields that the functions of hosts/rust do not show, or not whole: all but the code and the place must be
-    /// 0 where a call is refused, and the place too where no record is at fault.
+    /// What is wrong with the fields that the functions of hosts/rust do not show, or not whole:
+    /// all but the code and the place must be 0 where a call is refused, and the place too where no
+    /// record is at fault.
     pub fn unseen_fields(self, place: usize, out: &mut [u8]) -> Option<String> {
         let ((start, n), (start_too, m)) =
             ((self.pile.as_ptr(), self.pile.len()), (self.answers.as_ptr(), self.answers.len()));
@@ -112,12 +125,10 @@ impl Asked<'_> {
                 raw::tb_cut_run(start, n, start_too, m, out.as_mut_ptr(), out.len()),
             )
         };
-        let radi_fits = judged.radi <= u32::MAX.into();
-        let no_window = [judged.midp, judged.radi, judged.low, judged.high] == [0; 4];
+        let no_window = [judged.midp, judged.radi.into(), judged.low, judged.high] == [0; 4];
         let no_pair = (reported.first, reported.second) == (0, 0);
         let of_a_record = !matches!(reported.code, 0 | 15 | 18);
         let right = judged.place == place as u64
-            && radi_fits
             && (judged.code == 0 || no_window)
             && (reported.code == 0 || no_pair)
             && (of_a_record || reported.place == 0)

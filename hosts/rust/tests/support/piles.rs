@@ -1,7 +1,8 @@
 //! Piles of which it is known what must be said of them, since it is known how they were made.
 //!
-//! A record is first wished for, then made as a pair with the nonce that ties it to the record before it, broken as wished, and
-//! laid into its bytes. No reader's help is needed to know what it must be refused with.
+//! A record is first wished for, then made as a pair with the nonce that ties it to the record
+//! before it, broken as wished, and laid into its bytes. No reader's help is needed to know what it
+//! must be refused with.
 
 use super::damage;
 use super::packets::{RequestFields, ResponseFields};
@@ -31,8 +32,14 @@ pub enum Tie {
 }
 
 /// Every tie that is no link.
-pub const BROKEN: [Tie; 6] =
-    [Tie::OtherNonce, Tie::OtherRand, Tie::OtherResponse, Tie::WithoutHeader, Tie::RandFirst, Tie::WholeArea];
+pub const BROKEN: [Tie; 6] = [
+    Tie::OtherNonce,
+    Tie::OtherRand,
+    Tie::OtherResponse,
+    Tie::WithoutHeader,
+    Tie::RandFirst,
+    Tie::WholeArea,
+];
 
 /// What is to stand in a record.
 #[derive(Clone, Debug)]
@@ -91,12 +98,14 @@ pub struct Truth {
 
 /// Whether these windows contradict each other, with all terms on the side on which they are added.
 pub fn contradicts(earlier: &Window, later: &Window) -> bool {
-    u128::from(earlier.midp) > u128::from(later.midp) + u128::from(later.radi) + u128::from(earlier.radi)
+    u128::from(earlier.midp)
+        > u128::from(later.midp) + u128::from(later.radi) + u128::from(earlier.radi)
 }
 
 impl Truth {
-    /// The run that convicts. Every pair that contradicts each other across valid and linked records is found, and then the closest
-    /// is taken: a run is the shortest only where its ends are such a pair.
+    /// The run that convicts. Every pair that contradicts each other across valid and linked
+    /// records is found, and then the closest is taken: a run is the shortest only where its ends
+    /// are such a pair.
     pub fn run(&self) -> Option<(usize, usize)> {
         let mut found = Vec::new();
         for first in 0..self.verdicts.len() {
@@ -105,7 +114,9 @@ impl Truth {
                     break;
                 }
                 match (&self.verdicts[first], &self.verdicts[last]) {
-                    (Ok(earlier), Ok(later)) if contradicts(earlier, later) => found.push((first, last)),
+                    (Ok(earlier), Ok(later)) if contradicts(earlier, later) => {
+                        found.push((first, last))
+                    }
                     (Ok(_), Ok(_)) => (),
                     _ => break,
                 }
@@ -119,7 +130,8 @@ impl Truth {
         for (place, verdict) in self.verdicts.iter().enumerate() {
             verdict.map_err(|code| (code, Some(place)))?;
         }
-        let tied = |place: usize| if place == 0 { self.first_rand_zero } else { self.linked[place] };
+        let tied =
+            |place: usize| if place == 0 { self.first_rand_zero } else { self.linked[place] };
         match (0..self.verdicts.len()).find(|place| !tied(*place)) {
             Some(place) => Err((17, Some(place))),
             None => self.run().ok_or((18, None)),
@@ -178,8 +190,10 @@ impl Builder {
         if wish.bad_layout || request.len().max(response.len()) > packet::MOST {
             due = Some(16);
         }
-        let asked = packet_in(&record, REQUEST).map_or(false, |packet| packet == request) && !wish.bad_request;
-        let linked = tie == Tie::Linked && self.before.is_some() && asked && pair.request.nonc == nonce;
+        let asked = packet_in(&record, REQUEST).map_or(false, |packet| packet == request)
+            && !wish.bad_request;
+        let linked =
+            tie == Tie::Linked && self.before.is_some() && asked && pair.request.nonc == nonce;
         self.before = packet_in(&record, RESPONSE);
         self.truth.verdicts.push(due.map_or(Ok(pair.window()), Err));
         self.truth.linked.push(linked);
@@ -191,7 +205,8 @@ impl Builder {
 /// The nonce that ties a request to the response before it in this way.
 fn nonce(random: &mut Xorshift, tie: Tie, before: &[u8], rand: &mut Hash) -> Hash {
     let linked = hash::link(before, rand);
-    // In a response as short or as long as this, some of the wrong ways are no other than the right one.
+    // In a response as short or as long as this, some of the wrong ways are no other than the right
+    // one.
     let usual = before.len() > packet::HEADER && before.len() < packet::MOST;
     match tie {
         Tie::Linked => linked,
@@ -226,7 +241,13 @@ fn pair(random: &mut Xorshift, wish: &Wish, nonce: Hash) -> Pair {
 
 /// A pair with no tag that is not needed.
 fn plain(random: &mut Xorshift, depth: usize) -> Pair {
-    let request = RequestFields { versions: vec![1], srv: None, nonc: random.array(), type_number: 0, others: vec![] };
+    let request = RequestFields {
+        versions: vec![1],
+        srv: None,
+        nonc: random.array(),
+        type_number: 0,
+        others: vec![],
+    };
     let response = ResponseFields {
         sig: random.bytes(64),
         nonc: request.nonc,
@@ -247,7 +268,8 @@ fn plain(random: &mut Xorshift, depth: usize) -> Pair {
     Pair { request, response, delegation: true, signature: true }
 }
 
-/// The bytes of a record. A packet that is too long for its area is cut off there, and its length is told as it is.
+/// The bytes of a record. A packet that is too long for its area is cut off there, and its length
+/// is told as it is.
 fn lay(random: &mut Xorshift, rand: &Hash, packets: [&[u8]; 2]) -> Vec<u8> {
     let [request, response] = packets.map(|packet| &packet[..packet.len().min(packet::MOST)]);
     let mut record = making::record(&random.array(), rand, request, response);
@@ -271,7 +293,8 @@ fn packet_in(record: &[u8], which: usize) -> Option<Vec<u8>> {
 /// Lengths that no packet may have.
 const TOO_LONG: [usize; 6] = [2001, 2048, 2304, 1 << 16, 1 << 24, u32::MAX as usize];
 
-/// Gives a record a length above 2,000, or a byte that is not zero and must be, at any place where there can be one.
+/// Gives a record a length above 2,000, or a byte that is not zero and must be, at any place where
+/// there can be one.
 fn spoil_layout(random: &mut Xorshift, record: &mut [u8]) {
     let which = random.pick(&[REQUEST, RESPONSE]);
     let packet = packet_in(record, which).unwrap_or_default();

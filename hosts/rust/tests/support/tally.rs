@@ -22,12 +22,20 @@ impl Tally {
     }
 
     pub fn count(&mut self, column: &str, row: u32) {
-        let rows = self.columns.iter_mut().find(|named| named.0 == column).map(|named| &mut named.1);
+        let rows =
+            self.columns.iter_mut().find(|named| named.0 == column).map(|named| &mut named.1);
         *rows.unwrap_or_else(|| panic!("there is no column {column}")).entry(row).or_insert(0) += 1;
     }
 
-    /// Counts an answer, and keeps it where the sides differ from each other or from the code that is due.
-    pub fn answer<T: Answer>(&mut self, column: &str, both: &Both<T>, due: Option<u32>, input: impl Fn() -> String) {
+    /// Counts an answer, and keeps it where the sides differ from each other or from the code that
+    /// is due.
+    pub fn answer<T: Answer>(
+        &mut self,
+        column: &str,
+        both: &Both<T>,
+        due: Option<u32>,
+        input: impl Fn() -> String,
+    ) {
         self.count(column, both.independent.code());
         let agree = both.ours == both.independent;
         if agree && due.map_or(true, |code| code == both.independent.code()) {
@@ -35,7 +43,10 @@ impl Tally {
         }
         let due = due.map_or(String::new(), |code| format!("\n  code due    {code}"));
         let (ours, independent) = (both.ours.show(), both.independent.show());
-        self.differs(format!("{column}: {}\n  ours        {ours}\n  independent {independent}{due}", input()));
+        self.differs(format!(
+            "{column}: {}\n  ours        {ours}\n  independent {independent}{due}",
+            input()
+        ));
     }
 
     /// How many were counted, in all columns.
@@ -62,9 +73,11 @@ impl Tally {
                 .collect();
             format!("{first:<6}{cells}\n")
         };
-        let mut table = line(corner.to_string(), self.columns.iter().map(|named| named.0.clone()).collect());
+        let mut table =
+            line(corner.to_string(), self.columns.iter().map(|named| named.0.clone()).collect());
         for row in rows {
-            let counts = self.columns.iter().map(|named| named.1.get(&row).unwrap_or(&0).to_string());
+            let counts =
+                self.columns.iter().map(|named| named.1.get(&row).unwrap_or(&0).to_string());
             table += &line(row.to_string(), counts.collect());
         }
         table
@@ -72,10 +85,14 @@ impl Tally {
 
     /// Stops the test where one of `rows` was met fewer than `least` times in a column.
     pub fn at_least(&self, least: usize, column: &str, rows: impl IntoIterator<Item = u32>) {
-        let named = self.columns.iter().find(|named| named.0 == column).expect("the column is there");
+        let named =
+            self.columns.iter().find(|named| named.0 == column).expect("the column is there");
         for row in rows {
             let count = *named.1.get(&row).unwrap_or(&0);
-            assert!(count >= least, "{column}: {row} was met {count} times, and {least} are needed");
+            assert!(
+                count >= least,
+                "{column}: {row} was met {count} times, and {least} are needed"
+            );
         }
     }
 

@@ -56,12 +56,14 @@ pub struct Walk {
 }
 
 impl Walk {
-    /// The walk from `leaf` to where these siblings lead by the rule: at a bit of 0 the sibling goes first.
+    /// The walk from `leaf` to where these siblings lead by the rule: at a bit of 0 the sibling
+    /// goes first.
     pub fn right(leaf: Hash, indx: u32, path: &[Hash]) -> Self {
         let mut root = leaf;
         for (step, sibling) in path.iter().enumerate() {
             let bit = u64::from(indx) >> step & 1;
-            root = if bit == 0 { hash::parent(sibling, &root) } else { hash::parent(&root, sibling) };
+            root =
+                if bit == 0 { hash::parent(sibling, &root) } else { hash::parent(&root, sibling) };
         }
         Walk { leaf, indx, path: path.concat(), root }
     }
@@ -74,11 +76,15 @@ impl Walk {
 
 pub fn leads(walk: &Walk) -> Both<bool> {
     let Walk { leaf, indx, path, root } = walk;
-    Both { ours: trawlbeacon::leads(leaf, *indx, path, root), independent: tree::leads(leaf, *indx, path, root) }
+    Both {
+        ours: trawlbeacon::leads(leaf, *indx, path, root),
+        independent: tree::leads(leaf, *indx, path, root),
+    }
 }
 
 pub fn root(leaves: &[u8]) -> Both<Result<Rooted, u32>> {
-    let independent = Tree::build(leaves).map(|tree| Rooted { depth: tree.depth(), root: tree.root() });
+    let independent =
+        Tree::build(leaves).map(|tree| Rooted { depth: tree.depth(), root: tree.root() });
     Both {
         ours: trawlbeacon::root(leaves).map_err(trawlbeacon::Refusal::code),
         independent: independent.map_err(Refusal::code),
@@ -120,8 +126,9 @@ pub fn rows(leaves: &[u8], buffer: &[u8]) -> Both<Written<Depth>> {
     )
 }
 
-/// What is wrong with the fields that the functions of hosts/rust never show, or not whole: those of a refused call must be 0, and
-/// those of another within their bounds. The bytes are taken for leaves and for rows.
+/// What is wrong with the fields that the functions of hosts/rust never show, or not whole: those
+/// of a refused call must be 0, and those of another within their bounds. The bytes are taken for
+/// leaves and for rows.
 pub fn unseen_fields(bytes: &[u8], count: usize, place: usize) -> Option<String> {
     let (start, n) = (bytes.as_ptr(), bytes.len());
     let mut out = [0; trawlbeacon::MOST_ROWS_LENGTH];
@@ -131,8 +138,9 @@ pub fn unseen_fields(bytes: &[u8], count: usize, place: usize) -> Option<String>
         // SAFETY: the library only reads the bytes, and only writes `out`.
         let (rooted, laid) = unsafe { (raw::tb_root(start, n), raw::tb_rows(start, n, to, m)) };
         // SAFETY: as before.
-        let placed =
-            unsafe { [raw::tb_path(start, n, place, to, m), raw::tb_path_from(start, n, count, place, to, m)] };
+        let placed = unsafe {
+            [raw::tb_path(start, n, place, to, m), raw::tb_path_from(start, n, count, place, to, m)]
+        };
         let root_is_zero = rooted.root == [0; 32];
         let right = fits(rooted.code, 0, rooted.depth)
             && fits(laid.code, 0, laid.depth)
@@ -146,7 +154,7 @@ pub fn unseen_fields(bytes: &[u8], count: usize, place: usize) -> Option<String>
 }
 
 /// Whether an answer of this code can have this number and depth.
-fn fits(code: u64, indx: u64, depth: u64) -> bool {
+fn fits(code: u32, indx: u32, depth: u32) -> bool {
     match code {
         0 => depth <= 6 && indx < 1 << depth,
         19 | 20 => (indx, depth) == (0, 0),

@@ -1,28 +1,23 @@
 -- `capi::building::path_told` meets its contract.
--- Assumes nothing.
 use mathlib.Core.Path.{sym, ap}
-use Rattle.tree.specs.Answers.{placedTold}
-use Rattle.tree.specs.declared.Placed.{Placed}
-use Rattle.capi.specs.Building.{pathBuilt}
+use Rattle.capi.specs.Building.{tbPlaced}
 use borrow.Author.Needs.{needs}
 use Rattle.capi.proofs.building.path_told.Statement.{statement}
 use Rattle.capi.proofs.building.path_told.Tie as tie
 
 returns : tie.Need-returns
-returns c = sym (ap (λ (x : Placed). pathBuilt (placedTold x)) (c .before .p .given .1))
+returns c = sym (ap tbPlaced (c .before .p .given .1))
 
 returns-2 : tie.Need-returns-2
-returns-2 c = sym (ap (λ (x : Placed). pathBuilt (placedTold x)) (c .enum-told .given .1))
+returns-2 c = sym (ap tbPlaced (c .enum-told .given .1))
 
 returns-3 : tie.Need-returns-3
-returns-3 c = sym (ap (λ (x : Placed). pathBuilt (placedTold x)) (c .enum-told2 .given .1))
+returns-3 c = sym (ap tbPlaced (c .enum-told2 .given .1))
 
 pub path-told-spec : {M : Type 1} → statement M
 path-told-spec =
     tie.close
     (tie.spec
-    (λ c. search needs)
-    (λ c. search needs)
     (λ c. search needs)
     (λ c. search needs)
     (λ c. search needs)

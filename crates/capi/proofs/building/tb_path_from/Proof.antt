@@ -1,20 +1,17 @@
 -- `capi::building::tb_path_from` meets its contract.
--- Assumes nothing.
-use mathlib.Core.Path.{ap, _∙_}
-use mathlib.Core.List.{List}
-use Prim.Native.Nat.{ℕ}
-use Rattle.tree.specs.Answers.{fromBytes, after}
-use Rattle.capi.specs.Building.{pathBuilt}
 use borrow.Author.Needs.{needs}
 use Rattle.capi.proofs.building.tb_path_from.Statement.{statement}
 use Rattle.capi.proofs.building.tb_path_from.Tie as tie
 
 returns : tie.Need-returns
 returns c =
-    let t = c .before .before .before in
-    let a = t .before .before .before .before .args in
-    let e = t .path-from .ensures in
-    (c .path-told .ensures ∙ ap pathBuilt (e .0), e .1 ∙ ap (λ (told : List ℕ). after told (fromBytes (a .rows .now) (a .count) (a .place)) (a .out .now)) (e .0))
+    let called = c .before .before .before .path-from in
+    record {
+      answer = called .result;
+      right = called .ensures .0;
+      same = c .path-told .ensures;
+      left = called .ensures .1;
+    }
 
 pub tb-path-from-spec : {M : Type 1} → statement M
 tb-path-from-spec =

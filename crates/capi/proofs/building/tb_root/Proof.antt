@@ -1,5 +1,4 @@
 -- `capi::building::tb_root` meets its contract.
--- Assumes nothing.
 use borrow.Author.Needs.{needs}
 use Rattle.capi.proofs.building.tb_root.Statement.{statement}
 use Rattle.capi.proofs.building.tb_root.Tie as tie
@@ -12,6 +11,5 @@ tb-root-spec =
     tie.close
     (tie.spec
     (λ c κs. search needs)
-    (λ c. search needs)
-    (λ c. search needs)
+    (λ c κs. search needs)
     returns)

@@ -1,30 +1,33 @@
 -- `capi::finding::tb_find_server` meets its contract.
--- Assumes nothing.
-use mathlib.Core.Path.{sym, ap, _∙_}
+use mathlib.Core.Path.{refl}
 use native.Mathlib.Omega.{arith}
-use Rattle.servers.proofs.Matching.{within-at}
-use Rattle.capi.specs.Finding.{serverFound}
+use Rattle.servers.proofs.Matching.{within-owner, within-shipped}
+use Rattle.servers.proofs.Seeking.{sought-at}
+use Rattle.capi.specs.Finding.{tbFound}
 use borrow.Author.Needs.{needs}
 use Rattle.capi.proofs.finding.tb_find_server.Statement.{statement}
 use Rattle.capi.proofs.finding.tb_find_server.Tie as tie
 
 mul-t9 : tie.Need-mul-t9
-mul-t9 c = omega (arith, within-at _ _ _ (sym (c .before .before .before .search .ensures) ∙ c .before .found .given .1))
+mul-t9 c =
+    omega (arith, within-owner _ _ _ (c .before .found .given .1) (c .before .before .before .search .ensures))
 
 mul-t11 : tie.Need-mul-t11
-mul-t11 c = omega (arith, within-at _ _ _ (sym (c .before .before .before .search .ensures) ∙ c .before .found2 .given .1))
+mul-t11 c =
+    omega (arith, within-shipped _ _ _ (c .before .found2 .given .1) (c .before .before .before .search .ensures))
 
 returns : tie.Need-returns
-returns c = sym (ap serverFound (sym (c .before .before .before .search .ensures) ∙ c .before .found .given .1))
+returns c = sought-at _ _ _ tbFound _ (c .before .found .given .1) (c .before .before .before .search .ensures) refl
 
 returns-2 : tie.Need-returns-2
-returns-2 c = sym (ap serverFound (sym (c .before .before .before .search .ensures) ∙ c .before .found2 .given .1))
+returns-2 c =
+    sought-at _ _ _ tbFound _ (c .before .found2 .given .1) (c .before .before .before .search .ensures) refl
 
 returns-3 : tie.Need-returns-3
-returns-3 c = sym (ap serverFound (sym (c .before .before .search .ensures) ∙ c .enum-told .given .1))
+returns-3 c = sought-at _ _ _ tbFound _ (c .enum-told .given .1) (c .before .before .search .ensures) refl
 
 returns-4 : tie.Need-returns-4
-returns-4 c = sym (ap serverFound (sym (c .before .before .search .ensures) ∙ c .enum-told2 .given .1))
+returns-4 c = sought-at _ _ _ tbFound _ (c .enum-told2 .given .1) (c .before .before .search .ensures) refl
 
 pub tb-find-server-spec : {M : Type 1} → statement M
 tb-find-server-spec =

@@ -1,5 +1,6 @@
 -- `capi::judging::tb_check_response` meets its contract.
--- Assumes nothing.
+use mathlib.Core.Path.{ap, _∙_}
+use Rattle.capi.specs.Judging.{tbVerdict}
 use borrow.Author.Needs.{needs}
 use Rattle.capi.proofs.judging.tb_check_response.Statement.{statement}
 use Rattle.capi.proofs.judging.tb_check_response.Tie as tie
@@ -11,6 +12,8 @@ pub tb-check-response-spec : {M : Type 1} → statement M
 tb-check-response-spec =
     tie.close
     (tie.spec
+    (λ c κs. search needs)
+    (λ c κs. search needs)
     (λ c κs. search needs)
     (λ c κs. search needs)
     returns)

@@ -1,5 +1,4 @@
 -- `capi::piling::tb_contradicts` meets its contract.
--- Assumes nothing.
 use borrow.Author.Needs.{needs}
 use Rattle.capi.proofs.piling.tb_contradicts.Statement.{statement}
 use Rattle.capi.proofs.piling.tb_contradicts.Tie as tie

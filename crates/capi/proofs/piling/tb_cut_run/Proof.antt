@@ -1,5 +1,4 @@
 -- `capi::piling::tb_cut_run` meets its contract.
--- Assumes nothing.
 use borrow.Author.Needs.{needs}
 use Rattle.capi.proofs.piling.tb_cut_run.Statement.{statement}
 use Rattle.capi.proofs.piling.tb_cut_run.Tie as tie

@@ -1,7 +1,6 @@
 -- `capi::piling::tb_judge` meets its contract.
--- Assumes nothing.
 use mathlib.Core.Path.{ap, _∙_}
-use Rattle.capi.specs.Piling.{placed, recordJudged}
+use Rattle.capi.specs.Piling.{placed, tbJudged}
 use borrow.Author.Needs.{needs}
 use Rattle.capi.proofs.piling.tb_judge.Statement.{statement}
 use Rattle.capi.proofs.piling.tb_judge.Tie as tie
@@ -9,7 +8,7 @@ use Rattle.capi.proofs.piling.tb_judge.Tie as tie
 returns : tie.Need-returns
 returns c =
     let judgement = c .before .judge in
-    ap (placed (judgement .result .place)) (c .verdict-told .ensures) ∙ ap recordJudged (judgement .ensures)
+    ap (placed (judgement .result .place)) (c .verdict-told .ensures) ∙ ap tbJudged (judgement .ensures .1)
 
 pub tb-judge-spec : {M : Type 1} → statement M
 tb-judge-spec =

@@ -1,5 +1,4 @@
 -- `capi::reading::tb_read_request` meets its contract.
--- Assumes nothing.
 use borrow.Author.Needs.{needs}
 use Rattle.capi.proofs.reading.tb_read_request.Statement.{statement}
 use Rattle.capi.proofs.reading.tb_read_request.Tie as tie

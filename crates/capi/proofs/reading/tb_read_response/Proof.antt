@@ -1,5 +1,4 @@
 -- `capi::reading::tb_read_response` meets its contract.
--- Assumes nothing.
 use borrow.Author.Needs.{needs}
 use Rattle.capi.proofs.reading.tb_read_response.Statement.{statement}
 use Rattle.capi.proofs.reading.tb_read_response.Tie as tie

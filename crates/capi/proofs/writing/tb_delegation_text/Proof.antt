@@ -1,19 +1,15 @@
 -- `capi::writing::tb_delegation_text` meets its contract.
--- Assumes nothing.
 use mathlib.Core.Path.{ap, _∙_}
-use Rattle.writer.specs.Signing.{delegationText, textLeft}
-use Rattle.writer.specs.declared.Text.{Text}
-use Rattle.capi.specs.Writing.{textWritten}
+use Rattle.capi.specs.Writing.{tbWrote}
 use borrow.Author.Needs.{needs}
 use Rattle.capi.proofs.writing.tb_delegation_text.Statement.{statement}
 use Rattle.capi.proofs.writing.tb_delegation_text.Tie as tie
 
 returns : tie.Need-returns
 returns c =
-    let at-text = c .before .before .before in
-    let a = at-text .before .before .before .before .args in
-    let e = at-text .delegation-text .ensures in
-    (c .told .ensures ∙ ap textWritten (e .0), e .1 ∙ ap (λ (r : Text). textLeft r (delegationText (a .packet .now)) (a .out .now)) (e .0))
+    let e = c .before .before .before .delegation-text .ensures in
+    let is = c .told .ensures in
+    (is ∙ ap tbWrote (e .0), rw is (e .1))
 
 pub tb-delegation-text-spec : {M : Type 1} → statement M
 tb-delegation-text-spec =

@@ -1,10 +1,8 @@
 -- `console::lines::put_record` meets its contract, by the verdict.
--- Assumes nothing.
 use mathlib.Core.Path.{sym, ap}
-use native.Mathlib.Omega.{arith}
 use Rattle.verdict.specs.declared.Verdict.{Verdict}
 use Rattle.console.specs.Text.{recordLine}
-use Rattle.console.proofs.Joined.{puts-more, puts-as}
+use Rattle.laws.proofs.Written.{puts-as}
 use borrow.Author.Needs.{needs}
 use Rattle.console.proofs.lines.put_record.Statement.{statement}
 use Rattle.console.proofs.lines.put_record.Tie as tie
@@ -18,13 +16,10 @@ returns c =
 
 returns-2 : tie.Need-returns-2
 returns-2 c =
-    let v = c .before .before .before .before .before .before .before .before .before .before .before .before .before .before .before .v2 .given .1 in
-    let k = c .before .before .before .before .before .before .before .before .before .before .before .before .before .before .before .before .before .before .args .k in
-    let p1 = c .before .before .before .before .before .before .before .before .before .before .before .before .put-number .ensures in
-    let p2 = c .before .before .before .before .before .before .before .put-word .ensures in
-    let p3 = c .before .before .put-labelled .ensures in
-    let q = puts-more (puts-more (p1 .0) p2) (p3 .0) in
-    (puts-as (ap (λ (w : Verdict). recordLine k w) (sym v)) q, omega (arith, p1 .1, p2 .ends, p3 .1))
+    let v = c .before .before .before .before .before .v2 .given .1 in
+    let p = c .before .before .put-refusal .ensures in
+    let k = c .before .before .before .before .before .before .before .before .args .k in
+    (puts-as (ap (λ (w : Verdict). recordLine k w) (sym v)) (p .0), p .1)
 
 pub put-record-spec : {M : Type 1} → statement M
 put-record-spec =
@@ -32,11 +27,6 @@ put-record-spec =
     (tie.spec
     (λ c. search needs)
     (λ c κs. search needs)
-    (λ c. search needs)
-    (λ c κs. search needs)
-    (λ c. search needs)
-    (λ c κs. search needs)
-    (λ c. search needs)
     (λ c. search needs)
     (λ c κs. search needs)
     (λ c. search needs)

@@ -1,8 +1,7 @@
 -- `console::lines::put_run` meets its contract. Its pieces follow each other.
--- Assumes nothing.
 use native.Mathlib.Omega.{arith}
 use Rattle.console.specs.Text.{runLine}
-use Rattle.console.proofs.Joined.{puts-more}
+use Rattle.laws.proofs.Written.{puts-more}
 use borrow.Author.Needs.{needs}
 use Rattle.console.proofs.lines.put_run.Statement.{statement}
 use Rattle.console.proofs.lines.put_run.Tie as tie
@@ -10,8 +9,11 @@ use Rattle.console.proofs.lines.put_run.Tie as tie
 returns : tie.Need-returns
 unfolding runLine
 returns c =
-    let p1 = c .before .before .before .before .before .before .before .before .before .before .before .before .before .before .before .put-word .ensures in
-    let p2 = c .before .before .before .before .before .before .before .before .before .before .before .put-spaced .ensures in
+    let p1 =
+    c .before .before .before .before .before .before .before .before .before .before .before .before .before .before
+    .before .put-word .ensures in
+    let p2 =
+    c .before .before .before .before .before .before .before .before .before .before .before .put-spaced .ensures in
     let p3 = c .before .before .before .before .before .before .before .put-spaced2 .ensures in
     let p4 = c .before .before .put-word2 .ensures in
     (puts-more (puts-more (puts-more p1 (p2 .0)) (p3 .0)) p4, omega (arith, p1 .ends, p2 .1, p3 .1, p4 .ends))

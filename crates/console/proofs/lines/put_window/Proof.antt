@@ -1,8 +1,7 @@
 -- `console::lines::put_window` meets its contract. Its pieces follow each other.
--- Assumes nothing.
 use native.Mathlib.Omega.{arith}
 use Rattle.console.specs.Text.{windowLine}
-use Rattle.console.proofs.Joined.{puts-more}
+use Rattle.laws.proofs.Written.{puts-more}
 use borrow.Author.Needs.{needs}
 use Rattle.console.proofs.lines.put_window.Statement.{statement}
 use Rattle.console.proofs.lines.put_window.Tie as tie
@@ -10,12 +9,19 @@ use Rattle.console.proofs.lines.put_window.Tie as tie
 returns : tie.Need-returns
 unfolding windowLine
 returns c =
-    let p1 = c .before .before .before .before .before .before .before .before .before .before .before .before .before .before .before .before .before .before .before .before .put-number .ensures in
-    let p2 = c .before .before .before .before .before .before .before .before .before .before .before .before .before .before .before .put-word .ensures in
-    let p3 = c .before .before .before .before .before .before .before .before .before .before .before .put-spaced .ensures in
+    let p1 =
+    c .before .before .before .before .before .before .before .before .before .before .before .before .before .before
+    .before .before .before .before .before .before .put-number .ensures in
+    let p2 =
+    c .before .before .before .before .before .before .before .before .before .before .before .before .before .before
+    .before .put-word .ensures in
+    let p3 =
+    c .before .before .before .before .before .before .before .before .before .before .before .put-spaced .ensures in
     let p4 = c .before .before .before .before .before .before .before .put-spaced2 .ensures in
-    let p5 = c .before .before .put-word2 .ensures in
-    (puts-more (puts-more (puts-more (puts-more (p1 .0) p2) (p3 .0)) (p4 .0)) p5, omega (arith, p1 .1, p2 .ends, p3 .1, p4 .1, p5 .ends))
+    let p5 = c .before .before .put-word2 .ensures in (
+      puts-more (puts-more (puts-more (puts-more (p1 .0) p2) (p3 .0)) (p4 .0)) p5,
+      omega (arith, p1 .1, p2 .ends, p3 .1, p4 .1, p5 .ends),
+    )
 
 pub put-window-spec : {M : Type 1} → statement M
 put-window-spec =

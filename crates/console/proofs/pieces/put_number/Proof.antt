@@ -1,8 +1,7 @@
 -- `console::pieces::put_number` meets its contract. The digits are the number's.
--- Assumes nothing.
 use mathlib.Core.Path.{_∙_}
 use native.Mathlib.Omega.{arith}
-use Rattle.console.proofs.Joined.{puts-as}
+use Rattle.laws.proofs.Written.{puts-as}
 use Rattle.console.proofs.Decimals.{decimal-short, decimal-is}
 use borrow.Author.Needs.{needs}
 use Rattle.console.proofs.pieces.put_number.Statement.{statement}

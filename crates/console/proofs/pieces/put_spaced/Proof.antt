@@ -1,8 +1,7 @@
 -- `console::pieces::put_spaced` meets its contract. The number follows the space.
--- Assumes nothing.
 use native.Mathlib.Omega.{arith}
 use Rattle.console.specs.Text.{spaced}
-use Rattle.console.proofs.Joined.{puts-more}
+use Rattle.laws.proofs.Written.{puts-more}
 use borrow.Author.Needs.{needs}
 use Rattle.console.proofs.pieces.put_spaced.Statement.{statement}
 use Rattle.console.proofs.pieces.put_spaced.Tie as tie

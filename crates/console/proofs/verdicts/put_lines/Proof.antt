@@ -1,5 +1,5 @@
--- `console::verdicts::put_lines` meets its contract. The lines of the records that were passed are put, each of 66 bytes at most.
--- Assumes nothing.
+-- `console::verdicts::put_lines` meets its contract. The lines of the records that were passed are put, each of 66
+-- bytes at most.
 use mathlib.Core.Path.{_≡_, ap}
 use mathlib.Core.List.{_++_}
 use Prim.Native.Nat.{ℕ, suc, _+_, _*_, _-_, _≤_}
@@ -7,9 +7,9 @@ use native.Mathlib.Omega.{arith}
 use Rattle.verdict.specs.declared.Verdict.{Verdict}
 use Rattle.pile.specs.declared.Judgement.{Judgement}
 use Rattle.report.specs.Report.{judged}
-use Rattle.console.specs.Puts.{Puts}
+use Rattle.laws.specs.Written.{Puts}
 use Rattle.console.specs.Text.{recordLine, recordLines}
-use Rattle.console.proofs.Joined.{puts-none, puts-length, puts-more, puts-as}
+use Rattle.laws.proofs.Written.{puts-none, puts-length, puts-more, puts-as}
 use borrow.Author.Needs.{needs}
 use Rattle.console.proofs.verdicts.put_lines.Statement.{statement}
 use Rattle.console.proofs.verdicts.put_lines.Tie as tie
@@ -22,7 +22,8 @@ lines-more v k =
     ap (recordLines v) e
 
 abbrev Inv-loop : tie.InvT-loop
-Inv-loop pile answers n out₀ at end₀ k₀ out end k = (k ≤ n) × (end ≤ at + 66 * k) × Puts out₀ at (recordLines (judged pile answers) k) out end
+Inv-loop pile answers n out₀ at end₀ k₀ out end k =
+    (k ≤ n) × (end ≤ at + 66 * k) × Puts out₀ at (recordLines (judged pile answers) k) out end
 
 abbrev μ-loop : tie.MeasureT-loop
 μ-loop pile answers n out₀ at end₀ k₀ out end k = n - k
@@ -40,11 +41,12 @@ loop-again : tie.Need-loop-again Inv-loop μ-loop
 loop-again c =
     let i = c .before .before .before .before .before .before .loop .inv in
     let k = c .before .before .before .before .before .before .loop .k in
-    let j = c .before .before .before .before .judge .ensures in
+    let j = c .before .before .before .before .judge .ensures .1 in
     let p = c .before .before .put-record .ensures in (
       omega arith,
       omega (arith, i .1, p .1),
-      puts-as (lines-more _ k) (puts-more (i .2) (puts-as (ap (λ (r : Judgement). recordLine k (r .verdict)) j) (p .0))),
+      puts-as (lines-more _ k)
+          (puts-more (i .2) (puts-as (ap (λ (r : Judgement). recordLine k (r .verdict)) j) (p .0))),
     )
 
 returns : tie.Need-returns Inv-loop μ-loop

@@ -1,7 +1,6 @@
 -- `console::verdicts::put_records` meets its contract. The records follow their count.
--- Assumes nothing.
 use native.Mathlib.Omega.{arith}
-use Rattle.console.proofs.Joined.{puts-more}
+use Rattle.laws.proofs.Written.{puts-more}
 use borrow.Author.Needs.{needs}
 use Rattle.console.proofs.verdicts.put_records.Statement.{statement}
 use Rattle.console.proofs.verdicts.put_records.Tie as tie
@@ -13,4 +12,5 @@ returns c =
     (puts-more (p1 .0) (p2 .0), omega (arith, p1 .1, p2 .1))
 
 pub put-records-spec : {M : Type 1} → statement M
-put-records-spec = tie.close (tie.spec (λ c. search needs) (λ c κs. search needs) (λ c κs. search needs) (λ c. search needs) returns)
+put-records-spec =
+    tie.close (tie.spec (λ c. search needs) (λ c κs. search needs) (λ c κs. search needs) (λ c. search needs) returns)

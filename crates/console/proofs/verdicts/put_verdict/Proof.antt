@@ -1,20 +1,20 @@
--- `console::verdicts::put_verdict` meets its contract, by what the cutter answered. Where it did not refuse, the pile is good, and has sixteen
--- records at most.
--- Assumes nothing.
+-- `console::verdicts::put_verdict` meets its contract, by what the cutter answered. Where it did not refuse, the pile
+-- is good, and has sixteen records at most.
 use mathlib.Core.Path.{_≡_, sym, ap}
 use mathlib.Core.List.{List}
 use Prim.Native.Nat.{ℕ}
 use native.Mathlib.Omega.{arith}
 use Rattle.report.specs.declared.Taken.{Taken}
-use Rattle.console.specs.Puts.{Puts}
+use Rattle.laws.specs.Written.{Puts}
 use Rattle.console.specs.Text.{verdictText}
-use Rattle.console.proofs.Joined.{puts-more, puts-as}
+use Rattle.laws.proofs.Written.{puts-more, puts-as}
 use borrow.Author.Needs.{needs}
 use Rattle.console.proofs.verdicts.put_verdict.Statement.{statement}
 use Rattle.console.proofs.verdicts.put_verdict.Tie as tie
 
 -- the text of an answer t, where it is known which that is
-told : {t u : Taken} {o d : List ℕ} {e : ℕ} (pile answers : List ℕ) → t ≡ u → Puts o 0 (verdictText pile answers u) d e → Puts o 0 (verdictText pile answers t) d e
+told : {t u : Taken} {o d : List ℕ} {e : ℕ} (pile answers : List ℕ) → t ≡ u → Puts o 0 (verdictText pile answers u) d e
+    → Puts o 0 (verdictText pile answers t) d e
 told pile answers h p = puts-as (ap (verdictText pile answers) (sym h)) p
 
 put-records-requires : tie.Need-put-records-requires
@@ -31,27 +31,37 @@ put-records-requires-2 c κs =
 
 returns : tie.Need-returns
 returns c =
-    let a = c .before .before .before .before .before .before .before .before .before .before .before .before .before .before .args in
+    let a =
+    c .before .before .before .before .before .before .before .before .before .before .before .before .before .before
+    .args in
     let p1 = c .before .before .before .before .before .before .put-records .ensures in
     let p2 = c .before .before .put-run .ensures in
-    told (a .pile .now) (a .answers .now) (c .before .before .before .before .before .before .before .before .before .taken .given .1) (puts-more (p1 .0) (p2 .0))
+    told (a .pile .now) (a .answers .now)
+    (c .before .before .before .before .before .before .before .before .before .taken .given .1)
+    (puts-more (p1 .0) (p2 .0))
 
 returns-2 : tie.Need-returns-2
 returns-2 c =
-    let a = c .before .before .before .before .before .before .before .before .before .before .before .before .before .before .args in
+    let a =
+    c .before .before .before .before .before .before .before .before .before .before .before .before .before .before
+    .args in
     let p1 = c .before .before .before .before .before .before .before .put-records2 .ensures in
     let p2 = c .before .before .put-word .ensures in
-    told (a .pile .now) (a .answers .now) (c .before .before .before .before .before .before .before .before .before .enum-told .given .1) (puts-more (p1 .0) p2)
+    told (a .pile .now) (a .answers .now)
+    (c .before .before .before .before .before .before .before .before .before .enum-told .given .1)
+    (puts-more (p1 .0) p2)
 
 returns-3 : tie.Need-returns-3
 returns-3 c =
     let a = c .before .before .before .before .before .before .before .before .before .before .args in
-    told (a .pile .now) (a .answers .now) (c .before .before .before .before .before .enum-told2 .given .1) (c .before .before .put-labelled .ensures .0)
+    told (a .pile .now) (a .answers .now) (c .before .before .before .before .before .enum-told2 .given .1)
+    (c .before .before .put-labelled .ensures .0)
 
 returns-4 : tie.Need-returns-4
 returns-4 c =
     let a = c .before .before .before .before .before .before .before .before .before .before .args in
-    told (a .pile .now) (a .answers .now) (c .before .before .before .before .before .enum-told3 .given .1) (c .before .before .put-labelled2 .ensures .0)
+    told (a .pile .now) (a .answers .now) (c .before .before .before .before .before .enum-told3 .given .1)
+    (c .before .before .put-labelled2 .ensures .0)
 
 pub put-verdict-spec : {M : Type 1} → statement M
 put-verdict-spec =

@@ -1,9 +1,8 @@
 -- `console::verdicts::tell` is safe and ends: the text lies within the page.
--- Assumes nothing.
 use mathlib.Core.Path.{sym}
 use native.Mathlib.Omega.{arith}
 use lib.Seq.{length-take-le}
-use Rattle.console.proofs.Joined.{puts-length}
+use Rattle.laws.proofs.Written.{puts-length}
 use borrow.Author.Needs.{needs}
 use Rattle.console.proofs.verdicts.tell.Statement.{statement}
 use Rattle.console.proofs.verdicts.tell.Tie as tie

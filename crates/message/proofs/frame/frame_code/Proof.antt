@@ -1,7 +1,6 @@
 -- `message::frame::frame_code` meets its contract. Each return is the first refusal of its row.
--- Assumes nothing.
 use Rattle.laws.proofs.First.{chain}
-use Rattle.message.proofs.Framed.{sized, headed}
+use Rattle.message.proofs.Tests.{length-good, count-good}
 use Rattle.message.specs.Frame.{frameCode}
 use borrow.Author.Needs.{needs}
 use Rattle.message.proofs.frame.frame_code.Statement.{statement}
@@ -12,21 +11,21 @@ unfolding frameCode
 returns c = search chain depth 9
 
 count-bad-requires : tie.Need-count-bad-requires
-count-bad-requires c κs = search (sized, needs)
+count-bad-requires c κs = search (length-good, needs)
 
 returns-2 : tie.Need-returns-2
 unfolding frameCode
 returns-2 c = search chain depth 9
 
 offsets-bad-requires : tie.Need-offsets-bad-requires
-offsets-bad-requires c κs = (search (sized, needs), search (headed, needs))
+offsets-bad-requires c κs = (search (length-good, needs), search (count-good, needs))
 
 returns-3 : tie.Need-returns-3
 unfolding frameCode
 returns-3 c = search chain depth 9
 
 tags-bad-requires : tie.Need-tags-bad-requires
-tags-bad-requires c κs = (search (sized, needs), search (headed, needs))
+tags-bad-requires c κs = (search (length-good, needs), search (count-good, needs))
 
 returns-4 : tie.Need-returns-4
 unfolding frameCode
@@ -41,11 +40,15 @@ frame-code-spec =
     tie.close
     (tie.spec
     (λ c κs. search needs)
+    (λ c κs. search needs)
     returns
     count-bad-requires
+    (λ c κs. search needs)
     returns-2
     offsets-bad-requires
+    (λ c κs. search needs)
     returns-3
     tags-bad-requires
+    (λ c κs. search needs)
     returns-4
     returns-5)

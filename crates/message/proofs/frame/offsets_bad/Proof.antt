@@ -1,5 +1,4 @@
 -- `message::frame::offsets_bad` meets its contract. The scan stops before the last offset.
--- Assumes nothing.
 use Rattle.laws.specs.Least.{somewhere}
 use borrow.Author.Needs.{needs}
 use Rattle.message.proofs.frame.offsets_bad.Statement.{statement}

@@ -1,5 +1,4 @@
 -- `message::frame::tags_bad` meets its contract. The scan stops before the last tag.
--- Assumes nothing.
 use Rattle.laws.specs.Least.{somewhere}
 use borrow.Author.Needs.{needs}
 use Rattle.message.proofs.frame.tags_bad.Statement.{statement}

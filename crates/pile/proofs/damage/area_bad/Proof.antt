@@ -1,5 +1,4 @@
--- `pile::damage::area_bad` meets its contract. What is left of the area from n on is lent whole.
--- Assumes nothing.
+-- `pile::damage::area_bad` meets its contract. The part of the area that is looked at is all of it from byte n on.
 use Prim.Native.Nat.{_-_}
 use mathlib.Core.Path.{refl, ap, _∙_}
 use mathlib.Core.Bool.{not}
@@ -8,7 +7,7 @@ use lib.ListN.{length, drop, length-drop}
 use lib.Seq.{take-all}
 use Rattle.laws.specs.Zeros.{zeros}
 use Rattle.pile.specs.Valid.{areaBad}
-use Rattle.pile.proofs.Rows.{hit-lt, past-lt, only}
+use Rattle.laws.proofs.Rows.{hit-lt, past-lt, only}
 use borrow.Author.Needs.{needs}
 use Rattle.pile.proofs.damage.area_bad.Statement.{statement}
 use Rattle.pile.proofs.damage.area_bad.Tie as tie
@@ -21,7 +20,8 @@ returns-2 : tie.Need-returns-2
 unfolding areaBad
 returns-2 c =
     let a = c .before .before .before .before .args in
-    let rest = take-all (length (a .area .now) - a .n) (drop (a .n) (a .area .now)) (omega (arith, length-drop (a .n) (a .area .now))) in
+    let l = drop (a .n) (a .area .now) in
+    let rest = take-all (length (a .area .now) - a .n) l (omega (arith, length-drop (a .n) (a .area .now))) in
     past-lt 2000 (a .n) _ refl (omega arith) (only (ap not (c .all-zero .ensures ∙ ap zeros rest)))
 
 pub area-bad-spec : {M : Type 1} → statement M

@@ -1,27 +1,35 @@
 -- `pile::judging::judge` meets its contract.
--- Assumes nothing.
-use mathlib.Core.Path.{sym, _∙_}
-use Rattle.pile.specs.Valid.{judgementOf}
+use mathlib.Core.Path.{sym, ap, _∙_}
+use Rattle.laws.proofs.First.{before-true, before-false}
+use Rattle.refusal.specs.Refusal.{refusals}
+use Rattle.verdict.specs.declared.Verdict.the-variants.{Refused}
+use Rattle.pile.specs.Valid.{recordVerdict, judgeCode}
 use Rattle.pile.proofs.Wholes.{judged-there}
+use Rattle.pile.proofs.Judged.{judge-clauses}
 use borrow.Author.Needs.{needs}
 use Rattle.pile.proofs.judging.judge.Statement.{statement}
 use Rattle.pile.proofs.judging.judge.Tie as tie
 
 returns : tie.Need-returns
-unfolding judgementOf
-returns c = rw (sym (c .before .nothing-at .ensures) ∙ c .if1 .taken)
+unfolding judgeCode
+returns c =
+    let b = sym (c .before .before .nothing-at .ensures) ∙ c .before .if1 .taken in
+    judge-clauses _ _ _ (rw (before-true refusals _ _ _ tt b) (ap Refused (c .refuse .ensures)))
 
 verdict-at-requires : tie.Need-verdict-at-requires
 verdict-at-requires c κs = judged-there _ _ _ (c .before .nothing-at .ensures) (c .if1 .left)
 
 returns-2 : tie.Need-returns-2
-unfolding judgementOf
-returns-2 c = rw (sym (c .before .before .nothing-at .ensures) ∙ c .before .if1 .left) (cc)
+unfolding judgeCode recordVerdict
+returns-2 c =
+    let b = sym (c .before .before .nothing-at .ensures) ∙ c .before .if1 .left in
+    judge-clauses _ _ _ (rw (before-false refusals _ _ _ b) (c .verdict-at .ensures))
 
 pub judge-spec : {M : Type 1} → statement M
 judge-spec =
     tie.close
     (tie.spec
+    (λ c κs. search needs)
     (λ c κs. search needs)
     returns
     verdict-at-requires

@@ -1,5 +1,4 @@
 -- `pile::judging::said_yes` meets its contract.
--- Assumes nothing.
 use Rattle.pile.specs.Pile.{saidYes}
 use borrow.Author.Needs.{needs}
 use Rattle.pile.proofs.judging.said_yes.Statement.{statement}

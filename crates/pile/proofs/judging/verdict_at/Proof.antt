@@ -1,5 +1,4 @@
 -- `pile::judging::verdict_at` meets its contract.
--- Assumes nothing.
 use Rattle.pile.specs.Valid.{verdictAt}
 use borrow.Author.Needs.{needs}
 use Rattle.pile.proofs.judging.verdict_at.Statement.{statement}

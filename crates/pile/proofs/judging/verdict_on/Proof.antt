@@ -1,32 +1,40 @@
 -- `pile::judging::verdict_on` meets its contract.
--- Assumes nothing.
-use mathlib.Core.Path.{sym, _∙_}
-use Rattle.pile.specs.Valid.{recordVerdict}
+use mathlib.Core.Path.{sym, ap, _∙_}
+use Rattle.laws.proofs.First.{before-true, before-false}
+use Rattle.refusal.specs.Refusal.{refusals}
+use Rattle.verdict.specs.Check.{verdictOf}
+use Rattle.verdict.specs.declared.Verdict.the-variants.{Refused}
+use Rattle.pile.specs.Valid.{recordCode, recordVerdict}
 use Rattle.pile.proofs.Reaching.{lengths-fit}
 use borrow.Author.Needs.{needs}
 use Rattle.pile.proofs.judging.verdict_on.Statement.{statement}
 use Rattle.pile.proofs.judging.verdict_on.Tie as tie
 
 returns : tie.Need-returns
-unfolding recordVerdict
-returns c = rw (sym (c .before .record-bad .ensures) ∙ c .if1 .taken)
+unfolding recordVerdict recordCode
+returns c =
+    let b = sym (c .before .before .record-bad .ensures) ∙ c .before .if1 .taken in
+    rw (before-true refusals _ _ _ tt b) (ap Refused (c .refuse .ensures))
 
 request-of-requires : tie.Need-request-of-requires
 request-of-requires c κs = (search needs, lengths-fit _ (c .before .record-bad .ensures) (c .if1 .left) .0)
 
 response-of-requires : tie.Need-response-of-requires
-response-of-requires c κs = (search needs, lengths-fit _ (c .before .before .record-bad .ensures) (c .before .if1 .left) .1)
+response-of-requires c κs =
+    (search needs, lengths-fit _ (c .before .before .record-bad .ensures) (c .before .if1 .left) .1)
 
 returns-2 : tie.Need-returns-2
-unfolding recordVerdict
+unfolding recordVerdict recordCode verdictOf
 returns-2 c =
     let t = c .before .before .before in
-    rw (sym (t .before .record-bad .ensures) ∙ t .if1 .left) (cc)
+    let b = sym (t .before .record-bad .ensures) ∙ t .if1 .left in
+    rw (before-false refusals _ _ _ b) (cc)
 
 pub verdict-on-spec : {M : Type 1} → statement M
 verdict-on-spec =
     tie.close
     (tie.spec
+    (λ c κs. search needs)
     (λ c κs. search needs)
     returns
     request-of-requires

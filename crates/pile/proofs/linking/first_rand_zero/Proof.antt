@@ -1,5 +1,4 @@
 -- `pile::linking::first_rand_zero` meets its contract.
--- Assumes nothing.
 use mathlib.Core.Path.{sym, _∙_}
 use Rattle.pile.specs.Links.{firstRandZero}
 use Rattle.pile.proofs.Wholes.{first-there}

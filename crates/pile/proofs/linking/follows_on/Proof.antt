@@ -1,5 +1,4 @@
 -- `pile::linking::follows_on` meets its contract.
--- Assumes nothing.
 use mathlib.Core.Path.{sym, _∙_}
 use Rattle.pile.specs.Links.{follows}
 use Rattle.pile.proofs.Reaching.{within-reach}

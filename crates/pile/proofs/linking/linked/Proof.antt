@@ -1,5 +1,4 @@
 -- `pile::linking::linked` meets its contract.
--- Assumes nothing.
 use mathlib.Core.Path.{sym, _∙_}
 use native.Mathlib.Omega.{arith}
 use Rattle.pile.specs.Links.{linkedOf}

@@ -1,5 +1,4 @@
 -- `pile::linking::nonce_links` meets its contract.
--- Assumes nothing.
 use Rattle.pile.specs.Links.{nonceLinks}
 use borrow.Author.Needs.{needs}
 use Rattle.pile.proofs.linking.nonce_links.Statement.{statement}

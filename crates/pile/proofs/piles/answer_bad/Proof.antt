@@ -1,5 +1,4 @@
 -- `pile::piles::answer_bad` meets its contract. The scan has met no byte above 1 below i.
--- Assumes nothing.
 use Prim.Native.Nat.{_-_, _≤_}
 use native.Mathlib.Omega.{arith}
 use mathlib.Core.Path.{_≡_, sym}

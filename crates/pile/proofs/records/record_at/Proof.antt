@@ -1,5 +1,4 @@
 -- `pile::records::record_at` meets its contract.
--- Assumes nothing.
 use native.Mathlib.Nat.{add-sub-cancel-left}
 use native.Mathlib.Omega.{arith}
 use lib.ListN.{length-take, length-drop}

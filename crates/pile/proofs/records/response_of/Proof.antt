@@ -1,5 +1,4 @@
 -- `pile::records::response_of` meets its contract.
--- Assumes nothing.
 use native.Mathlib.Omega.{arith}
 use lib.ListN.{length-take}
 use Rattle.pile.specs.Pile.{responsePacket}

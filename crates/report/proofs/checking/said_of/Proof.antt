@@ -1,5 +1,4 @@
 -- `report::checking::said_of` meets its contract. Each arm hands on what the calls before it ensure.
--- Assumes nothing.
 use mathlib.Core.Path.{_≡_, subst}
 use Prim.Native.Nat.{ℕ, min}
 use native.Mathlib.Omega.{arith}
@@ -7,7 +6,7 @@ use Rattle.runs.specs.Spans.{Answers}
 use Rattle.runs.specs.Convict.{verdictIn, flagIn, Convicts}
 use Rattle.runs.specs.declared.Span.{Span}
 use Rattle.runs.specs.declared.Span.the-variants.{Places, Nothing}
-use Rattle.report.specs.Scans.{IsFirst}
+use Rattle.laws.specs.Least.{IsFirst}
 use Rattle.report.specs.Report.{refused, Says}
 use Rattle.report.proofs.Says.{record-says, span-says, spanReport}
 use borrow.Author.Needs.{needs}
@@ -15,7 +14,9 @@ use Rattle.report.proofs.checking.said_of.Statement.{statement}
 use Rattle.report.proofs.checking.said_of.Tie as tie
 
 -- where a record is refused: the first such
-first-of : (c : tie.After-k) → IsFirst (refused (verdictIn (c .before .before .before .args .t1))) (c .before .before .before .args .n) (c .k .given .0 .0)
+first-of : (c : tie.After-k)
+    → let start = c .before .before .before in
+    IsFirst (refused (verdictIn (start .args .t1))) (start .args .n) (c .k .given .0 .0)
 first-of c = rw (c .k .given .1) at (c .before .before .first-refused .ensures)
 
 mul-v : tie.Need-mul-v
@@ -38,14 +39,14 @@ run-says c s e =
     span-says v l (start .args .n)
     (rw (earlier .enum-told .given .1) at (earlier .before .before .first-refused .ensures))
     (rw (told .enum-told2 .given .1) at (told .before .before .first-loose .ensures))
-    s (subst (λ (m : ℕ). Answers (Convicts v l m) s) whole (rw e at (c .shortest-run .ensures)))
+    s (subst (λ (m : ℕ). Answers (Convicts v l m) s) whole (rw e at (c .shortest-run .ensures .1)))
 
 returns : tie.Need-returns
 returns c =
     let at = c .before .before .before in
     let start = at .before .before .before in
-    record-says (verdictIn (start .args .t1)) (flagIn (start .args .flags)) (start .args .n) (at .k .given .0 .0) (c .of-record .result)
-    (first-of at) (c .of-record .ensures)
+    record-says (verdictIn (start .args .t1)) (flagIn (start .args .flags)) (start .args .n) (at .k .given .0 .0)
+    (c .of-record .result) (first-of at) (c .of-record .ensures)
 
 returns-2 : tie.Need-returns-2
 returns-2 c =
@@ -55,7 +56,9 @@ returns-2 c =
     )
 
 returns-3 : tie.Need-returns-3
-returns-3 c = run-says (c .before .before .before) (Places (c .before .i .given .0 .0) (c .before .i .given .0 .1 .0)) (c .before .i .given .1)
+returns-3 c =
+    let found = c .before .i .given in
+    run-says (c .before .before .before) (Places (found .0 .0) (found .0 .1 .0)) (found .1)
 
 returns-4 : tie.Need-returns-4
 returns-4 c = run-says (c .before .before) Nothing (c .enum-told3 .given .1)

@@ -1,11 +1,11 @@
 -- `report::cutting::put_run` meets its contract. The run is put at the front, and its first rand zeroed over it.
--- Assumes nothing.
-use mathlib.Core.Path.{_≡_, refl}
+use mathlib.Core.Path.{_≡_}
 use Prim.Native.Nat.{_+_, _-_, _*_}
 use native.Mathlib.Omega.{arith}
 use lib.ListN.{length, replicate}
 use Rattle.laws.specs.Pasted.{part}
-use Rattle.laws.proofs.Pasted.{front-none, front-put, front-over, length-part}
+use Rattle.laws.proofs.Pasted.{length-part}
+use Rattle.laws.proofs.Written.{puts-one, puts-over}
 use Rattle.report.specs.Taking.{runBytes}
 use borrow.Author.Needs.{needs}
 use Rattle.report.proofs.cutting.put_run.Statement.{statement}
@@ -21,9 +21,8 @@ returns c =
     let e = 4096 * s .args .j + 4096 in
     let l = s .args .pile .now in
     let n : length (part a e l) ≡ e - a = length-part l a e (omega arith) (omega arith) in
-    let f1 = front-put (part a e l) 0 (front-none (s .args .out .now)) refl (p .put .ensures) in
-    let f2 = front-over (replicate 32 0) 32 f1 (omega arith) (z .zero .ensures) in
-    f2 .is
+    let f = puts-one (part a e l) (e - a) (p .put .ensures) (omega arith) (omega arith) in
+    puts-over (replicate 32 0) 32 f (omega arith) (z .zero .ensures)
 
 pub put-run-spec : {M : Type 1} → statement M
 put-run-spec =

@@ -1,5 +1,4 @@
 -- `report::cutting::run_in` meets its contract. The run of the arrays is the run of the pile.
--- Assumes nothing.
 use Rattle.report.proofs.Runs.{run-of}
 use borrow.Author.Needs.{needs}
 use Rattle.report.proofs.cutting.run_in.Statement.{statement}
@@ -10,8 +9,8 @@ returns c =
     let start = c .before .before .before .before .before in
     let verdicts = c .before .before .verdicts-of in
     let flags = c .before .flags-of in
-    run-of (start .args .pile .now) (start .args .answers .now) (verdicts .result) (flags .result) (c .shortest-run .result) (start .pre)
-    (verdicts .ensures) (flags .ensures) (c .shortest-run .ensures)
+    run-of (start .args .pile .now) (start .args .answers .now) (verdicts .result) (flags .result)
+    (c .shortest-run .result) (start .pre) (verdicts .ensures) (flags .ensures) (c .shortest-run .ensures .1)
 
 pub run-in-spec : {M : Type 1} → statement M
 run-in-spec =

@@ -1,5 +1,4 @@
 -- `report::gathering::flags_of` meets its contract. Each place passed holds its flag.
--- Assumes nothing.
 use mathlib.Core.Path.{_≡_, refl}
 use mathlib.Core.Bool.{false}
 use Prim.Native.Nat.{ℕ, _-_, _≤_, _<_}
@@ -27,7 +26,8 @@ loop-again c =
     let start = c .before .before .before .before in (
       omega arith,
       simp length-set (loop .inv .1),
-      fill-next (joined (start .args .pile .now)) false (loop .flags) (loop .k) (c .joined-at .result) (omega arith) (loop .inv .2) (c .joined-at .ensures),
+      fill-next (joined (start .args .pile .now)) false (loop .flags) (loop .k) (c .joined-at .result) (omega arith)
+          (loop .inv .2) (c .joined-at .ensures),
     )
 
 returns : tie.Need-returns Inv-loop μ-loop

@@ -1,5 +1,4 @@
 -- `report::gathering::joined_at` meets its contract. The first record by its rand, every other by its link.
--- Assumes nothing.
 use borrow.Author.Tests.{eq-eqb, ne-eqb}
 use Rattle.report.specs.Report.{joined}
 use borrow.Author.Needs.{needs}

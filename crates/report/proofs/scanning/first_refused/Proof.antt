@@ -1,11 +1,10 @@
--- `report::scanning::first_refused` meets its contract. No place passed is refused; each arm of the match knows its variant.
--- Assumes nothing.
+-- `report::scanning::first_refused` meets its contract. No record before k is refused.
 use Prim.Native.Nat.{_-_, _≤_}
 use native.Mathlib.Omega.{arith}
 use Rattle.runs.specs.Convict.{verdictIn}
-use Rattle.report.specs.Scans.{Never}
+use Rattle.laws.specs.Least.{Never}
 use Rattle.report.specs.Report.{refused}
-use Rattle.report.proofs.First.{never-none, never-more}
+use Rattle.laws.proofs.Least.{never-none, never-more}
 use borrow.Author.Needs.{needs}
 use Rattle.report.proofs.scanning.first_refused.Statement.{statement}
 use Rattle.report.proofs.scanning.first_refused.Tie as tie
@@ -20,7 +19,11 @@ loop-holds : tie.Need-loop-holds Inv-loop μ-loop
 loop-holds c = (omega arith, never-none (refused (verdictIn (c .args .t1))))
 
 returns : tie.Need-returns Inv-loop μ-loop
-returns c = record { inside = omega arith; holds = rw (c .enum-told .given .1) tt; earlier = c .before .before .before .before .loop .inv .1 }
+returns c = record {
+  inside = omega arith;
+  holds = rw (c .enum-told .given .1) tt;
+  earlier = c .before .before .before .before .loop .inv .1;
+}
 
 loop-again : tie.Need-loop-again Inv-loop μ-loop
 loop-again c =

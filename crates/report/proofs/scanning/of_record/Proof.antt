@@ -1,8 +1,7 @@
 -- `report::scanning::of_record` meets its contract. Each arm knows its variant.
--- Assumes nothing.
 use mathlib.Core.Path.{sym, ap}
 use Rattle.verdict.specs.declared.Verdict.{Verdict}
-use Rattle.report.specs.Within.{recordOf}
+use Rattle.report.specs.Promises.{recordOf}
 use borrow.Author.Needs.{needs}
 use Rattle.report.proofs.scanning.of_record.Statement.{statement}
 use Rattle.report.proofs.scanning.of_record.Tie as tie

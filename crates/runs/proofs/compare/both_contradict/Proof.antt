@@ -1,5 +1,4 @@
 -- `runs::compare::both_contradict` meets its contract. Each arm knows its variant.
--- Assumes nothing.
 use borrow.Author.Needs.{needs}
 use Rattle.runs.proofs.compare.both_contradict.Statement.{statement}
 use Rattle.runs.proofs.compare.both_contradict.Tie as tie

@@ -1,10 +1,10 @@
--- `runs::compare::contradicts` meets its contract. Both radii are taken across, so that neither side falls below 0.
--- Assumes nothing.
+-- `runs::compare::contradicts` meets its contract. The two radii are less than the difference of the times exactly
+-- where `clash` holds.
 use Prim.Native.Nat.{_+_, _-_}
 use mathlib.Core.Path.{sym}
 use native.Mathlib.Omega.{arith}
 use borrow.Author.Tests.{le-ltb}
-use Rattle.laws.proofs.Told.{ltb-same}
+use Rattle.runs.proofs.Told.{ltb-same}
 use borrow.Author.Needs.{needs}
 use Rattle.runs.proofs.compare.contradicts.Statement.{statement}
 use Rattle.runs.proofs.compare.contradicts.Tie as tie
@@ -21,7 +21,8 @@ returns-2 c =
     let start = c .before .before .before .before .before .before .before in
     let a = start .args .a in
     let b = start .args .b in
-    ltb-same (a .radi + b .radi) (a .midp - b .midp) (b .midp + b .radi + a .radi) (a .midp) (λ l. omega arith) (λ l. omega arith)
+    ltb-same (a .radi + b .radi) (a .midp - b .midp) (b .midp + b .radi + a .radi) (a .midp)
+    (λ l. omega arith) (λ l. omega arith)
 
 pub contradicts-spec : {M : Type 1} → statement M
 contradicts-spec =

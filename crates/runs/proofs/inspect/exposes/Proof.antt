@@ -1,10 +1,10 @@
--- `runs::inspect::exposes` meets its contract. Both halves of what is told are what the two calls tell.
--- Assumes nothing.
+-- `runs::inspect::exposes` meets its contract. The one call tells whether the run is clean, the other whether its ends
+-- contradict.
 use borrow.Author.Tests.{not-true, not-false}
-use Rattle.laws.proofs.Told.{told-true, told-false, tells-test}
+use Rattle.runs.proofs.Told.{told-true, told-false, tells-test}
 use Rattle.runs.specs.Clash.{contradicting}
 use Rattle.runs.specs.Convict.{verdictIn, flagIn}
-use Rattle.runs.specs.Ends.{Exposes}
+use Rattle.runs.specs.Searched.{Exposes}
 use borrow.Author.Needs.{needs}
 use Rattle.runs.proofs.inspect.exposes.Statement.{statement}
 use Rattle.runs.proofs.inspect.exposes.Tie as tie
@@ -20,7 +20,9 @@ returns-2 c =
     tells-test (Exposes (verdictIn (args .t1)) (flagIn (args .linked)) (args .a) (args .b)) (c .both-contradict .result)
     (contradicting (verdictIn (args .t1) (args .a)) (verdictIn (args .t1) (args .b))) (c .both-contradict .ensures)
     (λ t. record {
-      clean = told-true (called .is-clean .result) (called .is-clean .ensures) (not-false _ (c .before .before .before .if1 .left));
+      clean =
+          told-true (called .is-clean .result) (called .is-clean .ensures)
+          (not-false _ (c .before .before .before .if1 .left));
       clash = t;
     })
     (λ h. h .clash)

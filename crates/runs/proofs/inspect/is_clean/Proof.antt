@@ -1,11 +1,10 @@
 -- `runs::inspect::is_clean` meets its contract. The run as far as k is clean.
--- Assumes nothing.
 use mathlib.Core.Path.{_≡_, refl}
 use Prim.Native.Nat.{_+_, _-_, _≤_}
 use native.Mathlib.Omega.{arith}
-use Rattle.laws.proofs.Told.{not-is-true, not-is-false}
+use Rattle.runs.proofs.Told.{not-is-true, not-is-false}
 use Rattle.runs.specs.Convict.{Clean, verdictIn, flagIn}
-use Rattle.runs.proofs.Ends.{clean-one, clean-more}
+use Rattle.runs.proofs.ByEnds.{clean-one, clean-more}
 use borrow.Author.Needs.{needs}
 use Rattle.runs.proofs.inspect.is_clean.Statement.{statement}
 use Rattle.runs.proofs.inspect.is_clean.Tie as tie
@@ -19,14 +18,16 @@ abbrev μ-loop : tie.MeasureT-loop
 returns : tie.Need-returns Inv-loop μ-loop
 returns c = λ h.
     let start = c .before .before .before in
-    not-is-false (c .before .is-valid .ensures) (c .if1 .taken) (h .all-valid (start .args .a) (omega arith) (omega arith))
+    not-is-false (c .before .is-valid .ensures) (c .if1 .taken)
+    (h .all-valid (start .args .a) (omega arith) (omega arith))
 
 loop-holds : tie.Need-loop-holds Inv-loop μ-loop
 loop-holds c =
     let start = c .before .before .before in (
       omega arith,
       omega arith,
-      clean-one (verdictIn (start .args .t1)) (flagIn (start .args .t2)) (start .args .a) (not-is-true (c .before .is-valid .ensures) (c .if1 .left)),
+      clean-one (verdictIn (start .args .t1)) (flagIn (start .args .t2)) (start .args .a)
+          (not-is-true (c .before .is-valid .ensures) (c .if1 .left)),
     )
 
 returns-2 : tie.Need-returns-2 Inv-loop μ-loop
@@ -39,7 +40,8 @@ returns-3 c = λ h.
     let inner = c .before .before .before .before .before in
     let start = inner .before .before .before .before in
     let k = inner .loop .k in
-    not-is-false {r = flagIn (start .args .t2) (k + 1)} refl (c .if3 .taken) (h .all-linked (k + 1) (omega arith) (omega arith))
+    not-is-false {r = flagIn (start .args .t2) (k + 1)} refl (c .if3 .taken)
+    (h .all-linked (k + 1) (omega arith) (omega arith))
 
 loop-again : tie.Need-loop-again Inv-loop μ-loop
 loop-again c =

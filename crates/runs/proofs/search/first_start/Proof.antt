@@ -1,11 +1,11 @@
--- `runs::search::first_start` meets its contract. No run of those that start before has been one.
--- Assumes nothing.
+-- `runs::search::first_start` meets its contract. No run of this length that starts before `start` is clean with ends
+-- that contradict.
 use Prim.Native.Nat.{ℕ, _+_, _-_, _≤_, _<_}
 use native.Mathlib.Omega.{arith}
 use borrow.Author.Count.{below-more}
-use Rattle.laws.proofs.Told.{told-true, told-false}
+use Rattle.runs.proofs.Told.{told-true, told-false}
 use Rattle.runs.specs.Convict.{verdictIn, flagIn}
-use Rattle.runs.specs.Ends.{Exposes}
+use Rattle.runs.specs.Searched.{Exposes}
 use borrow.Author.Needs.{needs}
 use Rattle.runs.proofs.search.first_start.Statement.{statement}
 use Rattle.runs.proofs.search.first_start.Tie as tie
@@ -34,13 +34,17 @@ loop-again c =
     let called = c .before in
     let loop = called .before .before .loop in
     let args = called .before .before .before .args in (
-      below-more (λ (k : ℕ). Exposes (verdictIn (args .verdicts)) (flagIn (args .linked)) k (k + args .gap) → ⊥) (loop .start) (loop .inv .0)
-          (told-false (called .exposes .result) (called .exposes .ensures) (c .if1 .left)),
+      below-more (λ (k : ℕ). Exposes (verdictIn (args .verdicts)) (flagIn (args .linked)) k (k + args .gap) → ⊥)
+          (loop .start) (loop .inv .0) (told-false (called .exposes .result) (called .exposes .ensures) (c .if1 .left)),
       omega arith,
     )
 
 returns-2 : tie.Need-returns-2 Inv-loop μ-loop
-returns-2 c = record { within = omega arith; passed = λ k l. c .before .loop .inv .0 k (omega arith); here = λ l. absurd (omega arith) }
+returns-2 c = record {
+  within = omega arith;
+  passed = λ k l. c .before .loop .inv .0 k (omega arith);
+  here = λ l. absurd (omega arith);
+}
 
 pub first-start-spec : {M : Type 1} → statement M
 first-start-spec =

@@ -1,10 +1,12 @@
--- `runs::search::shortest_run` meets its contract. Of the runs whose ends contradict, the least is the least that convicts.
--- Assumes nothing.
+-- `runs::search::shortest_run` meets its contract.
+-- The least clean run whose ends contradict is the least that convicts.
 use Prim.Native.Nat.{_-_}
-use Rattle.laws.proofs.Pairs.{Passed, begin, next, found, nothing}
+use Rattle.runs.proofs.Passed.{Passed, begin, next, found, nothing}
 use Rattle.runs.specs.Convict.{verdictIn, flagIn}
-use Rattle.runs.specs.Ends.{Exposes}
-use Rattle.runs.proofs.Ends.{along, least-run, no-run}
+use Rattle.runs.specs.Searched.{Exposes}
+use Rattle.runs.proofs.ByEnds.{along, least-run, no-run}
+use Rattle.runs.proofs.Find.{both-clauses}
+use Rattle.runs.specs.declared.Span.the-variants.{Places, Nothing}
 use borrow.Author.Needs.{needs}
 use Rattle.runs.proofs.search.shortest_run.Statement.{statement}
 use Rattle.runs.proofs.search.shortest_run.Tie as tie
@@ -23,13 +25,17 @@ returns c =
     let called = c .before in
     let loop = called .before .before in
     let row = called .first-start .ensures in
-    rw (← (loop .before .capped .ensures)) (least-run (found (along (loop .loop .inv) row) (c .if1 .taken) (row .here (c .if1 .taken))))
+    both-clauses _ (Places _ _)
+    (rw (← (loop .before .capped .ensures))
+    (least-run (found (along (loop .loop .inv) row) (c .if1 .taken) (row .here (c .if1 .taken)))))
 
 loop-again : tie.Need-loop-again Inv-loop μ-loop
 loop-again c = next (along (c .before .before .before .loop .inv) (c .before .first-start .ensures)) (c .if1 .left)
 
 returns-2 : tie.Need-returns-2 Inv-loop μ-loop
-returns-2 c = rw (← (c .before .before .capped .ensures)) (no-run (nothing (c .before .loop .inv) (c .loop-test .left)))
+returns-2 c =
+    both-clauses _ Nothing
+    (rw (← (c .before .before .capped .ensures)) (no-run (nothing (c .before .loop .inv) (c .loop-test .left))))
 
 pub shortest-run-spec : {M : Type 1} → statement M
 shortest-run-spec =

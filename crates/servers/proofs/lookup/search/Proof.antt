@@ -1,5 +1,4 @@
 -- `servers::lookup::search` meets its contract. Each return by the tests that led there.
--- Assumes nothing.
 use Rattle.servers.proofs.Seeking.{owner-ragged, shipped-ragged, in-owner, in-shipped, in-neither}
 use borrow.Author.Needs.{needs}
 use Rattle.servers.proofs.lookup.search.Statement.{statement}

@@ -1,26 +1,27 @@
 -- `servers::records::index_in` meets its contract. The loop keeps: no record before k has the SRV value.
--- Assumes nothing.
 use mathlib.Core.Path.{_≡_, ap, _∙_}
-use Prim.Native.Nat.{_-_, _/_, _≤_}
+use Prim.Native.Nat.{_-_, _≤_}
 use native.Mathlib.Omega.{arith}
 use lib.ListN.{length}
 use Rattle.laws.specs.Least.{least}
 use Rattle.laws.proofs.Least.{least-zero, least-hit, least-miss, least-end}
-use Rattle.servers.specs.Lists.{recordAt, serves, firstIn}
-use Rattle.servers.proofs.Matching.{record-long}
+use Rattle.servers.specs.Lists.{serverCount, serves, servesAt}
+use Rattle.servers.specs.Lookup.{firstIn}
+use Rattle.servers.proofs.Matching.{server-long}
 use borrow.Author.Needs.{needs}
 use Rattle.servers.proofs.records.index_in.Statement.{statement}
 use Rattle.servers.proofs.records.index_in.Tie as tie
 
 abbrev Inv-loop : tie.InvT-loop
-Inv-loop list srv k₀ k = (k ≤ length list / 64) × (least (λ i. serves srv (recordAt list i)) k ≡ k)
+Inv-loop list srv k₀ k = (k ≤ serverCount list) × (least (servesAt srv list) k ≡ k)
 
 abbrev μ-loop : tie.MeasureT-loop
-μ-loop list srv k₀ k = length list / 64 - k
+μ-loop list srv k₀ k = serverCount list - k
 
 -- what a turn's test says, of the record that it took
-tested : (c : tie.After-equal Inv-loop μ-loop) → let at-loop = c .before .before .before .before in let a = at-loop .before .before .before .args in
-    c .equal .result ≡ serves (a .srv .now) (recordAt (a .list .now) (at-loop .loop .k))
+tested : (c : tie.After-equal Inv-loop μ-loop) → let at-loop = c .before .before .before .before in
+    let a = at-loop .before .before .before .args in
+    c .equal .result ≡ servesAt (a .srv .now) (a .list .now) (at-loop .loop .k)
 unfolding serves
 tested c = rw (← c .before .before .record-of .ensures .0) (c .equal .ensures)
 
@@ -30,7 +31,8 @@ loop-holds c = (omega arith, least-zero _)
 part-equal-end : tie.Need-part-equal-end Inv-loop μ-loop
 part-equal-end c =
     let at-loop = c .before .before in
-    omega (arith, ap length (c .record-of .ensures .0) ∙ record-long (at-loop .before .before .before .args .list .now) (at-loop .loop .k) (omega arith))
+    let list = at-loop .before .before .before .args .list .now in
+    omega (arith, ap length (c .record-of .ensures .0) ∙ server-long list (at-loop .loop .k) (omega arith))
 
 returns : tie.Need-returns Inv-loop μ-loop
 unfolding firstIn

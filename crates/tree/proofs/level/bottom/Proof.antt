@@ -1,5 +1,4 @@
 -- `tree::level::bottom` meets its contract. The loop keeps: the first `i` places hold the leaves, the others are empty.
--- Assumes nothing.
 use Prim.Native.Nat.{ℕ, _≤_, _<_, _-_}
 use mathlib.Core.Path.{_≡_, refl, sym, _∙_}
 use mathlib.Core.List.{[]}
@@ -10,7 +9,7 @@ use Rattle.laws.proofs.Fill.{fill-next}
 use Rattle.laws.proofs.Split.{split}
 use Rattle.hash.specs.Hashes.{emptyPlace}
 use Rattle.tree.specs.Tree.{nodeIn, nodeAt}
-use Rattle.tree.specs.Answers.{most}
+use Rattle.tree.specs.Batch.{most}
 use Rattle.tree.proofs.Nodes.{nodes-at, nodes-past}
 use borrow.Author.Needs.{needs}
 use Rattle.tree.proofs.level.bottom.Statement.{statement}
@@ -18,14 +17,19 @@ use Rattle.tree.proofs.level.bottom.Tie as tie
 
 abbrev Inv-loop : tie.InvT-loop
 Inv-loop leaves count row₀ i₀ row i =
-    (i ≤ count) × (length row ≡ most) × ((j : ℕ) → j < i → getD row j [] ≡ nodeIn leaves j) × ((j : ℕ) → i ≤ j → j < most → getD row j [] ≡ emptyPlace)
+    (i ≤ count) × (length row ≡ most) × ((j : ℕ) → j < i → getD row j [] ≡ nodeIn leaves j)
+    × ((j : ℕ) → i ≤ j → j < most → getD row j [] ≡ emptyPlace)
 
 abbrev μ-loop : tie.MeasureT-loop
 μ-loop leaves count row₀ i₀ row i = count - i
 
 loop-holds : tie.Need-loop-holds Inv-loop μ-loop
-loop-holds c =
-    (omega arith, refl, (λ j g. absurd (omega arith)), (λ j g h. getD-replicate most j (c .empty-place .result) [] h ∙ c .empty-place .ensures))
+loop-holds c = (
+  omega arith,
+  refl,
+  (λ j g. absurd (omega arith)),
+  (λ j g h. getD-replicate most j (c .empty-place .result) [] h ∙ c .empty-place .ensures),
+)
 
 loop-again : tie.Need-loop-again Inv-loop μ-loop
 unfolding nodeIn

@@ -1,5 +1,4 @@
 -- `tree::level::halved` meets its contract. The loop keeps: the first `i` places of `up` hold the parents.
--- Assumes nothing.
 use Prim.Native.Nat.{_+_, _*_, _≤_, _-_}
 use mathlib.Core.Path.{_≡_}
 use mathlib.Core.List.{[]}
@@ -7,7 +6,7 @@ use native.Mathlib.Omega.{arith}
 use lib.ListN.{length, getD, length-set}
 use Rattle.laws.proofs.Fill.{fill-next}
 use Rattle.hash.specs.Hashes.{parentOf}
-use Rattle.tree.specs.Answers.{most}
+use Rattle.tree.specs.Batch.{most}
 use Rattle.tree.specs.Level.{Parents}
 use borrow.Author.Needs.{needs}
 use Rattle.tree.proofs.level.halved.Statement.{statement}
@@ -28,7 +27,8 @@ loop-again c =
     let row = c .before .before .before .before .before .args .t1 in (
       omega arith,
       simp length-set (l .inv .1),
-      fill-next (λ j. parentOf (getD row (2 * j) []) (getD row (2 * j + 1) [])) [] (l .up) (l .i) _ (omega arith) (l .inv .2) (c .parent .ensures),
+      fill-next (λ j. parentOf (getD row (2 * j) []) (getD row (2 * j + 1) [])) [] (l .up) (l .i) _ (omega arith)
+          (l .inv .2) (c .parent .ensures),
     )
 
 returns : tie.Need-returns Inv-loop μ-loop

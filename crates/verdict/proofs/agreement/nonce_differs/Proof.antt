@@ -1,5 +1,4 @@
 -- `verdict::agreement::nonce_differs` meets its contract.
--- Assumes nothing.
 use Rattle.verdict.specs.Check.{nonceDiffers}
 use borrow.Author.Needs.{needs}
 use Rattle.verdict.proofs.agreement.nonce_differs.Statement.{statement}

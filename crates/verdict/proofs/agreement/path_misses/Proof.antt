@@ -1,5 +1,4 @@
 -- `verdict::agreement::path_misses` meets its contract.
--- Assumes nothing.
 use Rattle.verdict.specs.Check.{pathMisses}
 use borrow.Author.Needs.{needs}
 use Rattle.verdict.proofs.agreement.path_misses.Statement.{statement}

@@ -1,5 +1,4 @@
 -- `verdict::agreement::time_outside` meets its contract.
--- Assumes nothing.
 use mathlib.Core.Path.{_≡_, sym, ap, _∙_}
 use mathlib.Core.Bool.{or-false}
 use Prim.Native.Nat.{ℕ}
@@ -39,8 +38,10 @@ returns c =
     let n = d .before in
     let v = n .before in
     let b = now (v .before .before .args .b) in
-    let midp : n .number64 .result ≡ midpIn b = n .number64 .ensures ∙ ap (λ l. le 8 (valueOf l MIDP) 0) (v .value-of .ensures) in
-    let mint : c .before .number642 .result ≡ mintIn b = c .before .number642 .ensures ∙ ap (λ l. le 8 (valueOf l MINT) 0) (d .dele-of .ensures) in
+    let midp : n .number64 .result ≡ midpIn b =
+    n .number64 .ensures ∙ ap (λ l. le 8 (valueOf l MIDP) 0) (v .value-of .ensures) in
+    let mint : c .before .number642 .result ≡ mintIn b =
+    c .before .number642 .ensures ∙ ap (λ l. le 8 (valueOf l MINT) 0) (d .dele-of .ensures) in
     sym (any-here _ (lt-ltb (midpIn b) (mintIn b) (rw (← midp, ← mint) (c .if1 .taken))))
 
 returns-2 : tie.Need-returns-2
@@ -51,9 +52,12 @@ returns-2 c =
     let n = d .before in
     let v = n .before in
     let b = now (v .before .before .args .b) in
-    let midp : n .number64 .result ≡ midpIn b = n .number64 .ensures ∙ ap (λ l. le 8 (valueOf l MIDP) 0) (v .value-of .ensures) in
-    let mint : m .number642 .result ≡ mintIn b = m .number642 .ensures ∙ ap (λ l. le 8 (valueOf l MINT) 0) (d .dele-of .ensures) in
-    let maxt : c .number643 .result ≡ maxtIn b = c .number643 .ensures ∙ ap (λ l. le 8 (valueOf l MAXT) 0) (d .dele-of .ensures) in
+    let midp : n .number64 .result ≡ midpIn b =
+    n .number64 .ensures ∙ ap (λ l. le 8 (valueOf l MIDP) 0) (v .value-of .ensures) in
+    let mint : m .number642 .result ≡ mintIn b =
+    m .number642 .ensures ∙ ap (λ l. le 8 (valueOf l MINT) 0) (d .dele-of .ensures) in
+    let maxt : c .number643 .result ≡ maxtIn b =
+    c .number643 .ensures ∙ ap (λ l. le 8 (valueOf l MAXT) 0) (d .dele-of .ensures) in
     simp (le-ltb (midpIn b) (mintIn b) (rw (← midp, ← mint) (c .before .if1 .left)), or-false) (cc)
 
 pub time-outside-spec : {M : Type 1} → statement M

@@ -1,5 +1,4 @@
 -- `verdict::agreement::version_unasked` meets its contract.
--- Assumes nothing.
 use Rattle.verdict.specs.Check.{versionUnasked}
 use borrow.Author.Needs.{needs}
 use Rattle.verdict.proofs.agreement.version_unasked.Statement.{statement}

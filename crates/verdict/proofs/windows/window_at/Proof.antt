@@ -1,5 +1,4 @@
 -- `verdict::windows::window_at` meets its contract.
--- Assumes nothing.
 use borrow.Author.Needs.{needs}
 use Rattle.verdict.proofs.windows.window_at.Statement.{statement}
 use Rattle.verdict.proofs.windows.window_at.Tie as tie

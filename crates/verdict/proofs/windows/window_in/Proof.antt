@@ -1,5 +1,4 @@
 -- `verdict::windows::window_in` meets its contract.
--- Assumes nothing.
 use native.Mathlib.Omega.{arith}
 use Rattle.verdict.specs.Check.{windowIn}
 use borrow.Author.Needs.{needs}

@@ -1,0 +1,72 @@
+-- A request made up of fields: it is a good one, whatever its nonce of 32 bytes is.
+use mathlib.Core.Path.{_≡_, refl, sym}
+use mathlib.Core.Bool.{true≢false}
+use mathlib.Core.List.{List, [], _∷_}
+use Prim.Native.Nat.{ℕ}
+use native.Mathlib.Omega.{arith}
+use lib.ListN.{length, length-append}
+use Rattle.laws.specs.Any.{any}
+use Rattle.laws.specs.Least.{least, somewhere}
+use Rattle.laws.specs.Numbers.{le, leBytes}
+use Rattle.laws.proofs.Numbers.{length-leBytes}
+use Rattle.message.specs.Encode.{Field, Fields, encode, values, among, valueAmong}
+use Rattle.message.specs.Rules.{versionsBad}
+use Rattle.message.specs.Sentences.{VersionList}
+use Rattle.message.specs.Tags.{VER, NONC, TYPE}
+use Rattle.message.proofs.Tests.{versions-test}
+use Rattle.wire.specs.Good.{PacketFields, GoodRequest}
+use Rattle.wire.specs.Packet.{packetOf}
+use Rattle.wire.specs.Versions.{HoldsVersion}
+use Rattle.examples.proofs.AreBytes.{AreBytes, bytes-le, bytes-encode, bytes-packet}
+use Rattle.examples.proofs.FieldsKept.{_is_, tagsWrong, fields-kept, packed}
+
+-- a list of versions that holds 1 and no other
+abbrev pub one-version : List ℕ
+one-version = leBytes 4 1
+
+pub versions-good : VersionList one-version
+unfolding versionsBad any somewhere least leBytes le
+versions-good = versions-test one-version .0 refl
+
+pub version-held : HoldsVersion one-version 1
+unfolding leBytes le
+version-held = record { place = 0; inside = omega arith; is = refl }
+
+-- the request with this nonce
+abbrev pub askFields : List ℕ → List Field
+askFields nonce = VER is one-version ∷ NONC is nonce ∷ TYPE is leBytes 4 0 ∷ []
+
+abbrev pub request : List ℕ → List ℕ
+request nonce = packetOf (encode (askFields nonce))
+
+module _ (nonce : List ℕ) (long : length nonce ≡ 32) where
+  -- it has 40 bytes of values, of whole fours
+  ask-size : length (values (askFields nonce)) ≡ 40
+  unfolding values
+  ask-size = simp (length-append, length-leBytes) (omega arith)
+
+  ask-fields : Fields (askFields nonce)
+  unfolding tagsWrong any somewhere least leBytes
+  ask-fields = fields-kept _ refl (refl, (omega arith, (refl, tt))) (omega (arith, ask-size))
+
+  -- so that it is a packet,
+  pub ask-packet : PacketFields (request nonce) (askFields nonce)
+  ask-packet = packed _ 40 ask-fields ask-size (omega arith)
+
+  -- of bytes where its nonce is,
+  pub ask-bytes : AreBytes nonce → AreBytes (request nonce)
+  ask-bytes b = bytes-packet _ (bytes-encode _ (bytes-le 4 1, (b, (bytes-le 4 0, tt))))
+
+  -- and a good request
+  pub ask-good : GoodRequest (request nonce)
+  unfolding among valueAmong leBytes le
+  ask-good = record {
+    fields = askFields nonce;
+    packet = ask-packet;
+    ver = record { there = refl; right = versions-good };
+    nonc = record { there = refl; right = long };
+    type = record { there = refl; right = refl };
+    srv = λ e. absurd (true≢false (sym e));
+    type-is = refl;
+    version = version-held;
+  }

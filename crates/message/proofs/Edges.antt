@@ -1,0 +1,88 @@
+-- Where the values of a message begin and end, and that each value of a good one stands in the value section.
+use Prim.Native.Nat.{ℕ, zero, suc, zero-le, _+_, _-_, _*_, _≤_, _<_}
+use mathlib.Core.Path.{_≡_, refl}
+use native.Mathlib.Nat.{le-refl, eq-or-lt-of-le}
+use native.Mathlib.Numerals.{add-one}
+use mathlib.Core.Logic.{⊎-elim}
+use native.Mathlib.Omega.{arith}
+use borrow.Author.Tests.{lt-ltb, le-ltb, ne-eqb}
+use mathlib.Core.List.{List, []}
+use mathlib.Core.Bool.{Bool, true, false, cond}
+use lib.ListN.{take, drop}
+use lib.Dec.{ltb}
+use Rattle.laws.specs.Bytes.{Bytes}
+use Rattle.laws.proofs.Bytes.{bytes-drop, bytes-take}
+use Rattle.message.specs.Frame.{count, offset, section, edge}
+use Rattle.message.specs.Sentences.{Good}
+use Rattle.message.specs.Values.{indexOf, has, valueAt, valueOf}
+
+module _ (m : List ℕ) where
+  pub edge-first : edge m 0 ≡ 0
+  unfolding edge
+  edge-first = refl
+
+  pub edge-inner : (k : ℕ) → 0 < k → k < count m → edge m k ≡ offset m k
+  unfolding edge
+  edge-inner k p q = simp (ne-eqb k 0 (omega arith), lt-ltb k (count m) q)
+
+  pub edge-last : 0 < count m → edge m (count m) ≡ section m
+  unfolding edge
+  edge-last p = simp (ne-eqb (count m) 0 (omega arith), le-ltb (count m) (count m) (le-refl (count m)))
+
+-- value k stands in the value section
+abbrev pub Inside : List ℕ → ℕ → Type 0
+Inside m k = (edge m k ≤ edge m (k + 1)) × (edge m (k + 1) ≤ section m)
+
+module _ (m : List ℕ) (g : Good m) where
+  -- each edge before the last is within the value section
+  edge-in : (k : ℕ) → k < count m → edge m k ≤ section m
+  edge-in zero h = rw (edge-first m) zero-le
+  edge-in (suc k) h = rw (edge-inner m (suc k) (omega arith) h) (g .offsets .inside (suc k) (omega arith) h)
+
+  -- and not above the offset behind it
+  edge-order : (k : ℕ) → k + 1 < count m → edge m k ≤ offset m (k + 1)
+  edge-order zero h = rw (edge-first m) zero-le
+  edge-order (suc k) h =
+      rw (edge-inner m (suc k) (omega arith) (omega arith)) (g .offsets .order (suc k) (omega arith) h)
+
+  -- so each value stands in the value section
+  pub value-in : (k : ℕ) → k < count m → Inside m k
+  value-in k h = ⊎-elim at-last inner (eq-or-lt-of-le h)
+    where
+      at-last : suc k ≡ count m → Inside m k
+      at-last e = rw (add-one k, e, edge-last m (g .head .one)) (edge-in k h, le-refl (section m))
+
+      inner : suc k < count m → Inside m k
+      inner l =
+          rw (edge-inner m (k + 1) (omega arith) (omega arith))
+          (edge-order k (omega arith), g .offsets .inside (k + 1) (omega arith) (omega arith))
+
+-- the value of a tag that is there, as code finds it: there are n tags, the tag's place is k, and the value runs from x
+-- to y
+pub value-found : (m : List ℕ) (tag n k x y : ℕ) → n ≡ count m → k ≡ indexOf m tag → k < n
+    → x ≡ edge m k → y ≡ edge m (k + 1)
+    → take (8 * n + y - (8 * n + x)) (drop (8 * n + x) m) ≡ valueOf m tag
+unfolding has valueAt valueOf
+value-found m tag n k x y en ek h ex ey =
+    let t : ltb (indexOf m tag) (count m) ≡ true = lt-ltb (indexOf m tag) (count m) (omega arith) in
+    let l : 8 * n + y - (8 * n + x) ≡ y - x = omega arith in
+    rw (t, l, ex, ey, en, ek) refl
+
+pub value-absent : (m : List ℕ) (tag n k : ℕ) → n ≡ count m → k ≡ indexOf m tag → n ≤ k → [] ≡ valueOf m tag
+unfolding has valueOf
+value-absent m tag n k en ek h = rw (le-ltb (indexOf m tag) (count m) (omega arith)) refl
+
+-- the values of bytes are bytes
+value-at-bytes : (m : List ℕ) → Bytes m → (k : ℕ) → Bytes (valueAt m k)
+unfolding valueAt
+value-at-bytes m bytes k =
+    let at : ℕ = 8 * count m + edge m k in
+    bytes-take (drop at m) (bytes-drop m bytes at) (edge m (k + 1) - edge m k)
+
+pub value-bytes : (m : List ℕ) → Bytes m → (tag : ℕ) → Bytes (valueOf m tag)
+unfolding valueOf
+value-bytes m bytes tag = by (has m tag)
+  where
+    by : (t : Bool) → Bytes (cond t (valueAt m (indexOf m tag)) [])
+    by true = value-at-bytes m bytes (indexOf m tag)
+    by false = λ k. omega arith

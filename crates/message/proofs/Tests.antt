@@ -1,0 +1,176 @@
+-- Each test of a message decides a sentence: it is false exactly where the sentence holds.
+use Prim.Native.Nat.{ℕ, zero, suc, zero-le, _+_, _-_, _*_, _/_, _%_, _≤_, _<_}
+use mathlib.Core.Path.{_≡_, refl, sym, ap, _∙_}
+use mathlib.Core.Logic.{_↔_}
+use mathlib.Core.List.{List}
+use mathlib.Core.Bool.{Bool, true, false, not, _&&_, true≢false}
+use native.Mathlib.Numerals.{add-one}
+use native.Mathlib.Omega.{arith}
+use borrow.Author.Tests.{le-ltb, eq-eqb, ne-eqb, lt-leb, ltb-false, leb-false, eqb-true, eqb-false, not-false}
+use lib.ListN.{length}
+use Rattle.laws.specs.Least.{somewhere}
+use Rattle.laws.proofs.Any.{any-not, any-none, any-parts}
+use Rattle.laws.proofs.Least.{nowhere, nowhere-at}
+use Rattle.message.specs.Frame.{word, notAbove, count, offset, section, edge, lengthBad, countBad, offsetBad}
+use Rattle.message.specs.Frame.{offsetsBad, tagsBad}
+use Rattle.message.specs.Rules.{Rule, bytes, versions, siblings, message, Row, versionsBad, siblingsBad, valueBad}
+use Rattle.message.specs.Rules.{absent, broken, rowAbsent, rowBroken, someAbsent, someBroken}
+use Rattle.message.specs.Sentences.{LengthGood, CountGood, OffsetsGood, TagsRise, TagsThere, VersionList}
+use Rattle.message.specs.Sentences.{SiblingList, KeepsRule, ValuesRight}
+use Rattle.message.proofs.Edges.{edge-first, edge-inner}
+
+-- the n words from `at` rise where none of them is followed by one that is not above it
+pub words-rise : (s : List ℕ) (at n : ℕ)
+    → somewhere (notAbove s at) (n - 1) ≡ false ↔ ((k : ℕ) → k + 1 < n → word s at k < word s at (k + 1))
+words-rise s at n = (
+  λ e k h. leb-false _ _ (nowhere-at (notAbove s at) (n - 1) k e (omega arith)),
+  λ r. nowhere (notAbove s at) (n - 1) (λ k h. lt-leb _ _ (r k (omega arith))),
+)
+
+module _ (m : List ℕ) where
+  -- ---- codes 4 and 5
+
+  pub length-test : lengthBad m ≡ false ↔ LengthGood m
+  unfolding lengthBad
+  length-test = (
+    λ e.
+        let a = any-parts _ _ e in
+        let b = any-parts _ _ (a .1) in
+        record { four = ltb-false _ _ (a .0); whole = eqb-true _ _ (not-false _ (b .0)) },
+    λ g. any-not _ (le-ltb _ _ (g .four)) (any-not _ (ap not (eq-eqb _ _ (g .whole))) any-none),
+  )
+
+  pub count-test : countBad m ≡ false ↔ CountGood m
+  unfolding countBad
+  count-test = (
+    λ e.
+        let a = any-parts _ _ e in
+        let b = any-parts _ _ (a .1) in
+        let c = any-parts _ _ (b .1) in
+        record {
+          one = positive (eqb-false (count m) 0 (a .0));
+          few = ltb-false _ _ (b .0);
+          fits = ltb-false _ _ (c .0);
+        },
+    λ g.
+        any-not _ (ne-eqb (count m) 0 (λ e. omega (arith, g .one)))
+        (any-not _ (le-ltb _ _ (g .few)) (any-not _ (le-ltb _ _ (g .fits)) any-none)),
+  )
+    where
+      positive : {n : ℕ} → (n ≡ 0 → ⊥) → 1 ≤ n
+      positive {n} h = omega arith
+
+  -- the same of a test's answer that code has as t
+  pub length-good : (t : Bool) → t ≡ lengthBad m → t ≡ false → LengthGood m
+  length-good t e f = length-test .0 (sym e ∙ f)
+
+  pub count-good : (t : Bool) → t ≡ countBad m → t ≡ false → CountGood m
+  count-good t e f = count-test .0 (sym e ∙ f)
+
+  pub tags-test : tagsBad m ≡ false ↔ TagsRise m
+  tags-test = words-rise m (4 * count m) (count m)
+
+  -- what the test of one offset asks: its order is told from the edge before it
+  Placed : ℕ → Type 0
+  Placed k = (offset m (k + 1) % 4 ≡ 0) × (edge m k ≤ offset m (k + 1)) × (offset m (k + 1) ≤ section m)
+
+  offset-test : (k : ℕ) → offsetBad m k ≡ false ↔ Placed k
+  unfolding Placed
+  offset-test k = (
+    λ e.
+        let a = any-parts _ _ e in
+        let b = any-parts _ _ (a .1) in
+        let c = any-parts _ _ (b .1) in
+        (eqb-true _ _ (not-false _ (a .0)), ltb-false _ _ (b .0), ltb-false _ _ (c .0)),
+    λ p.
+        any-not _ (ap not (eq-eqb _ _ (p .0))) (any-not _ (le-ltb _ _ (p .1)) (any-not _ (le-ltb _ _ (p .2)) any-none)),
+  )
+
+  placed-good : ((k : ℕ) → k + 1 < count m → Placed k) → OffsetsGood m
+  unfolding Placed
+  placed-good p = record { four = four; order = order; inside = inside }
+    where
+      four : (k : ℕ) → 1 ≤ k → k < count m → offset m k % 4 ≡ 0
+      four (suc k) o h = rw (← add-one k) (p k (omega arith) .0)
+      four zero o h = absurd (omega arith)
+
+      order : (k : ℕ) → 1 ≤ k → k + 1 < count m → offset m k ≤ offset m (k + 1)
+      order k o h = rw (← edge-inner m k o (omega arith)) (p k h .1)
+
+      inside : (k : ℕ) → 1 ≤ k → k < count m → offset m k ≤ section m
+      inside (suc k) o h = rw (← add-one k) (p k (omega arith) .2)
+      inside zero o h = absurd (omega arith)
+
+  good-placed : OffsetsGood m → (k : ℕ) → k + 1 < count m → Placed k
+  unfolding Placed
+  good-placed g k h = (g .four (k + 1) (omega arith) h, order k h, g .inside (k + 1) (omega arith) h)
+    where
+      order : (k : ℕ) → k + 1 < count m → edge m k ≤ offset m (k + 1)
+      order zero h = rw (edge-first m) zero-le
+      order (suc k) h = rw (edge-inner m (suc k) (omega arith) (omega arith)) (g .order (suc k) (omega arith) h)
+
+  pub offsets-test : offsetsBad m ≡ false ↔ OffsetsGood m
+  offsets-test = (
+    λ e. placed-good (λ k h. offset-test k .0 (nowhere-at (offsetBad m) (count m - 1) k e (omega arith))),
+    λ g. nowhere (offsetBad m) (count m - 1) (λ k h. offset-test k .1 (good-placed g k (omega arith))),
+  )
+
+-- ---- codes 6 and 7
+
+pub versions-test : (v : List ℕ) → versionsBad v ≡ false ↔ VersionList v
+unfolding versionsBad
+versions-test v = (
+  λ e.
+      let a = any-parts _ _ e in
+      let b = any-parts _ _ (a .1) in
+      let c = any-parts _ _ (b .1) in
+      let d = any-parts _ _ (c .1) in
+      let four : 4 ≤ length v = ltb-false _ _ (a .0) in
+      let few : length v ≤ 128 = ltb-false _ _ (b .0) in
+      let whole : length v % 4 ≡ 0 = eqb-true _ _ (not-false _ (c .0)) in
+      record { whole = whole; one = omega arith; few = omega arith; rise = words-rise v 0 (length v / 4) .0 (d .0) },
+  λ g.
+      any-not _ (le-ltb (length v) 4 (omega (arith, g .whole, g .one)))
+      (any-not _ (le-ltb 128 (length v) (omega (arith, g .whole, g .few)))
+      (any-not _ (ap not (eq-eqb _ _ (g .whole))) (any-not _ (words-rise v 0 (length v / 4) .1 (g .rise)) any-none))),
+)
+
+pub siblings-test : (v : List ℕ) → siblingsBad v ≡ false ↔ SiblingList v
+unfolding siblingsBad
+siblings-test v = (
+  λ e.
+      let a = any-parts _ _ e in
+      let b = any-parts _ _ (a .1) in
+      let most : length v ≤ 1024 = ltb-false _ _ (a .0) in
+      record { whole = eqb-true _ _ (not-false _ (b .0)); few = omega arith },
+  λ g.
+      any-not _ (le-ltb 1024 (length v) (omega (arith, g .whole, g .few)))
+      (any-not _ (ap not (eq-eqb _ _ (g .whole))) any-none),
+)
+
+pub value-test : (rule : Rule) (v : List ℕ) → valueBad rule v ≡ false ↔ KeepsRule rule v
+unfolding valueBad
+value-test (bytes n) v = (λ e. eqb-true _ _ (not-false _ e), λ g. ap not (eq-eqb _ _ g))
+value-test versions v = versions-test v
+value-test siblings v = siblings-test v
+value-test message v = (λ e. record {}, λ g. refl)
+
+-- a && b is false exactly where b is, if a is true
+pub and-test : (a b : Bool) → (a && b) ≡ false ↔ (a ≡ true → b ≡ false)
+and-test true b = (λ e q. e, λ f. f refl)
+and-test false b = (λ e q. absurd (true≢false (sym q)), λ f. refl)
+
+module _ (m : List ℕ) (rows : List Row) where
+  pub absent-test : someAbsent m rows ≡ false ↔ TagsThere m rows
+  unfolding absent
+  absent-test = (
+    λ e k h n. not-false _ (and-test _ _ .0 (nowhere-at (rowAbsent m rows) (length rows) k e h) n),
+    λ t. nowhere (rowAbsent m rows) (length rows) (λ k h. and-test _ _ .1 (λ n. ap not (t k h n))),
+  )
+
+  pub broken-test : someBroken m rows ≡ false ↔ ValuesRight m rows
+  unfolding broken
+  broken-test = (
+    λ e k h n. value-test _ _ .0 (and-test _ _ .0 (nowhere-at (rowBroken m rows) (length rows) k e h) n),
+    λ t. nowhere (rowBroken m rows) (length rows) (λ k h. and-test _ _ .1 (λ n. value-test _ _ .1 (t k h n))),
+  )

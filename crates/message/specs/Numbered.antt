@@ -1,0 +1,25 @@
+-- A table as code is handed it: numbers, three for each row.
+use Prim.Native.Nat.{ℕ, _+_, _*_, _/_}
+use mathlib.Core.List.{List}
+use mathlib.Core.Bool.{not, cond}
+use lib.Dec.{eqb}
+use lib.ListN.{length, getD}
+use Rattle.laws.specs.Upto.{upto}
+use Rattle.message.specs.Rules.{Rule, bytes, versions, siblings, message, Row}
+
+-- the rule that a number is: 1, 2 and 3 are names, any other number is a length in bytes
+unfoldable pub ruleIn : ℕ → Rule
+ruleIn n = cond (eqb n 1) versions (cond (eqb n 2) siblings (cond (eqb n 3) message (bytes n)))
+
+-- row k: its tag, whether it must be there (0 where it may be absent), and its rule
+abbrev pub rowIn : List ℕ → ℕ → Row
+rowIn t k =
+    record {
+      tag = getD t (3 * k) 0;
+      needed = not (eqb (getD t (3 * k + 1) 0) 0);
+      rule = ruleIn (getD t (3 * k + 2) 0);
+    }
+
+-- the table that numbers are: a row for each three of them
+unfoldable pub rowsIn : List ℕ → List Row
+rowsIn t = upto (rowIn t) (length t / 3)

@@ -1,0 +1,25 @@
+-- The check of a path (draft 19, 5.3.1, but for the order of the hashes, which is draft 13's; document 01, "Hash and
+-- tree").
+use mathlib.Core.Bool.{Bool, _&&_}
+use mathlib.Core.List.{List, [], _∷_}
+use Prim.Native.Nat.{ℕ, _/_, _%_, _^_}
+use lib.Dec.{eqb, ltb, leb}
+use lib.ListN.{length}
+use Rattle.laws.specs.Same.{same}
+use Rattle.tree.specs.Direction.{step}
+use Rattle.tree.specs.Tree.{nodesIn}
+
+-- from h up, over the siblings, with the bits of INDX from its lowest
+unfoldable pub climb : ℕ → List ℕ → List (List ℕ) → List ℕ
+climb indx h [] = h
+climb indx h (sibling ∷ siblings) = climb (indx / 2) (step (indx % 2) h sibling) siblings
+
+-- where the whole siblings in the bytes of PATH lead from a leaf
+unfoldable pub reached : List ℕ → ℕ → List ℕ → List ℕ
+reached leaf indx path = climb indx leaf (nodesIn (length path / 32) path)
+
+-- the whole check: PATH is 0 to 32 whole siblings; INDX needs no more bits than there are siblings; they lead to ROOT
+unfoldable pub leadsOf : List ℕ → ℕ → List ℕ → List ℕ → Bool
+leadsOf leaf indx path root =
+    eqb (length path % 32) 0 && leb (length path / 32) 32 && ltb indx (2 ^ (length path / 32))
+    && same (reached leaf indx path) root

@@ -1,0 +1,135 @@
+//! What a host gathers: records, and the pile of them beside what it found out about their
+//! signatures.
+
+use crate::{piles, Cut, Pair, Refusal, ReportRefusal, Window};
+use crate::{LONGEST_PACKET, MOST_RECORDS, RECORD_LENGTH};
+
+/// Where the parts of a record are. Its first 32 bytes are the key.
+mod at {
+    pub const RAND: usize = 32;
+    pub const REQUEST_LENGTH: usize = 64;
+    pub const RESPONSE_LENGTH: usize = 68;
+    pub const REQUEST: usize = 96;
+    pub const RESPONSE: usize = 2096;
+}
+
+/// A record of a pile: a request, the response to it, the long-term key of the server, and the rand
+/// by which the request is linked to the response before it. The first record of a pile that is to
+/// be a report has a rand of zeros.
+#[derive(Clone, Debug, PartialEq, Eq)]
+pub struct Record {
+    bytes: [u8; RECORD_LENGTH],
+}
+
+impl Record {
+    /// The record of these two packets, which may be any. The only refusal is 16, where one of them
+    /// has more than [`LONGEST_PACKET`] bytes.
+    pub fn new(
+        key: &[u8; 32],
+        rand: &[u8; 32],
+        request: &[u8],
+        response: &[u8],
+    ) -> Result<Record, Refusal> {
+        if request.len() > LONGEST_PACKET || response.len() > LONGEST_PACKET {
+            return Err(Refusal::Record);
+        }
+        let mut bytes = [0; RECORD_LENGTH];
+        let mut put = |at: usize, part: &[u8]| bytes[at..at + part.len()].copy_from_slice(part);
+        put(0, key);
+        put(at::RAND, rand);
+        put(at::REQUEST_LENGTH, &length(request));
+        put(at::RESPONSE_LENGTH, &length(response));
+        put(at::REQUEST, request);
+        put(at::RESPONSE, response);
+        Ok(Record { bytes })
+    }
+
+    /// Its bytes, as they stand in a pile.
+    #[must_use]
+    pub const fn bytes(&self) -> &[u8; RECORD_LENGTH] {
+        &self.bytes
+    }
+}
+
+/// The length of a packet as a record holds it. It is at most 2,000, so that nothing is lost.
+fn length(packet: &[u8]) -> [u8; 4] {
+    (packet.len() as u32).to_le_bytes()
+}
+
+/// A pile in the making: up to [`MOST_RECORDS`] records, each with the two answers about its
+/// signatures.
+///
+/// ```
+/// use trawlbeacon::{Pile, Record, Refusal};
+///
+/// let record = Record::new(&[1; 32], &[0; 32], b"no request", b"no response")?;
+/// let mut pile = Pile::new();
+/// pile.push(&record, true, false)?;
+/// assert_eq!((pile.bytes(), pile.answers()), (&record.bytes()[..], &[1, 0][..]));
+/// assert_eq!(pile.judge(0), Err(Refusal::Request));
+/// assert_eq!(pile.cut(), Err(Refusal::NoContradiction));
+/// # Ok::<(), Refusal>(())
+/// ```
+#[derive(Clone, Debug, Default, PartialEq, Eq)]
+pub struct Pile {
+    bytes: Vec<u8>,
+    answers: Vec<u8>,
+}
+
+impl Pile {
+    /// A pile without a record, of which nothing is said but 15.
+    #[must_use]
+    pub const fn new() -> Pile {
+        Pile { bytes: Vec::new(), answers: Vec::new() }
+    }
+
+    /// Puts a record behind the others. The two answers are those that
+    /// [`check_response`](crate::check_response) takes. The only refusal is 15, where the pile is
+    /// full, and then it stays as it was.
+    pub fn push(
+        &mut self,
+        record: &Record,
+        delegation: bool,
+        signature: bool,
+    ) -> Result<(), Refusal> {
+        if self.records() == MOST_RECORDS {
+            return Err(Refusal::Pile);
+        }
+        self.bytes.extend(record.bytes());
+        self.answers.extend([u8::from(delegation), u8::from(signature)]);
+        Ok(())
+    }
+
+    /// How many records it has.
+    #[must_use]
+    pub fn records(&self) -> usize {
+        self.bytes.len() / RECORD_LENGTH
+    }
+
+    /// The records, one after the other.
+    #[must_use]
+    pub fn bytes(&self) -> &[u8] {
+        &self.bytes
+    }
+
+    /// The answers, two bytes a record.
+    #[must_use]
+    pub fn answers(&self) -> &[u8] {
+        &self.answers
+    }
+
+    /// What [`judge`](crate::judge) says of a record.
+    pub fn judge(&self, place: usize) -> Result<Window, Refusal> {
+        piles::judge(&self.bytes, &self.answers, place)
+    }
+
+    /// What [`check_report`](crate::check_report) says of the pile.
+    pub fn check_report(&self) -> Result<Pair, ReportRefusal> {
+        piles::check_report(&self.bytes, &self.answers)
+    }
+
+    /// What [`cut`](crate::cut) takes out of the pile.
+    pub fn cut(&self) -> Result<Cut, Refusal> {
+        piles::cut(&self.bytes, &self.answers)
+    }
+}
