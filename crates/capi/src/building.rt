@@ -1,7 +1,7 @@
 // Trees and paths for hosts.
 ghost use mathlib.Core.Path.{_≡_};
 ghost use lib.ListN.{length};
-ghost use Rattle.tree.specs.Answers.{rootedOf, PlacesLeaf, pathBytes, fromBytes, LaysRows, rowsBytes};
+ghost use Rattle.tree.specs.Answers.{rootedOf, pathBytes, fromBytes, rowsBytes};
 ghost use Rattle.tree.specs.Batch.{countOf, heldOf};
 ghost use Rattle.tree.specs.PathCheck.{leadsOf};
 ghost use Rattle.capi.specs.Building.{tbRooted, tbPlaced, tbLaid, Places, Lays};

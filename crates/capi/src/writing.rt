@@ -3,7 +3,7 @@ ghost use mathlib.Core.Path.{_≡_};
 ghost use Rattle.laws.specs.Written.{written};
 ghost use Rattle.refusal.specs.Refusal.{passed};
 ghost use Rattle.wire.specs.Response.{signedCode};
-ghost use Rattle.writer.specs.Answered.{answered, wroteNumber};
+ghost use Rattle.writer.specs.Answered.{answered};
 ghost use Rattle.writer.specs.Request.{requestBytes};
 ghost use Rattle.writer.specs.Texts.{delegationText, responseText};
 ghost use Rattle.capi.specs.Writing.{tbWrote};

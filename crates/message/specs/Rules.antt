@@ -31,7 +31,8 @@ must tag rule = record { tag = tag; needed = true; rule = rule }
 abbrev pub may : ℕ → Rule → Row
 may tag rule = record { tag = tag; needed = false; rule = rule }
 
--- not 1 to 32 versions of 4 bytes, strictly rising (draft 19, 5.1.1 and 5.2.5)
+-- not 1 to 32 versions of 4 bytes, strictly rising (draft 19, 5.1.1; of VERS 5.2.5 says sorted, and document 01 that it
+-- rises as VER in a request)
 unfoldable pub versionsBad : List ℕ → Bool
 versionsBad v =
     any

@@ -22,6 +22,7 @@ pub fn cut_run<'a>(pile: &'a [u8], answers: &'a [u8], out: &mut [u8]) -> Taken
     ensures { λ r. ⌜ Takes (now (pile .entry)) (now (answers .entry)) (length (now (out .entry))) r ⌝ }
     ensures { λ r. ⌜ now (out .exit) ≡ written (takenNumber r) (takenBytes r (now (pile .entry))) (now (out .entry)) ⌝ }
 {
+    // Both are known before either is told, so that the order of 15 and 19 stands in the two tests alone.
     let bad = pile_code(pile, answers).code != 0;
     let short = out.len() < pile.len();
     if bad {

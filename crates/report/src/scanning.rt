@@ -38,7 +38,8 @@ pub fn first_loose(flags: [bool; 16], n: usize) -> Found
     Found::Nothing
 }
 
-// The answer where record k is the first that is refused, and v the verdict on it.
+// The answer where record k is the first that is refused, and v the verdict on it. A valid verdict is never handed in,
+// since `first_refused` found a refused one.
 pub fn of_record(v: Verdict, k: usize) -> Report
     ensures { λ r. ⌜ r ≡ recordOf v k ⌝ }
 {

@@ -17,4 +17,4 @@ pub find-code-once : Settles find-code-kinds.ps find-code-kinds.r find-code-read
 find-code-once κs a x u y v p q = (p ∙ sym q, refl)
 
 pub search-once : Settles search-kinds.ps search-kinds.r search-reads.Learnt
-search-once κs a x u y v p q = (finds-once (a .0 .now) (a .1 .0 .now) (a .1 .1 .0) x y p q, refl)
+search-once κs a x u y v p q = (finds-once (a .0 .now) (a .1 .0 .now) (a .1 .1 .0) x y (p .1) (q .1), refl)

@@ -103,6 +103,11 @@ module _ (owner shipped srv : List ℕ) where
   pub finds-once : (w v : Where) → FindsServer owner shipped srv w → FindsServer owner shipped srv v → w ≡ v
   finds-once w v f g = finds-sought w f ∙ sym (finds-sought v g)
 
+  -- so what is found has document 01's number of that answer: both clauses of the search
+  pub with-number : (w : Where) → FindsServer owner shipped srv w
+      → (whereNumber w ≡ whereNumber (sought owner shipped srv)) × FindsServer owner shipped srv w
+  with-number w f = (ap whereNumber (finds-sought w f), f)
+
   -- ---- the answer as code has it, x, which is w
 
   pub finds-at : {x w : Where} → x ≡ w → FindsServer owner shipped srv x → FindsServer owner shipped srv w

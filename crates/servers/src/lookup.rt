@@ -43,6 +43,7 @@ pub fn find_code<'a>(owner: &'a [u8], shipped: &'a [u8], srv: [u8; 32]) -> Refus
 
 // Where the server with this SRV value stands. Both lists are looked at for 21 before either is searched.
 pub fn search<'a>(owner: &'a [u8], shipped: &'a [u8], srv: [u8; 32]) -> Where
+    ensures { λ r. ⌜ whereNumber r ≡ whereNumber (sought (now (owner .entry)) (now (shipped .entry)) srv) ⌝ }
     ensures { λ r. ⌜ FindsServer (now (owner .entry)) (now (shipped .entry)) srv r ⌝ }
 {
     if owner.len() % SERVER != 0 {

@@ -1,6 +1,6 @@
 -- A good request and a good response, as document 01 says them ("Bytes of a message"; draft 19, sections 4 and 5), over
--- the fields that a packet is made of: no code and no test stands in these sentences. proofs/GoodRequest and
--- proofs/GoodResponse show that they hold exactly where none of the codes 1 to 8 is given.
+-- the fields that a packet is made of: no code stands in these sentences. proofs/GoodRequest and proofs/GoodResponse
+-- show that, of packets of bytes, they hold exactly where none of the codes 1 to 8 is given.
 use Prim.Native.Nat.{ℕ, _≤_}
 use mathlib.Core.Path.{_≡_}
 use mathlib.Core.List.{List}

@@ -34,7 +34,7 @@ pub fn read_request(p: &[u8]) -> Request
     good_request(body_of(p))
 }
 
-// Codes 1 to 8 of a request packet, 0 where none applies.
+// Codes 1 to 8 of a request packet, PASSED where none applies.
 pub fn request_code(p: &[u8]) -> Refusal
     ensures { λ r. ⌜ r ≡ requestCode (now (p .entry)) ⌝ }
 {

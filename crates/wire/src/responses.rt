@@ -49,7 +49,7 @@ pub fn response_code(p: &[u8]) -> Refusal
     response_message_code(body_of(p))
 }
 
-// Codes 1 to 7 of a response packet, 0 where none applies: what the signed texts ask.
+// Codes 1 to 7 of a response packet, PASSED where none applies: what the signed texts ask.
 pub fn signed_code(p: &[u8]) -> Refusal
     ensures { λ r. ⌜ r ≡ signedCode (now (p .entry)) ⌝ }
 {

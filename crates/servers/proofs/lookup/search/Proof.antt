@@ -1,23 +1,24 @@
 -- `servers::lookup::search` meets its contract. Each return by the tests that led there.
-use Rattle.servers.proofs.Seeking.{owner-ragged, shipped-ragged, in-owner, in-shipped, in-neither}
+use Rattle.servers.proofs.Seeking.{owner-ragged, shipped-ragged, in-owner, in-shipped, in-neither, with-number}
+use Rattle.servers.specs.declared.Where.the-variants.{Owner, Shipped, Ragged, Unknown}
 use borrow.Author.Needs.{needs}
 use Rattle.servers.proofs.lookup.search.Statement.{statement}
 use Rattle.servers.proofs.lookup.search.Tie as tie
 
 returns : tie.Need-returns
-returns c = search (owner-ragged, needs)
+returns c = with-number _ _ _ Ragged (search (owner-ragged, needs))
 
 returns-2 : tie.Need-returns-2
-returns-2 c = search (shipped-ragged, needs)
+returns-2 c = with-number _ _ _ Ragged (search (shipped-ragged, needs))
 
 returns-3 : tie.Need-returns-3
-returns-3 c = search (in-owner, needs)
+returns-3 c = with-number _ _ _ (Owner _) (search (in-owner, needs))
 
 returns-4 : tie.Need-returns-4
-returns-4 c = search (in-shipped, needs)
+returns-4 c = with-number _ _ _ (Shipped _) (search (in-shipped, needs))
 
 returns-5 : tie.Need-returns-5
-returns-5 c = search (in-neither, needs)
+returns-5 c = with-number _ _ _ Unknown (search (in-neither, needs))
 
 pub search-spec : {M : Type 1} → statement M
 search-spec =

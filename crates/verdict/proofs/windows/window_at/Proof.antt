@@ -4,7 +4,7 @@ use Rattle.verdict.proofs.windows.window_at.Statement.{statement}
 use Rattle.verdict.proofs.windows.window_at.Tie as tie
 
 returns : tie.Need-returns
-returns c = cc
+returns c = rw (c .before .low-end .ensures, c .high-end .ensures)
 
 pub window-at-spec : {M : Type 1} → statement M
 window-at-spec =

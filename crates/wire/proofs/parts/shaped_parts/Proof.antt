@@ -12,7 +12,14 @@ value32-requires c κs = rw (c .dele-of .ensures) (search needs)
 
 returns : tie.Need-returns
 unfolding partsIn
-returns c = cc
+returns c =
+    rw (
+      c .value32 .ensures,
+      c .before .dele-of .ensures,
+      c .before .before .value642 .ensures,
+      c .before .before .before .value-of .ensures,
+      c .before .before .before .before .value64 .ensures,
+    )
 
 pub shaped-parts-spec : {M : Type 1} → statement M
 shaped-parts-spec =
