@@ -1,4 +1,6 @@
 -- `hash::empty_place` meets its contract.
+use mathlib.Core.Path.{ap, _∙_}
+use lib.ListN.{take}
 use Rattle.hash.specs.Hashes.{H32, emptyPlace}
 use borrow.Author.Needs.{needs}
 use Rattle.hash.proofs.empty_place.Statement.{statement}
@@ -6,7 +8,7 @@ use Rattle.hash.proofs.empty_place.Tie as tie
 
 returns : tie.Need-returns
 unfolding emptyPlace H32
-returns c = cc
+returns c = c .front .ensures ∙ ap (take 32) (c .before .sha512 .ensures)
 
 pub empty-place-spec : {M : Type 1} → statement M
 empty-place-spec =

@@ -1,4 +1,6 @@
 -- `hash::link` meets its contract.
+use mathlib.Core.Path.{ap, _∙_}
+use lib.ListN.{take}
 use Rattle.hash.specs.Hashes.{H32, linkOf}
 use borrow.Author.Needs.{needs}
 use Rattle.hash.proofs.link.Statement.{statement}
@@ -6,7 +8,7 @@ use Rattle.hash.proofs.link.Tie as tie
 
 returns : tie.Need-returns
 unfolding linkOf H32
-returns c = cc
+returns c = c .front .ensures ∙ ap (take 32) (c .before .sha512-pair .ensures)
 
 pub link-spec : {M : Type 1} → statement M
 link-spec =

@@ -1,5 +1,8 @@
 -- `hash::srv_value` meets its contract.
-use mathlib.Core.List.{append-nil}
+use mathlib.Core.Path.{ap, _∙_}
+use mathlib.Core.List.{_∷_, append-nil}
+use lib.ListN.{take}
+use Rattle.sha512.specs.Computation.{Sha512}
 use Rattle.hash.specs.Hashes.{H32, srvOf}
 use borrow.Author.Needs.{needs}
 use Rattle.hash.proofs.srv_value.Statement.{statement}
@@ -7,7 +10,10 @@ use Rattle.hash.proofs.srv_value.Tie as tie
 
 returns : tie.Need-returns
 unfolding srvOf H32
-returns c = cc (append-nil (c .before .before .before .before .args .t1))
+returns c =
+    let key = c .before .before .before .before .args .t1 in
+    let digest = c .before .sha512-tagged .ensures ∙ ap (λ l. Sha512 (0xff ∷ l)) (append-nil key) in
+    c .front .ensures ∙ ap (take 32) digest
 
 pub srv-value-spec : {M : Type 1} → statement M
 srv-value-spec =

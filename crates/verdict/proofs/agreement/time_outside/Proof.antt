@@ -58,7 +58,7 @@ returns-2 c =
     m .number642 .ensures ∙ ap (λ l. le 8 (valueOf l MINT) 0) (d .dele-of .ensures) in
     let maxt : c .number643 .result ≡ maxtIn b =
     c .number643 .ensures ∙ ap (λ l. le 8 (valueOf l MAXT) 0) (d .dele-of .ensures) in
-    simp (le-ltb (midpIn b) (mintIn b) (rw (← midp, ← mint) (c .before .if1 .left)), or-false) (cc)
+    simp (le-ltb (midpIn b) (mintIn b) (rw (← midp, ← mint) (c .before .if1 .left)), or-false) (rw (maxt, midp))
 
 pub time-outside-spec : {M : Type 1} → statement M
 time-outside-spec =
