@@ -4,10 +4,10 @@ use mathlib.Core.Path.{refl, sym, ap, _∙_}
 use mathlib.Core.List.{List}
 use lib.ListN.{length}
 use Rattle.laws.proofs.Once.{Settles}
-use Rattle.tree.proofs.Answers.{places-once, lays-once}
+use Rattle.batch.proofs.Answers.{places-once, lays-once}
 use Rattle.report.proofs.Says.{report-once}
 use Rattle.report.proofs.Runs.{takes-once}
-use Rattle.capi.specs.Piling.{tbReported}
+use Rattle.told.specs.Piling.{tbReported}
 use Rattle.capi.proofs.hashing.tb_sha512.Kinds as tb-sha512-kinds
 use Rattle.capi.proofs.hashing.tb_sha512.Reads as tb-sha512-reads
 use Rattle.capi.proofs.hashing.tb_leaf.Kinds as tb-leaf-kinds

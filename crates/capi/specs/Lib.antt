@@ -1,8 +1,3 @@
--- What the answers of the library are at the C boundary: each struct, from the answer that it tells. Beside a refusal
--- stand zeros, but for the place of a record.
+-- What the exports promise whose answers are told by cases. The structs, and what is told in each, are in the crate told.
 pub mod Building
-pub mod Finding
-pub mod Judging
 pub mod Piling
-pub mod Reading
-pub mod Writing

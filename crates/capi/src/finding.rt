@@ -1,9 +1,9 @@
 // Server lists for hosts.
 ghost use mathlib.Core.Path.{_≡_};
 ghost use Rattle.servers.specs.Lookup.{sought};
-ghost use Rattle.capi.specs.Finding.{tbFound};
-use super::TbFound;
+ghost use Rattle.told.specs.Finding.{tbFound};
 use servers::Where;
+use told::TbFound;
 
 // Where the record of the server with this SRV value stands: in which list, and at which byte. A reference cannot be
 // handed to C, so the host takes the 64 bytes from there on itself.

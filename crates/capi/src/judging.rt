@@ -2,11 +2,9 @@
 ghost use mathlib.Core.Path.{_≡_};
 ghost use lib.Dec.{eqb};
 ghost use Rattle.verdict.specs.Check.{verdictOf};
-ghost use Rattle.capi.specs.Judging.{tbVerdict};
-use super::TbVerdict;
-use super::numbers::number;
-use super::numbers::yes;
-use verdict::Verdict;
+ghost use Rattle.told.specs.Judging.{tbVerdict};
+use told::TbVerdict;
+use told::yes;
 
 // Checks a response packet against the request packet that it answers, with the answers for its two signatures, of
 // which only 1 is a yes.
@@ -20,27 +18,5 @@ pub extern "C" fn tb_check_response<'a>(
     ensures { λ r. ⌜ r
         ≡ tbVerdict (verdictOf (now (request .entry)) (now (response .entry)) (eqb delegation 1) (eqb signature 1)) ⌝ }
 {
-    verdict_told(verdict::check_response(request, response, yes(delegation), yes(signature)))
-}
-
-// A verdict, as a struct.
-pub fn verdict_told(v: Verdict) -> TbVerdict
-    ensures { λ r. ⌜ r ≡ tbVerdict v ⌝ }
-{
-    match v {
-        Verdict::Valid(w) => TbVerdict {
-            code: 0,
-            radi: w.radi,
-            midp: w.midp,
-            low: w.low,
-            high: w.high,
-        },
-        Verdict::Refused(why) => TbVerdict {
-            code: number(why),
-            radi: 0,
-            midp: 0,
-            low: 0,
-            high: 0,
-        },
-    }
+    told::verdict_told(verdict::check_response(request, response, yes(delegation), yes(signature)))
 }

@@ -5,21 +5,18 @@ ghost use Rattle.pile.specs.Valid.{judgementOf};
 ghost use Rattle.pile.specs.Links.{linkedOf, firstRandZero};
 ghost use Rattle.runs.specs.Clash.{clash};
 ghost use Rattle.verdict.specs.Window.{windowOf};
-ghost use Rattle.capi.specs.Piling.{tbJudged, refusedAt, tbReported, Checks, notCut, tbCut, Cuts};
-use super::TbCut;
-use super::TbJudged;
-use super::TbReported;
-use super::judging::verdict_told;
-use super::numbers::number;
-use report::Report;
-use report::Taken;
+ghost use Rattle.told.specs.Piling.{tbJudged};
+ghost use Rattle.capi.specs.Piling.{Checks, Cuts};
+use told::TbCut;
+use told::TbJudged;
+use told::TbReported;
 
 // Code 15 of a pile and its answers, 0 where it does not apply.
 #[no_mangle]
 pub extern "C" fn tb_pile_code<'a>(pile: &'a [u8], answers: &'a [u8]) -> u32
     ensures { λ r. ⌜ r ≡ pileCode (now (pile .entry)) (now (answers .entry)) .code ⌝ }
 {
-    number(pile::pile_code(pile, answers))
+    told::number(pile::pile_code(pile, answers))
 }
 
 // What is said of the record at a place.
@@ -27,17 +24,7 @@ pub extern "C" fn tb_pile_code<'a>(pile: &'a [u8], answers: &'a [u8]) -> u32
 pub extern "C" fn tb_judge<'a>(pile: &'a [u8], answers: &'a [u8], place: usize) -> TbJudged
     ensures { λ r. ⌜ r ≡ tbJudged (judgementOf (now (pile .entry)) (now (answers .entry)) place) ⌝ }
 {
-    let j = pile::judge(pile, answers, place);
-    let v = j.verdict;
-    let told = verdict_told(v);
-    TbJudged {
-        code: told.code,
-        radi: told.radi,
-        place: j.place as u64,
-        midp: told.midp,
-        low: told.low,
-        high: told.high,
-    }
+    told::judgement_told(pile::judge(pile, answers, place))
 }
 
 // Whether the record at a place is linked to the one before it.
@@ -76,7 +63,7 @@ pub extern "C" fn tb_contradicts(
 pub extern "C" fn tb_check_report<'a>(pile: &'a [u8], answers: &'a [u8]) -> TbReported
     ensures { λ r. ⌜ Checks (now (pile .entry)) (now (answers .entry)) r ⌝ }
 {
-    report_told(report::check_report(pile, answers))
+    told::report_told(report::check_report(pile, answers))
 }
 
 // The shortest run that convicts by itself, at the front of out.
@@ -84,62 +71,5 @@ pub extern "C" fn tb_check_report<'a>(pile: &'a [u8], answers: &'a [u8]) -> TbRe
 pub extern "C" fn tb_cut_run<'a>(pile: &'a [u8], answers: &'a [u8], out: &mut [u8]) -> TbCut
     ensures { λ r. ⌜ Cuts (now (pile .entry)) (now (answers .entry)) (now (out .entry)) r (now (out .exit)) ⌝ }
 {
-    run_told(report::cut_run(pile, answers, out))
-}
-
-// The answer on a report, as a struct.
-fn report_told(a: Report) -> TbReported
-    ensures { λ r. ⌜ r ≡ tbReported a ⌝ }
-{
-    match a {
-        Report::Pair(i, j) => TbReported {
-            code: 0,
-            place: 0,
-            first: i as u64,
-            second: j as u64,
-        },
-        Report::Bad => refused_at(15, 0),
-        Report::Record(why, k) => refused_at(number(why), k),
-        Report::Unlinked(k) => refused_at(17, k),
-        Report::Clear => refused_at(18, 0),
-    }
-}
-
-// A refusal of a report, with the place that it carries.
-fn refused_at(code: u32, place: usize) -> TbReported
-    ensures { λ r. ⌜ r ≡ refusedAt code place ⌝ }
-{
-    TbReported {
-        code: code,
-        place: place as u64,
-        first: 0,
-        second: 0,
-    }
-}
-
-// The answer of the cutter, as a struct.
-fn run_told(t: Taken) -> TbCut
-    ensures { λ r. ⌜ r ≡ tbCut t ⌝ }
-{
-    match t {
-        Taken::Run(i, j) => TbCut {
-            code: 0,
-            first: i as u64,
-            last: j as u64,
-        },
-        Taken::Bad => not_cut(15),
-        Taken::Short => not_cut(19),
-        Taken::NoRun => not_cut(18),
-    }
-}
-
-// A refusal of the cutter.
-fn not_cut(code: u32) -> TbCut
-    ensures { λ r. ⌜ r ≡ notCut code ⌝ }
-{
-    TbCut {
-        code: code,
-        first: 0,
-        last: 0,
-    }
+    told::run_told(report::cut_run(pile, answers, out))
 }

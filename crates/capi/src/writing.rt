@@ -6,10 +6,8 @@ ghost use Rattle.wire.specs.Response.{signedCode};
 ghost use Rattle.writer.specs.Answered.{answered};
 ghost use Rattle.writer.specs.Request.{requestBytes};
 ghost use Rattle.writer.specs.Texts.{delegationText, responseText};
-ghost use Rattle.capi.specs.Writing.{tbWrote};
-use super::TbWrote;
-use super::numbers::number;
-use writer::Wrote;
+ghost use Rattle.told.specs.Writing.{tbWrote};
+use told::TbWrote;
 
 // A request to the server with this long-term key, with this nonce, at the front of out.
 #[no_mangle]
@@ -19,7 +17,7 @@ pub extern "C" fn tb_write_request(key: &[u8; 32], nonce: &[u8; 32], out: &mut [
     ensures { λ r. ⌜ now (out .exit)
         ≡ written (r .code) (requestBytes (now (key .entry)) (now (nonce .entry))) (now (out .entry)) ⌝ }
 {
-    told(writer::write_request(*key, *nonce, out))
+    told::wrote_told(writer::write_request(*key, *nonce, out))
 }
 
 // The delegation text of a response packet, at the front of out.
@@ -31,7 +29,7 @@ pub extern "C" fn tb_delegation_text(packet: &[u8], out: &mut [u8]) -> TbWrote
     ensures { λ r. ⌜ now (out .exit)
         ≡ written (r .code) (delegationText (now (packet .entry))) (now (out .entry)) ⌝ }
 {
-    told(writer::delegation_text(packet, out))
+    told::wrote_told(writer::delegation_text(packet, out))
 }
 
 // The response text of a response packet, at the front of out.
@@ -43,21 +41,5 @@ pub extern "C" fn tb_response_text(packet: &[u8], out: &mut [u8]) -> TbWrote
     ensures { λ r. ⌜ now (out .exit)
         ≡ written (r .code) (responseText (now (packet .entry))) (now (out .entry)) ⌝ }
 {
-    told(writer::response_text(packet, out))
-}
-
-// A writer's answer, as a struct.
-fn told(w: Wrote) -> TbWrote
-    ensures { λ r. ⌜ r ≡ tbWrote w ⌝ }
-{
-    match w {
-        Wrote::Done(n) => TbWrote {
-            code: 0,
-            length: n as u64,
-        },
-        Wrote::Refused(why) => TbWrote {
-            code: number(why),
-            length: 0,
-        },
-    }
+    told::wrote_told(writer::response_text(packet, out))
 }

@@ -4,15 +4,15 @@ use mathlib.Core.List.{List}
 use Prim.Native.Nat.{ℕ, _*_, _≤_, _<_}
 use native.Mathlib.Omega.{arith}
 use lib.ListN.{length}
-use Rattle.tree.specs.Direction.{indxOf}
+use Rattle.batch.specs.Indx.{indxOf}
 use Rattle.tree.specs.Tree.{depthOf}
-use Rattle.tree.specs.Batch.{countOf}
-use Rattle.tree.specs.Answers.{rootedOf, PlacesLeaf, pathBytes}
-use Rattle.tree.specs.declared.Rooted.{Rooted}
-use Rattle.tree.specs.declared.Placed.the-variants.{Written}
-use Rattle.tree.proofs.Batch.{count-bounds}
-use Rattle.tree.proofs.Answers.{rooted-some, place-written}
-use Rattle.tree.proofs.Built.{path-bytes}
+use Rattle.batch.specs.Leaves.{countOf}
+use Rattle.batch.specs.Answers.{rootedOf, PlacesLeaf, pathBytes}
+use Rattle.batch.specs.declared.Rooted.{Rooted}
+use Rattle.batch.specs.declared.Placed.the-variants.{Written}
+use Rattle.batch.proofs.Leaves.{count-bounds}
+use Rattle.batch.proofs.Answers.{rooted-some, place-written}
+use Rattle.batch.proofs.Built.{path-bytes}
 
 -- n leaves, of a tree of depth d
 module _ (n d : ℕ) (counted : countOf (32 * n) ≡ n) (deep : depthOf n ≡ d) (s : List ℕ) (long : length s ≡ 32 * n) where

@@ -13,9 +13,9 @@ use Rattle.laws.specs.Least.{least, somewhere}
 use Rattle.laws.specs.Numbers.{le}
 use Rattle.refusal.specs.declared.Refusal.{Refusal}
 use Rattle.message.specs.Frame.{lengthBad, countBad, edge, frameCode}
-use Rattle.tree.specs.Direction.{indxOf}
+use Rattle.batch.specs.Indx.{indxOf}
 use Rattle.tree.specs.Tree.{depthOf}
-use Rattle.tree.specs.Batch.{countOf}
+use Rattle.batch.specs.Leaves.{countOf}
 use Rattle.runs.specs.Clash.{clash}
 use Rattle.report.specs.Taking.{takenNumber}
 use Rattle.report.specs.declared.Taken.the-variants.{NoRun}

@@ -16,9 +16,9 @@ use Rattle.wire.specs.Packet.{packetOf, body}
 use Rattle.wire.specs.Request.{requestOf, requestBad}
 use Rattle.wire.specs.Response.{indxIn, midpIn, mintIn, maxtIn, responseCode, responseOf}
 use Rattle.tree.specs.PathCheck.{leadsOf}
-use Rattle.tree.specs.Batch.{countOf}
-use Rattle.tree.specs.Answers.{rootedOf, PlacesLeaf, pathBytes}
-use Rattle.tree.specs.declared.Placed.the-variants.{Written}
+use Rattle.batch.specs.Leaves.{countOf}
+use Rattle.batch.specs.Answers.{rootedOf, PlacesLeaf, pathBytes}
+use Rattle.batch.specs.declared.Placed.the-variants.{Written}
 use Rattle.verdict.specs.Window.{windowOf}
 use Rattle.verdict.specs.Check.{versionUnasked, nonceDiffers, pathMisses, windowIn, verdictOf, verdictNumber}
 use Rattle.verdict.specs.declared.Verdict.{Verdict}

@@ -2,12 +2,17 @@
 -- tree").
 use mathlib.Core.Bool.{Bool, _&&_}
 use mathlib.Core.List.{List, [], _∷_}
-use Prim.Native.Nat.{ℕ, _/_, _%_, _^_}
+use Prim.Native.Nat.{ℕ, zero, suc, _/_, _%_, _^_}
 use lib.Dec.{eqb, ltb, leb}
 use lib.ListN.{length}
 use Rattle.laws.specs.Same.{same}
-use Rattle.tree.specs.Direction.{step}
+use Rattle.hash.specs.Hashes.{parentOf}
 use Rattle.tree.specs.Tree.{nodesIn}
+
+-- one step up, by a bit of INDX: 0 gives H(0x01, sibling, h), and 1 gives H(0x01, h, sibling)
+unfoldable pub step : ℕ → List ℕ → List ℕ → List ℕ
+step zero h sibling = parentOf sibling h
+step (suc _) h sibling = parentOf h sibling
 
 -- from h up, over the siblings, with the bits of INDX from its lowest
 unfoldable pub climb : ℕ → List ℕ → List (List ℕ) → List ℕ

@@ -1,10 +1,12 @@
 -- `capi::building::tb_root` meets its contract.
+use mathlib.Core.Path.{ap, _∙_}
+use Rattle.told.specs.Building.{tbRooted}
 use borrow.Author.Needs.{needs}
 use Rattle.capi.proofs.building.tb_root.Statement.{statement}
 use Rattle.capi.proofs.building.tb_root.Tie as tie
 
 returns : tie.Need-returns
-returns c = cc
+returns c = c .root-told .ensures ∙ ap tbRooted (c .before .root .ensures)
 
 pub tb-root-spec : {M : Type 1} → statement M
 tb-root-spec =

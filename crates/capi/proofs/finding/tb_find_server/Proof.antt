@@ -3,7 +3,7 @@ use mathlib.Core.Path.{refl}
 use native.Mathlib.Omega.{arith}
 use Rattle.servers.proofs.Matching.{within-owner, within-shipped}
 use Rattle.servers.proofs.Seeking.{sought-at}
-use Rattle.capi.specs.Finding.{tbFound}
+use Rattle.told.specs.Finding.{tbFound}
 use borrow.Author.Needs.{needs}
 use Rattle.capi.proofs.finding.tb_find_server.Statement.{statement}
 use Rattle.capi.proofs.finding.tb_find_server.Tie as tie

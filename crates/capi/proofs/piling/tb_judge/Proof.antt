@@ -1,14 +1,12 @@
 -- `capi::piling::tb_judge` meets its contract.
 use mathlib.Core.Path.{ap, _∙_}
-use Rattle.capi.specs.Piling.{placed, tbJudged}
+use Rattle.told.specs.Piling.{tbJudged}
 use borrow.Author.Needs.{needs}
 use Rattle.capi.proofs.piling.tb_judge.Statement.{statement}
 use Rattle.capi.proofs.piling.tb_judge.Tie as tie
 
 returns : tie.Need-returns
-returns c =
-    let judgement = c .before .judge in
-    ap (placed (judgement .result .place)) (c .verdict-told .ensures) ∙ ap tbJudged (judgement .ensures .1)
+returns c = c .judgement-told .ensures ∙ ap tbJudged (c .before .judge .ensures .1)
 
 pub tb-judge-spec : {M : Type 1} → statement M
 tb-judge-spec =

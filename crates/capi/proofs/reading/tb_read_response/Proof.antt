@@ -1,10 +1,12 @@
 -- `capi::reading::tb_read_response` meets its contract.
+use mathlib.Core.Path.{ap, _∙_}
+use Rattle.told.specs.Reading.{tbResponse}
 use borrow.Author.Needs.{needs}
 use Rattle.capi.proofs.reading.tb_read_response.Statement.{statement}
 use Rattle.capi.proofs.reading.tb_read_response.Tie as tie
 
 returns : tie.Need-returns
-returns c = cc
+returns c = c .response-told .ensures ∙ ap tbResponse (c .before .read-response .ensures)
 
 pub tb-read-response-spec : {M : Type 1} → statement M
 tb-read-response-spec =

@@ -1,0 +1,12 @@
+-- Laws that belong to no one function. What the crate claims of itself stands in Leads, Built, Served and Once.
+pub mod Leads
+pub mod Depth
+pub mod Leaves
+pub mod Coming
+pub mod Laying
+pub mod Reading
+pub mod AllRows
+pub mod Answers
+pub mod Built
+pub mod Served
+pub mod Once

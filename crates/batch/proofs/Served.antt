@@ -1,0 +1,78 @@
+-- What a server relies on: out of the rows that `rows` wrote, `path_from` answers and writes what `path` does, and
+-- their last node is the root.
+use mathlib.Core.Path.{_≡_, refl, sym, ap, _∙_}
+use mathlib.Core.List.{List, _++_}
+use Prim.Native.Nat.{ℕ, _-_, _^_, _<_}
+use native.Mathlib.Omega.{arith}
+use lib.ListN.{length, drop, length-append}
+use Rattle.laws.specs.Written.{written}
+use Rattle.tree.specs.Tree.{nodeIn, flat, nodeAt}
+use Rattle.batch.specs.AllRows.{levels, nodesOf, pathIn}
+use Rattle.batch.specs.Leaves.{countOf, leavesIn, depthIn, heldOf}
+use Rattle.batch.specs.Answers.{rootedOf, placedNumber, PlacesLeaf, pathBytes, fromBytes}
+use Rattle.batch.specs.Answers.{laidNumber, LaysRows, rowsBytes}
+use Rattle.batch.specs.declared.Rooted.{Rooted}
+use Rattle.batch.specs.declared.Placed.{Placed}
+use Rattle.batch.specs.declared.Placed.the-variants as placed
+use Rattle.batch.specs.declared.Laid.the-variants as laid
+use Rattle.tree.proofs.Nodes.{leaves-long, tree-long}
+use Rattle.batch.proofs.Depth.{depth-holds}
+use Rattle.batch.proofs.Leaves.{count-bounds, held-all}
+use Rattle.batch.proofs.AllRows.{rows-length, path-laid, root-laid}
+use Rattle.batch.proofs.Answers.{rooted-some, places-once}
+
+-- `rows`, lent the leaves s and the buffer o, answered that it wrote, and left the bytes b
+module _ (s o b : List ℕ) (depth : ℕ)
+    (right : LaysRows (countOf (length s)) (length o) (laid.Written depth))
+    (left : b ≡ written (laidNumber (laid.Written depth)) (rowsBytes s) o) where
+  abbrev n : ℕ
+  n = countOf (length s)
+
+  long : (k j : ℕ) → length (nodeAt (leavesIn s) k j) ≡ 32
+  long = tree-long (leavesIn s) (leaves-long n s (count-bounds (length s) .1))
+
+  is : b ≡ flat (levels (leavesIn s) (depthIn s) 0) ++ drop (length (rowsBytes s)) o
+  unfolding rowsBytes
+  is = left
+
+  held : heldOf (length b) n ≡ n
+  held =
+      let size = ap length is ∙ length-append (flat (levels (leavesIn s) (depthIn s) 0)) _ in
+      held-all (length b) n (count-bounds (length s) .0)
+      (omega (arith, size, rows-length (leavesIn s) long (depthIn s)))
+
+  same-bytes : (place : ℕ) → place < n → fromBytes b n place ≡ pathBytes s place
+  unfolding fromBytes pathBytes
+  same-bytes place there =
+      let inside : place < 2 ^ depthIn s = omega (arith, depth-holds n (right .0) (count-bounds (length s) .0)) in
+      ap flat
+      (ap (λ (l : List ℕ). pathIn l (depthIn s) place) is ∙ path-laid (leavesIn s) long _ (depthIn s) place inside)
+
+  same-left : (place : ℕ) (q : List ℕ) (x : Placed) → PlacesLeaf n place (length q) x
+      → written (placedNumber x) (fromBytes b n place) q ≡ written (placedNumber x) (pathBytes s place) q
+  same-left place q placed.NoLeaf p = refl
+  same-left place q placed.Short p = refl
+  same-left place q (placed.Written indx depth) p =
+      ap (λ (t : List ℕ). written 0 t q) (same-bytes place (p .0))
+
+  -- any answer x and buffer u that `path_from` may leave, of the bytes b, are those, y and v, of `path`
+  pub served : (place : ℕ) (q u v : List ℕ) (x y : Placed)
+      → PlacesLeaf (heldOf (length b) n) place (length q) x
+      → u ≡ written (placedNumber x) (fromBytes b n place) q
+      → PlacesLeaf n place (length q) y
+      → v ≡ written (placedNumber y) (pathBytes s place) q
+      → (x ≡ y) × (u ≡ v)
+  served place q u v x y x-right u-is y-right v-is =
+      let right = rw held at x-right in
+      let same = places-once n place (length q) x y right y-right in
+      let other = ap (λ (r : Placed). written (placedNumber r) (pathBytes s place) q) same in
+      (same, u-is ∙ same-left place q x right ∙ other ∙ sym v-is)
+
+  pub last-is-root : (r : Rooted) → r ≡ rootedOf s → nodeIn b (nodesOf depth - 1) ≡ r .root
+  last-is-root r rooted =
+      let some : n ≡ 0 → ⊥ = λ z. omega (arith, right .0) in
+      let root = ap (λ (x : Rooted). x .root) (rooted ∙ sym (rooted-some s {n = n} refl refl some refl)) in
+      ap (λ (d : ℕ). nodeIn b (nodesOf d - 1)) (right .2)
+      ∙ ap (λ (l : List ℕ). nodeIn l (nodesOf (depthIn s) - 1)) is
+      ∙ root-laid (leavesIn s) long _ (depthIn s)
+      ∙ sym root

@@ -1,0 +1,21 @@
+-- `batch::build::path_from` meets its contract. Each way out has its law, and what is left in the buffer has one.
+use Rattle.batch.proofs.Leaves.{held-rows}
+use Rattle.batch.proofs.Answers.{place-short, place-written, from-left}
+use borrow.Author.Needs.{needs}
+use Rattle.batch.proofs.build.path_from.Statement.{statement}
+use Rattle.batch.proofs.build.path_from.Tie as tie
+
+pub path-from-spec : {M : Type 1} → statement M
+path-from-spec =
+    tie.close
+    (tie.spec
+    (λ c κs. search needs)
+    (λ c. search needs)
+    (λ c κs. search needs)
+    (λ c. search needs)
+    (λ c. search needs)
+    (λ c. search (place-short, needs))
+    (λ c κs. search (held-rows, needs))
+    (λ c κs. search needs)
+    (λ c. search needs)
+    (λ c. search (place-written, from-left, needs)))

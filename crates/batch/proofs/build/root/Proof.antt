@@ -1,0 +1,30 @@
+-- `batch::build::root` meets its contract. Each way out has its law.
+use Rattle.batch.proofs.Answers.{rooted-none, root-read}
+use borrow.Author.Needs.{needs}
+use Rattle.batch.proofs.build.root.Statement.{statement}
+use Rattle.batch.proofs.build.root.Tie as tie
+
+returns-2 : tie.Need-returns-2
+returns-2 c =
+    let at-lay = c .before .before .before .before in
+    let at-depth = at-lay .before .before in
+    let n = at-depth .before .before .count-of .ensures .0 in
+    let d = at-depth .depth .ensures .0 in
+    let some = at-depth .before .if1 .left in
+    root-read _ n d (at-lay .lay .ensures) some (c .before .bytes .ensures) (c .copy32 .ensures)
+
+pub root-spec : {M : Type 1} → statement M
+root-spec =
+    tie.close
+    (tie.spec
+    (λ c κs. search needs)
+    (λ c κs. search needs)
+    (λ c. search (rooted-none, needs))
+    (λ c κs. search needs)
+    (λ c. search needs)
+    (λ c κs. search needs)
+    (λ c. search needs)
+    (λ c κs. search needs)
+    (λ c. search needs)
+    (λ c κs. search needs)
+    returns-2)

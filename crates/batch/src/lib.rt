@@ -1,0 +1,35 @@
+// Trees that a server builds (draft 19, section 5.3): the root and the paths of a batch of leaves, and all rows of its
+// tree at once, for a server that answers the whole batch. No public function has a `requires`.
+mod build;
+mod level;
+mod places;
+mod siblings;
+mod size;
+
+pub use build::path;
+pub use build::path_from;
+pub use build::root;
+pub use build::rows;
+use refusal::Refusal;
+
+// The root of a batch; or a refusal, with zeros for the rest. (An enum cannot hold an array.)
+pub struct Rooted {
+    pub refusal: Refusal,
+    pub depth: u32,
+    pub root: [u8; 32],
+}
+
+// What a writer of a path answers: INDX of the leaf and how many siblings stand at the front of the buffer, or why
+// none do.
+pub enum Placed {
+    Written { indx: u32, depth: u32 },
+    NoLeaf,
+    Short,
+}
+
+// What the writer of all rows answers: the depth of the tree, or why nothing is written.
+pub enum Laid {
+    Written { depth: u32 },
+    NoLeaves,
+    Short,
+}

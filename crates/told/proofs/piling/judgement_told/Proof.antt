@@ -1,0 +1,16 @@
+-- `told::piling::judgement_told` meets its contract.
+use mathlib.Core.Path.{ap}
+use Rattle.told.specs.Piling.{placed}
+use borrow.Author.Needs.{needs}
+use Rattle.told.proofs.piling.judgement_told.Statement.{statement}
+use Rattle.told.proofs.piling.judgement_told.Tie as tie
+
+returns : tie.Need-returns
+returns c = ap (placed (c .before .args .j .place)) (c .verdict-told .ensures)
+
+pub judgement-told-spec : {M : Type 1} → statement M
+judgement-told-spec =
+    tie.close
+    (tie.spec
+    (λ c κs. search needs)
+    returns)

@@ -1,0 +1,25 @@
+-- What the builders of trees answer, as structs for C.
+use Rattle.batch.specs.Answers.{placedNumber, laidNumber}
+use Rattle.batch.specs.declared.Rooted.{Rooted}
+use Rattle.batch.specs.declared.Placed.{Placed}
+use Rattle.batch.specs.declared.Placed.the-variants as placed
+use Rattle.batch.specs.declared.Laid.{Laid}
+use Rattle.batch.specs.declared.Laid.the-variants as laid
+use Rattle.told.specs.declared.TbRooted.{TbRooted}
+use Rattle.told.specs.declared.TbPlaced.{TbPlaced}
+use Rattle.told.specs.declared.TbLaid.{TbLaid}
+
+abbrev pub tbRooted : Rooted → TbRooted
+tbRooted t = record { code = t .refusal .code; depth = t .depth; root = t .root }
+
+-- a path: INDX of the leaf, and how many siblings were written
+abbrev pub tbPlaced : Placed → TbPlaced
+tbPlaced (placed.Written indx depth) = record { code = 0; indx = indx; depth = depth }
+tbPlaced placed.NoLeaf = record { code = placedNumber placed.NoLeaf; indx = 0; depth = 0 }
+tbPlaced placed.Short = record { code = placedNumber placed.Short; indx = 0; depth = 0 }
+
+-- all rows: the depth of the tree
+abbrev pub tbLaid : Laid → TbLaid
+tbLaid (laid.Written depth) = record { code = 0; depth = depth }
+tbLaid laid.NoLeaves = record { code = laidNumber laid.NoLeaves; depth = 0 }
+tbLaid laid.Short = record { code = laidNumber laid.Short; depth = 0 }

@@ -1,0 +1,8 @@
+-- What the answers of the library are at the C boundary: each struct, from the answer that it tells. Beside a refusal
+-- stand zeros, but for the place of a record.
+pub mod Building
+pub mod Finding
+pub mod Judging
+pub mod Piling
+pub mod Reading
+pub mod Writing

@@ -1,0 +1,25 @@
+-- What reading answers, as structs for C.
+use Prim.Native.Nat.{ℕ}
+use mathlib.Core.Bool.{Bool, true, false}
+use Rattle.wire.specs.declared.Request.{Request}
+use Rattle.wire.specs.declared.Response.{Response}
+use Rattle.wire.specs.declared.SignedParts.{SignedParts}
+use Rattle.told.specs.declared.TbRequest.{TbRequest}
+use Rattle.told.specs.declared.TbResponse.{TbResponse}
+use Rattle.told.specs.declared.TbParts.{TbParts}
+
+-- 1 for yes, 0 for no
+abbrev pub flagOf : Bool → ℕ
+flagOf true = 1
+flagOf false = 0
+
+abbrev pub tbRequest : Request → TbRequest
+tbRequest q = record { code = q .answer .code; «with_srv» = flagOf (q .«with_srv»); nonc = q .nonc; srv = q .srv }
+
+abbrev pub tbResponse : Response → TbResponse
+tbResponse q =
+    record { code = q .answer .code; indx = q .indx; midp = q .midp; radi = q .radi; nonc = q .nonc; root = q .root }
+
+abbrev pub tbParts : SignedParts → TbParts
+tbParts q =
+    record { code = q .answer .code; signature = q .signature; delegation = q .delegation; pubk = q .pubk }

@@ -1,0 +1,60 @@
+// What the builders of trees answer, as structs.
+ghost use mathlib.Core.Path.{_≡_};
+ghost use Rattle.told.specs.Building.{tbRooted, tbPlaced, tbLaid};
+use super::TbLaid;
+use super::TbPlaced;
+use super::TbRooted;
+use super::numbers::number;
+use batch::Laid;
+use batch::Placed;
+use batch::Rooted;
+
+// The root of a batch, as a struct.
+pub fn root_told(t: Rooted) -> TbRooted
+    ensures { λ r. ⌜ r ≡ tbRooted t ⌝ }
+{
+    let why = t.refusal;
+    let root = t.root;
+    TbRooted {
+        code: number(why),
+        depth: t.depth,
+        root: root,
+    }
+}
+
+// The answer of a writer of a path, as a struct.
+pub fn path_told(p: Placed) -> TbPlaced
+    ensures { λ r. ⌜ r ≡ tbPlaced p ⌝ }
+{
+    match p {
+        Placed::Written { indx, depth } => TbPlaced {
+            code: 0,
+            indx: indx,
+            depth: depth,
+        },
+        Placed::NoLeaf => TbPlaced {
+            code: 20,
+            indx: 0,
+            depth: 0,
+        },
+        Placed::Short => TbPlaced {
+            code: 19,
+            indx: 0,
+            depth: 0,
+        },
+    }
+}
+
+// The answer of the writer of all rows, as a struct.
+pub fn rows_told(l: Laid) -> TbLaid
+    ensures { λ r. ⌜ r ≡ tbLaid l ⌝ }
+{
+    match l {
+        Laid::Written { depth } => TbLaid {
+            code: 0,
+            depth: depth,
+        },
+        Laid::NoLeaves => TbLaid { code: 20, depth: 0 },
+        Laid::Short => TbLaid { code: 19, depth: 0 },
+    }
+}

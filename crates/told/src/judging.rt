@@ -1,0 +1,28 @@
+// A verdict, as a struct.
+ghost use mathlib.Core.Path.{_≡_};
+ghost use Rattle.told.specs.Judging.{tbVerdict};
+use super::TbVerdict;
+use super::numbers::number;
+use verdict::Verdict;
+
+// Its code, and its window where there is none.
+pub fn verdict_told(v: Verdict) -> TbVerdict
+    ensures { λ r. ⌜ r ≡ tbVerdict v ⌝ }
+{
+    match v {
+        Verdict::Valid(w) => TbVerdict {
+            code: 0,
+            radi: w.radi,
+            midp: w.midp,
+            low: w.low,
+            high: w.high,
+        },
+        Verdict::Refused(why) => TbVerdict {
+            code: number(why),
+            radi: 0,
+            midp: 0,
+            low: 0,
+            high: 0,
+        },
+    }
+}

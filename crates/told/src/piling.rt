@@ -1,0 +1,84 @@
+// What is said of a pile, as structs.
+ghost use mathlib.Core.Path.{_≡_};
+ghost use Rattle.told.specs.Piling.{tbJudged, refusedAt, tbReported, notCut, tbCut};
+use super::TbCut;
+use super::TbJudged;
+use super::TbReported;
+use super::judging::verdict_told;
+use super::numbers::number;
+use pile::Judgement;
+use report::Report;
+use report::Taken;
+
+// What is said of one record, as a struct.
+pub fn judgement_told(j: Judgement) -> TbJudged
+    ensures { λ r. ⌜ r ≡ tbJudged j ⌝ }
+{
+    let v = j.verdict;
+    let told = verdict_told(v);
+    TbJudged {
+        code: told.code,
+        radi: told.radi,
+        place: j.place as u64,
+        midp: told.midp,
+        low: told.low,
+        high: told.high,
+    }
+}
+
+// The answer on a report, as a struct.
+pub fn report_told(a: Report) -> TbReported
+    ensures { λ r. ⌜ r ≡ tbReported a ⌝ }
+{
+    match a {
+        Report::Pair(i, j) => TbReported {
+            code: 0,
+            place: 0,
+            first: i as u64,
+            second: j as u64,
+        },
+        Report::Bad => refused_at(15, 0),
+        Report::Record(why, k) => refused_at(number(why), k),
+        Report::Unlinked(k) => refused_at(17, k),
+        Report::Clear => refused_at(18, 0),
+    }
+}
+
+// A refusal of a report, with the place that it carries.
+fn refused_at(code: u32, place: usize) -> TbReported
+    ensures { λ r. ⌜ r ≡ refusedAt code place ⌝ }
+{
+    TbReported {
+        code: code,
+        place: place as u64,
+        first: 0,
+        second: 0,
+    }
+}
+
+// The answer of the cutter, as a struct.
+pub fn run_told(t: Taken) -> TbCut
+    ensures { λ r. ⌜ r ≡ tbCut t ⌝ }
+{
+    match t {
+        Taken::Run(i, j) => TbCut {
+            code: 0,
+            first: i as u64,
+            last: j as u64,
+        },
+        Taken::Bad => not_cut(15),
+        Taken::Short => not_cut(19),
+        Taken::NoRun => not_cut(18),
+    }
+}
+
+// A refusal of the cutter.
+fn not_cut(code: u32) -> TbCut
+    ensures { λ r. ⌜ r ≡ notCut code ⌝ }
+{
+    TbCut {
+        code: code,
+        first: 0,
+        last: 0,
+    }
+}

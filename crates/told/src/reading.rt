@@ -1,0 +1,59 @@
+// What reading answers, as structs.
+ghost use mathlib.Core.Path.{_≡_};
+ghost use Rattle.told.specs.Reading.{tbRequest, tbResponse, tbParts};
+use super::TbParts;
+use super::TbRequest;
+use super::TbResponse;
+use super::numbers::flag;
+use super::numbers::number;
+use wire::Request;
+use wire::Response;
+use wire::SignedParts;
+
+// A request, as a struct.
+pub fn request_told(q: Request) -> TbRequest
+    ensures { λ r. ⌜ r ≡ tbRequest q ⌝ }
+{
+    let answer = q.answer;
+    let nonc = q.nonc;
+    let srv = q.srv;
+    TbRequest {
+        code: number(answer),
+        with_srv: flag(q.with_srv),
+        nonc: nonc,
+        srv: srv,
+    }
+}
+
+// A response, as a struct.
+pub fn response_told(q: Response) -> TbResponse
+    ensures { λ r. ⌜ r ≡ tbResponse q ⌝ }
+{
+    let answer = q.answer;
+    let nonc = q.nonc;
+    let root = q.root;
+    TbResponse {
+        code: number(answer),
+        indx: q.indx,
+        midp: q.midp,
+        radi: q.radi,
+        nonc: nonc,
+        root: root,
+    }
+}
+
+// The parts of a response that a host verifies, as a struct.
+pub fn parts_told(q: SignedParts) -> TbParts
+    ensures { λ r. ⌜ r ≡ tbParts q ⌝ }
+{
+    let answer = q.answer;
+    let signature = q.signature;
+    let delegation = q.delegation;
+    let pubk = q.pubk;
+    TbParts {
+        code: number(answer),
+        signature: signature,
+        delegation: delegation,
+        pubk: pubk,
+    }
+}

@@ -1,0 +1,22 @@
+// What the writers of bytes answer, as a struct.
+ghost use mathlib.Core.Path.{_≡_};
+ghost use Rattle.told.specs.Writing.{tbWrote};
+use super::TbWrote;
+use super::numbers::number;
+use writer::Wrote;
+
+// How many bytes were written, or why none were.
+pub fn wrote_told(w: Wrote) -> TbWrote
+    ensures { λ r. ⌜ r ≡ tbWrote w ⌝ }
+{
+    match w {
+        Wrote::Done(n) => TbWrote {
+            code: 0,
+            length: n as u64,
+        },
+        Wrote::Refused(why) => TbWrote {
+            code: number(why),
+            length: 0,
+        },
+    }
+}
