@@ -6,7 +6,9 @@ use Rattle.block.proofs.blocks.compress.Tie as tie
 
 returns : tie.Need-returns
 unfolding compress
-returns c = cc
+returns c =
+    let d = c .before .before .before in
+    rw (c .next-hash .ensures, c .before .rounds .ensures, d .working-variables .ensures, d .before .schedule .ensures)
 
 pub compress-spec : {M : Type 1} → statement M
 compress-spec =

@@ -1,10 +1,20 @@
 -- `block::scheduling::one_word` meets its contract.
+use mathlib.Core.Path.{refl}
 use borrow.Author.Needs.{needs}
 use Rattle.block.proofs.scheduling.one_word.Statement.{statement}
 use Rattle.block.proofs.scheduling.one_word.Tie as tie
 
 returns : tie.Need-returns
-returns c = cc
+returns c =
+    let c2 = c .before .before in
+    let c1 = c2 .before .before .before in
+    rw (
+      c .wrapping-add-u643 .ensures,
+      c2 .wrapping-add-u642 .ensures,
+      c2 .before .small-sigma0 .ensures,
+      c1 .wrapping-add-u64 .ensures,
+      c1 .before .before .small-sigma1 .ensures,
+    ) refl
 
 pub one-word-spec : {M : Type 1} → statement M
 one-word-spec =

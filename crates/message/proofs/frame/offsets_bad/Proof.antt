@@ -6,7 +6,7 @@ use Rattle.message.proofs.frame.offsets_bad.Tie as tie
 
 returns : tie.Need-returns
 unfolding somewhere
-returns c = cc
+returns c = rw (c .first-bad-offset .ensures, c .before .le32 .ensures)
 
 pub offsets-bad-spec : {M : Type 1} → statement M
 offsets-bad-spec =

@@ -6,7 +6,7 @@ use Rattle.message.proofs.frame.tags_bad.Tie as tie
 
 returns : tie.Need-returns
 unfolding somewhere
-returns c = cc
+returns c = rw (c .first-fall .ensures, c .before .le32 .ensures)
 
 pub tags-bad-spec : {M : Type 1} → statement M
 tags-bad-spec =

@@ -1,4 +1,5 @@
 -- `pile::judging::said_yes` meets its contract.
+use mathlib.Core.Path.{refl}
 use Rattle.pile.specs.Pile.{saidYes}
 use borrow.Author.Needs.{needs}
 use Rattle.pile.proofs.judging.said_yes.Statement.{statement}
@@ -6,7 +7,7 @@ use Rattle.pile.proofs.judging.said_yes.Tie as tie
 
 returns : tie.Need-returns
 unfolding saidYes
-returns c = cc
+returns c = refl
 
 pub said-yes-spec : {M : Type 1} → statement M
 said-yes-spec =

@@ -1,12 +1,13 @@
 -- `pile::judging::verdict_at` meets its contract.
-use Rattle.pile.specs.Valid.{verdictAt}
 use borrow.Author.Needs.{needs}
 use Rattle.pile.proofs.judging.verdict_at.Statement.{statement}
 use Rattle.pile.proofs.judging.verdict_at.Tie as tie
 
 returns : tie.Need-returns
-unfolding verdictAt
-returns c = cc
+returns c =
+    let c2 = c .before .before in
+    rw (c .before .record-at .ensures .0, c2 .said-yes2 .ensures, c2 .before .said-yes .ensures)
+    at (c .verdict-on .ensures)
 
 pub verdict-at-spec : {M : Type 1} → statement M
 verdict-at-spec =

@@ -28,7 +28,8 @@ unfolding recordVerdict recordCode verdictOf
 returns-2 c =
     let t = c .before .before .before in
     let b = sym (t .before .record-bad .ensures) ∙ t .if1 .left in
-    rw (before-false refusals _ _ _ b) (cc)
+    let e = c .check-response .ensures .1 in
+    rw (before-false refusals _ _ _ b, ← c .before .response-of .ensures, ← c .before .before .request-of .ensures) e
 
 pub verdict-on-spec : {M : Type 1} → statement M
 verdict-on-spec =

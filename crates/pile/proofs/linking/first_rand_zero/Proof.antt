@@ -1,5 +1,8 @@
 -- `pile::linking::first_rand_zero` meets its contract.
-use mathlib.Core.Path.{sym, _∙_}
+use mathlib.Core.Path.{_≡_, sym, _∙_}
+use denote.Ref.{now}
+use Rattle.laws.specs.Zeros.{zeros}
+use Rattle.pile.specs.Pile.{randIn}
 use Rattle.pile.specs.Links.{firstRandZero}
 use Rattle.pile.proofs.Wholes.{first-there}
 use borrow.Author.Needs.{needs}
@@ -17,7 +20,9 @@ returns-2 : tie.Need-returns-2
 unfolding firstRandZero
 returns-2 c =
     let t = c .before .before .before in
-    rw (sym (t .before .length-bad .ensures) ∙ t .if1 .left) (cc)
+    let r = now (c .before .before .record-at .result) in
+    let e : c .all-zero .result ≡ zeros (randIn r) = c .all-zero .ensures in
+    rw (sym (t .before .length-bad .ensures) ∙ t .if1 .left, ← c .before .before .record-at .ensures .0) e
 
 pub first-rand-zero-spec : {M : Type 1} → statement M
 first-rand-zero-spec =

@@ -15,7 +15,7 @@ nonce-links-requires c κs = search (within-reach, needs)
 
 returns-2 : tie.Need-returns-2
 unfolding follows
-returns-2 c = rw (sym (c .before .before .out-of-reach .ensures) ∙ c .before .if1 .left) (cc)
+returns-2 c = rw (sym (c .before .before .out-of-reach .ensures) ∙ c .before .if1 .left) (c .nonce-links .ensures)
 
 pub follows-on-spec : {M : Type 1} → statement M
 follows-on-spec =

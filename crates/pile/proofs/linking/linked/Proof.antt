@@ -26,8 +26,10 @@ record-at-requires-2 c κs = linked-there _ _ (c .before .before .unlinkable-at 
 returns-2 : tie.Need-returns-2
 unfolding linkedOf
 returns-2 c =
-    let t = c .before .before .before in
-    rw (sym (t .before .unlinkable-at .ensures) ∙ t .if1 .left) (cc)
+    let d = c .before .before in
+    let t = d .before in
+    let e = rw (d .record-at .ensures .0, c .before .record-at2 .ensures .0) at (c .follows-on .ensures) in
+    rw (sym (t .before .unlinkable-at .ensures) ∙ t .if1 .left) e
 
 pub linked-spec : {M : Type 1} → statement M
 linked-spec =

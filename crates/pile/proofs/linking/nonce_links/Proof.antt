@@ -12,7 +12,18 @@ value-of-requires c κs = rw (c .body-of .ensures, c .before .request-of .ensure
 
 returns : tie.Need-returns
 unfolding nonceLinks
-returns c = cc
+returns c =
+    let v = c .before .before in
+    let l = v .before .before .before in
+    rw (
+      v .value-of .ensures,
+      v .before .body-of .ensures,
+      v .before .before .request-of .ensures,
+      l .link .ensures,
+      l .before .copy32 .ensures,
+      l .before .before .response-of .ensures,
+    )
+    at (c .equal .ensures)
 
 pub nonce-links-spec : {M : Type 1} → statement M
 nonce-links-spec =

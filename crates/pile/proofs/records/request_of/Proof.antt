@@ -11,7 +11,7 @@ slice-aggregate-result c = simp length-take (omega arith)
 
 returns : tie.Need-returns
 unfolding requestPacket
-returns c = cc
+returns c = rw (c .before .request-area .ensures .0, c .before .before .le32 .ensures)
 
 pub request-of-spec : {M : Type 1} → statement M
 request-of-spec =

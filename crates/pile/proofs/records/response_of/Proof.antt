@@ -11,7 +11,7 @@ slice-aggregate-result c = simp length-take (omega arith)
 
 returns : tie.Need-returns
 unfolding responsePacket
-returns c = cc
+returns c = rw (c .before .response-area .ensures .0, c .before .before .le32 .ensures)
 
 pub response-of-spec : {M : Type 1} → statement M
 response-of-spec =

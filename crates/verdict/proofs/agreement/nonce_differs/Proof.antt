@@ -6,7 +6,7 @@ use Rattle.verdict.proofs.agreement.nonce_differs.Tie as tie
 
 returns : tie.Need-returns
 unfolding nonceDiffers
-returns c = cc
+returns c = rw (c .equal .ensures, c .before .value-of2 .ensures, c .before .before .value-of .ensures)
 
 pub nonce-differs-spec : {M : Type 1} → statement M
 nonce-differs-spec =

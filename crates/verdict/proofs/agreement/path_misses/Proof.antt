@@ -11,7 +11,16 @@ value32-requires c κs =
 
 returns : tie.Need-returns
 unfolding pathMisses
-returns c = cc
+returns c =
+    let l = c .before .before .before in
+    rw (
+      c .leads .ensures,
+      c .before .value-of2 .ensures,
+      c .before .before .number32 .ensures,
+      l .leaf .ensures,
+      l .before .value32 .ensures,
+      l .before .before .value-of .ensures,
+    )
 
 pub path-misses-spec : {M : Type 1} → statement M
 path-misses-spec =

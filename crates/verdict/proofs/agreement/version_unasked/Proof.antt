@@ -6,7 +6,7 @@ use Rattle.verdict.proofs.agreement.version_unasked.Tie as tie
 
 returns : tie.Need-returns
 unfolding versionUnasked
-returns c = cc
+returns c = rw (c .lacks-version .ensures, c .before .srep-version .ensures)
 
 pub version-unasked-spec : {M : Type 1} → statement M
 version-unasked-spec =

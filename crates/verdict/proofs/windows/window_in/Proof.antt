@@ -17,7 +17,9 @@ number32-requires c κs =
 
 returns : tie.Need-returns
 unfolding windowIn
-returns c = cc
+returns c =
+    let n = c .before .before in
+    rw (c .window-at .ensures, c .before .number32 .ensures, n .number64 .ensures, n .before .value-of .ensures)
 
 pub window-in-spec : {M : Type 1} → statement M
 window-in-spec =

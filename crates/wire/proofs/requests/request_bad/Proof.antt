@@ -6,7 +6,7 @@ use Rattle.wire.proofs.requests.request_bad.Tie as tie
 
 returns : tie.Need-returns
 unfolding requestBad
-returns c = cc
+returns c = rw (c .before .request-code .ensures)
 
 pub request-bad-spec : {M : Type 1} → statement M
 request-bad-spec =

@@ -7,7 +7,7 @@ value-of-requires-2 : tie.Need-value-of-requires-2
 value-of-requires-2 c κs = rw (c .value-of .ensures) (search needs)
 
 returns : tie.Need-returns
-returns c = cc
+returns c = rw (c .value-of2 .ensures, c .before .value-of .ensures)
 
 pub dele-of-spec : {M : Type 1} → statement M
 dele-of-spec =
