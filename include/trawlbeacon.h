@@ -283,11 +283,11 @@ struct tb_verdict tb_check_response(const uint8_t *request, size_t request_len,
  *
  * A tree has 1 to TB_MOST_LEAVES leaves of 32 bytes, one after the other, and 2^depth places for
  * them, as few as will do; each empty place holds H(0x00). The leaf at a place, counted from 0 at
- * the left, has depth siblings of 32 bytes, and its indx is 2^depth - 1 less its place. */
+ * the left, has depth siblings of 32 bytes, and its indx is its place. */
 
 /* Whether the siblings of a path lead from the leaf to the root, and indx needs no more bits than
- * there are siblings. Where a bit of indx is 0 the sibling goes first, as in draft 13; draft 19 has
- * it the other way. Bytes that are not 0 to 32 whole siblings lead nowhere. */
+ * there are siblings. Where a bit of indx is 0, the hash so far is the left child and the sibling
+ * the right one, as in draft 19, 5.3.1. Bytes that are not 0 to 32 whole siblings lead nowhere. */
 bool tb_leads(const uint8_t leaf[32], uint32_t indx, const uint8_t *path, size_t path_len,
               const uint8_t root[32]);
 

@@ -265,14 +265,19 @@ static void expect_paths(uint8_t nodes[7][32]) {
                   20, 0, 0);
     expect_placed("tb_path_from without room", tb_path_from(leaves, 224, 3, 0, out, 63), 19, 0, 0);
     expect_all("the buffer of a refused path", out, 0xee, sizeof out);
-    expect_placed("tb_path", tb_path(leaves, 96, 0, out, sizeof out), 0, 3, 2);
+    expect_placed("tb_path", tb_path(leaves, 96, 0, out, sizeof out), 0, 0, 2);
     expect_siblings(out, nodes[1], nodes[5]);
-    expect_number("tb_leads", tb_leads(nodes[0], 3, out, 64, nodes[6]), 1);
-    expect_number("tb_leads with another number", tb_leads(nodes[0], 2, out, 64, nodes[6]), 0);
-    expect_number("tb_leads with too long a number", tb_leads(nodes[0], 7, out, 64, nodes[6]), 0);
-    expect_placed("tb_path_from", tb_path_from(leaves, 224, 3, 2, out, sizeof out), 0, 1, 2);
+    expect_number("tb_leads", tb_leads(nodes[0], 0, out, 64, nodes[6]), 1);
+    for (uint32_t other = 1; other < 4; other++)
+        expect_number("tb_leads with another number",
+                      tb_leads(nodes[0], other, out, 64, nodes[6]), 0);
+    expect_number("tb_leads with too long a number", tb_leads(nodes[0], 4, out, 64, nodes[6]), 0);
+    expect_placed("tb_path of the second leaf", tb_path(leaves, 96, 1, out, sizeof out), 0, 1, 2);
+    expect_siblings(out, nodes[0], nodes[5]);
+    expect_number("tb_leads from the second leaf", tb_leads(nodes[1], 1, out, 64, nodes[6]), 1);
+    expect_placed("tb_path_from", tb_path_from(leaves, 224, 3, 2, out, sizeof out), 0, 2, 2);
     expect_siblings(out, nodes[3], nodes[4]);
-    expect_number("tb_leads from the last leaf", tb_leads(nodes[2], 1, out, 64, nodes[6]), 1);
+    expect_number("tb_leads from the last leaf", tb_leads(nodes[2], 2, out, 64, nodes[6]), 1);
 }
 
 static void expect_tree(void) {

@@ -12,7 +12,7 @@
 //! It has SHA-512, the hashes that Roughtime makes of it and the Merkle tree, a reader of packets,
 //! requests and responses, the check of a response, the writer of a request, the texts that are
 //! signed, the lookup of a server, piles of responses and the reports that are made of them. Beside
-//! them stands what makes piles to try all this with.
+//! them stands what all this is tried with: what makes piles, and a server that answers batches.
 
 #![forbid(unsafe_code)]
 #![warn(missing_docs)]
@@ -20,6 +20,7 @@
 pub mod appendix;
 pub mod base64;
 pub mod check;
+pub mod halves;
 pub mod hash;
 pub mod making;
 pub mod message;
@@ -30,6 +31,7 @@ pub mod refusal;
 pub mod report;
 pub mod request;
 pub mod response;
+pub mod server;
 pub mod servers;
 pub mod sha512;
 pub mod tag;

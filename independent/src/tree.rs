@@ -1,9 +1,9 @@
-//! The Merkle tree of a batch of requests (draft 13, sections 5.3 and 5.3.1): its rows and its
+//! The Merkle tree of a batch of requests (draft 19, sections 5.3 and 5.3.1): its rows and its
 //! root, the path from a leaf to the root, and the check of such a path.
 //!
-//! Which of two hashes goes first at a step of a path is what the sentence of draft 13 says: at a
-//! bit of 0 the sibling. So a bit of 0 is that of a right child, and numbers count from the right:
-//! the leaf at place p, counted from the left, has INDX 2^d - 1 - p.
+//! Leaves are indexed left to right, beginning with zero, so that INDX of a leaf is its place. From
+//! the least significant on, its bits say what the node at each step of the way up is: 0 a left
+//! child, whose sibling goes second, and 1 a right child, whose sibling goes first.
 
 use crate::hash::{self, Hash};
 use crate::refusal::Refusal;
@@ -26,12 +26,12 @@ pub fn reaches(leaf: &Hash, indx: u32, path: &[Hash], root: &Hash) -> bool {
     spare_bits == 0 && root_of(leaf, indx, path) == *root
 }
 
-/// Where `path` leads from `leaf`, by the lowest bits of `indx`.
+/// Where `path` leads from `leaf`, by the bits of `indx` from the least significant.
 pub fn root_of(leaf: &Hash, indx: u32, path: &[Hash]) -> Hash {
     let (mut node, mut bits) = (*leaf, indx);
     for sibling in path {
         node =
-            if bits % 2 == 0 { hash::parent(sibling, &node) } else { hash::parent(&node, sibling) };
+            if bits % 2 == 0 { hash::parent(&node, sibling) } else { hash::parent(sibling, &node) };
         bits /= 2;
     }
     node
@@ -107,7 +107,7 @@ impl Tree {
         // A node and its sibling are two neighbours, of which the left one has an even place.
         let beside = |level: usize| (place >> level) ^ 1;
         let path = (0..self.depth()).map(|level| self.rows[level][beside(level)]).collect();
-        Ok(Placed { indx: (self.rows[0].len() - 1 - place) as u32, path })
+        Ok(Placed { indx: place as u32, path })
     }
 }
 
@@ -148,22 +148,29 @@ mod tests {
         let tree = Tree::build(&[A, B, C].concat()).unwrap();
         let (left, right) = (parent(&A, &B), parent(&C, &empty_place()));
         assert_eq!((tree.depth(), tree.root()), (2, parent(&left, &right)));
-        assert_eq!(tree.place(0), Ok(Placed { indx: 3, path: vec![B, right] }));
-        assert_eq!(tree.place(1), Ok(Placed { indx: 2, path: vec![A, right] }));
-        assert_eq!(tree.place(2), Ok(Placed { indx: 1, path: vec![empty_place(), left] }));
+        assert_eq!(tree.place(0), Ok(Placed { indx: 0, path: vec![B, right] }));
+        assert_eq!(tree.place(1), Ok(Placed { indx: 1, path: vec![A, right] }));
+        assert_eq!(tree.place(2), Ok(Placed { indx: 2, path: vec![empty_place(), left] }));
         assert_eq!(tree.place(3), Err(Refusal::Leaves));
         assert_eq!(tree.bytes(), [A, B, C, empty_place(), left, right, tree.root()].concat());
     }
 
-    /// The sentence of draft 13, written out by hand.
+    /// The sentence of draft 19, section 5.3.1, written out by hand: "If the current bit in INDX is
+    /// 0 then h = H(0x01 || h || node), else h = H(0x01 || node || h)."
     #[test]
-    fn a_bit_of_0_puts_the_sibling_first() {
-        let path = [B, C].concat();
-        assert!(leads(&A, 0, &path, &parent(&C, &parent(&B, &A))));
-        assert!(leads(&A, 1, &path, &parent(&C, &parent(&A, &B))));
-        assert!(leads(&A, 2, &path, &parent(&parent(&B, &A), &C)));
-        assert!(leads(&A, 3, &path, &parent(&parent(&A, &B), &C)));
-        assert!(!leads(&A, 0, &path, &parent(&parent(&A, &B), &C)));
+    fn a_bit_of_0_puts_the_hash_so_far_first() {
+        let ends = [
+            parent(&parent(&A, &B), &C),
+            parent(&parent(&B, &A), &C),
+            parent(&C, &parent(&A, &B)),
+            parent(&C, &parent(&B, &A)),
+        ];
+        for indx in 0..4 {
+            for (due, root) in (0..).zip(&ends) {
+                let leads = leads(&A, indx, &[B, C].concat(), root);
+                assert_eq!(leads, indx == due, "INDX {indx} and the root of INDX {due}");
+            }
+        }
     }
 
     #[test]
@@ -171,17 +178,17 @@ mod tests {
         assert!(leads(&A, 0, &[], &A));
         assert!(!leads(&A, 1, &[], &A));
         assert!(!leads(&A, u32::MAX, &[], &A));
-        assert!(leads(&A, 0, &B, &parent(&B, &A)));
-        assert!(!leads(&A, 2, &B, &parent(&B, &A)));
-        assert!(!leads(&A, 0x8000_0000, &B, &parent(&B, &A)));
+        assert!(leads(&A, 0, &B, &parent(&A, &B)));
+        assert!(!leads(&A, 2, &B, &parent(&A, &B)));
+        assert!(!leads(&A, 0x8000_0000, &B, &parent(&A, &B)));
     }
 
     /// At 32 siblings every number has few enough bits; 33 are no path, though they would lead to
     /// the root.
     #[test]
     fn a_path_has_up_to_32_whole_siblings() {
-        let step = |node: Hash, _| parent(&node, &B);
-        let (at_32, at_33) = ((0..32).fold(A, step), parent(&B, &(0..32).fold(A, step)));
+        let at_32 = (0..32).fold(A, |node, _| parent(&B, &node));
+        let at_33 = parent(&at_32, &B);
         assert!(leads(&A, u32::MAX, &B.repeat(32), &at_32));
         assert!(!leads(&A, u32::MAX, &B.repeat(33), &at_33));
         assert!(!leads(&A, u32::MAX, &B.repeat(32)[1..], &at_32));
@@ -196,7 +203,7 @@ mod tests {
             assert!(1 << tree.depth() >= count && 1 << tree.depth() < 2 * count, "{count} leaves");
             for place in 0..count {
                 let Placed { indx, path } = tree.place(place).unwrap();
-                assert_eq!(indx as usize, (1 << tree.depth()) - 1 - place);
+                assert_eq!(indx as usize, place);
                 let leaf = leaves[32 * place..][..32].try_into().unwrap();
                 assert!(
                     leads(leaf, indx, &path.concat(), &tree.root()),

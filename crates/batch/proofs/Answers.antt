@@ -11,7 +11,6 @@ use Rattle.laws.specs.Written.{written, Puts}
 use Rattle.laws.proofs.Written.{puts-as, written-whole}
 use Rattle.refusal.specs.Refusal.{refusal, passed}
 use Rattle.refusal.specs.declared.Refusal.{Refusal}
-use Rattle.batch.specs.Indx.{indxOf}
 use Rattle.tree.specs.Tree.{nodeIn, nodesIn, flat, nodeAt, depthOf, rootOf, pathOf}
 use Rattle.batch.specs.AllRows.{levels, nodesOf, pathIn}
 use Rattle.batch.specs.Leaves.{countOf, leavesIn, depthIn, heldOf}
@@ -34,11 +33,8 @@ module _ {m n d : ℕ} (same : m ≡ n) (deep : d ≡ depthOf m) where
     pub place-short : room < 32 * d → PlacesLeaf n place room placed.Short
     place-short h = let k = height in omega arith
 
-    pub place-written : {indx : ℕ} → indx ≡ indxOf d place → 32 * d ≤ room
-        → PlacesLeaf n place room (placed.Written indx d)
-    place-written e h =
-        let k = height in
-        (omega arith, omega arith, e ∙ ap (λ (x : ℕ). indxOf x place) k, k)
+    pub place-written : {indx : ℕ} → indx ≡ place → 32 * d ≤ room → PlacesLeaf n place room (placed.Written indx d)
+    place-written e h = let k = height in (omega arith, omega arith, e, k)
 
   module _ {size room : ℕ} (some : m ≡ 0 → ⊥) (whole : size ≡ 32 * nodesOf d) where
     pub rows-short : room < size → LaysRows n room laid.Short
@@ -53,7 +49,7 @@ module _ (n place room : ℕ) where
   abbrev placedByTests : Placed
   placedByTests =
       cond (leb n place) placed.NoLeaf
-      (cond (ltb room (32 * depthOf n)) placed.Short (placed.Written (indxOf (depthOf n) place) (depthOf n)))
+      (cond (ltb room (32 * depthOf n)) placed.Short (placed.Written place (depthOf n)))
 
   is-placed : (x : Placed) → PlacesLeaf n place room x → x ≡ placedByTests
   is-placed placed.NoLeaf p = simp (le-leb n place p)

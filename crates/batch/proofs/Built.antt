@@ -10,14 +10,12 @@ use borrow.Author.Tests.{eq-eqb, le-leb, lt-ltb}
 use Rattle.laws.specs.Written.{written}
 use Rattle.laws.proofs.Same.{same-refl}
 use Rattle.hash.specs.Hashes.{emptyPlace}
-use Rattle.batch.specs.Indx.{indxOf}
 use Rattle.tree.specs.Tree.{nodeIn, nodesIn, flat, nodeAt, depthOf, rootOf, siblings, pathOf}
 use Rattle.tree.specs.PathCheck.{climb, reached, leadsOf}
 use Rattle.batch.specs.Leaves.{countOf, leavesIn, depthIn, most}
 use Rattle.batch.specs.Answers.{rootedOf, placedNumber, PlacesLeaf, pathBytes}
 use Rattle.batch.specs.declared.Rooted.{Rooted}
 use Rattle.batch.specs.declared.Placed.the-variants.{Written}
-use Rattle.batch.proofs.Leads.{indx-lt}
 use Rattle.batch.proofs.Leads.{path-leads}
 use Rattle.tree.proofs.Nodes.{Whole, whole-siblings, leaves-long, tree-long, nodes-at, nodes-flat, flat-length}
 use Rattle.batch.proofs.Depth.{depth-holds, depth-short}
@@ -52,7 +50,7 @@ module _ (s : List ℕ) (n place : ℕ) (whole : 32 * n ≤ length s) (few : n �
       flat-length path path-whole ∙ ap (λ (x : ℕ). 32 * x) (path-length (nodeAt (nodesIn n s)) (depthOf n) 0 place)
 
   pub built-leads :
-      leadsOf (nodeIn s place) (indxOf (depthOf n) place) (flat path) (rootOf (nodesIn n s) (depthOf n)) ≡ true
+      leadsOf (nodeIn s place) place (flat path) (rootOf (nodesIn n s) (depthOf n)) ≡ true
   unfolding nodeAt
   built-leads =
       let d = depthOf n in
@@ -61,9 +59,9 @@ module _ (s : List ℕ) (n place : ℕ) (whole : 32 * n ≤ length s) (few : n �
       let back : nodesIn d (flat path) ≡ path =
       ap (λ (x : ℕ). nodesIn x (flat path)) (sym (path-length (nodeAt (nodesIn n s)) d 0 place))
       ∙ nodes-flat path path-whole in
-      leads-yes _ (flat path) _ (indxOf d place) d path-bytes (depth-short n (omega arith) few) (indx-lt d place inside)
-      (ap (λ (h : List ℕ). climb (indxOf d place) h (nodesIn d (flat path))) leaf
-      ∙ ap (climb (indxOf d place) (nodeAt (nodesIn n s) 0 place)) back
+      leads-yes _ (flat path) _ place d path-bytes (depth-short n (omega arith) few) inside
+      (ap (λ (h : List ℕ). climb place h (nodesIn d (flat path))) leaf
+      ∙ ap (climb place (nodeAt (nodesIn n s) 0 place)) back
       ∙ path-leads (nodesIn n s) d place inside)
 
 -- `path`, lent the leaves s and the buffer o, answered that it wrote, and left `out`; `root`, lent the leaves,

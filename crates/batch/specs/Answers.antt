@@ -6,7 +6,6 @@ use Prim.Native.Nat.{ℕ, _*_, _≤_, _<_}
 use lib.Dec.{eqb}
 use lib.ListN.{length, replicate}
 use Rattle.refusal.specs.Refusal.{refusal, passed}
-use Rattle.batch.specs.Indx.{indxOf}
 use Rattle.tree.specs.Tree.{flat, depthOf, rootOf, pathOf}
 use Rattle.batch.specs.AllRows.{levels, nodesOf, pathIn}
 use Rattle.batch.specs.Leaves.{countOf, leavesIn, depthIn}
@@ -33,13 +32,13 @@ placedNumber placed.NoLeaf = 20
 placedNumber placed.Short = 19
 placedNumber (placed.Written indx depth) = 0
 
--- the answer on the leaf at a place of n leaves, with a buffer of room bytes: INDX, and the depth of the tree, which
--- is how many siblings are written
+-- the answer on the leaf at a place of n leaves, from the left, with a buffer of room bytes: INDX, which is its place,
+-- and the depth of the tree, which is how many siblings are written
 abbrev pub PlacesLeaf : ℕ → ℕ → ℕ → Placed → Type 0
 PlacesLeaf n place room placed.NoLeaf = n ≤ place
 PlacesLeaf n place room placed.Short = (place < n) × (room < 32 * depthOf n)
 PlacesLeaf n place room (placed.Written indx depth) =
-    (place < n) × (32 * depthOf n ≤ room) × (indx ≡ indxOf (depthOf n) place) × (depth ≡ depthOf n)
+    (place < n) × (32 * depthOf n ≤ room) × (indx ≡ place) × (depth ≡ depthOf n)
 
 -- what is written: the siblings of the leaf at a place of the leaves s,
 unfoldable pub pathBytes : List ℕ → ℕ → List ℕ

@@ -1,7 +1,6 @@
 -- Draft 19, section 5.3, and document 01, "Hash and tree", from a server's side: what a reader must believe is AllRows,
--- Leaves, Indx and Answers. Level is what private functions cite on the way; nothing public is stated by it.
+-- Leaves and Answers. Level is what private functions cite on the way; nothing public is stated by it.
 pub mod AllRows
 pub mod Leaves
-pub mod Indx
 pub mod Answers
 pub mod Level

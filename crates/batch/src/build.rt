@@ -8,7 +8,6 @@ ghost use Rattle.batch.specs.Answers.{laidNumber, LaysRows, rowsBytes};
 use super::Laid;
 use super::Placed;
 use super::Rooted;
-use super::places::indx_of;
 use super::level::lay;
 use super::siblings::read_path;
 use super::size::MOST;
@@ -66,8 +65,10 @@ pub fn path(leaves: &[u8], place: usize, out: &mut [u8]) -> Placed
     let mut nodes = [0u8; ALL];
     lay(leaves, count, d, &mut nodes);
     read_path(&nodes, d, place, out);
-    let indx = indx_of(d, place);
-    Placed::Written { indx, depth: d }
+    Placed::Written {
+        indx: place as u32,
+        depth: d,
+    }
 }
 
 // All rows of the tree of a batch, the leaves first and the root last, at the front of out.
@@ -104,6 +105,8 @@ pub fn path_from(rows: &[u8], count: usize, place: usize, out: &mut [u8]) -> Pla
         return Placed::Short;
     }
     read_path(rows, d, place, out);
-    let indx = indx_of(d, place);
-    Placed::Written { indx, depth: d }
+    Placed::Written {
+        indx: place as u32,
+        depth: d,
+    }
 }

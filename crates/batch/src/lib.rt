@@ -2,7 +2,6 @@
 // tree at once, for a server that answers the whole batch. No public function has a `requires`.
 mod build;
 mod level;
-mod places;
 mod siblings;
 mod size;
 

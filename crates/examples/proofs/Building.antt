@@ -4,7 +4,6 @@ use mathlib.Core.List.{List}
 use Prim.Native.Nat.{ℕ, _*_, _≤_, _<_}
 use native.Mathlib.Omega.{arith}
 use lib.ListN.{length}
-use Rattle.batch.specs.Indx.{indxOf}
 use Rattle.tree.specs.Tree.{depthOf}
 use Rattle.batch.specs.Leaves.{countOf}
 use Rattle.batch.specs.Answers.{rootedOf, PlacesLeaf, pathBytes}
@@ -24,7 +23,7 @@ module _ (n d : ℕ) (counted : countOf (32 * n) ≡ n) (deep : depthOf n ≡ d)
       let e = rooted-some s count (sym deep) (λ z. omega arith) refl in
       (ap (λ (r : Rooted). r .refusal .code) (sym e), ap (λ (r : Rooted). r .depth) (sym e))
 
-  pub batch-path : (place i room : ℕ) → place < n → indxOf d place ≡ i → 32 * d ≤ room
+  pub batch-path : (place i room : ℕ) → place < n → place ≡ i → 32 * d ≤ room
       → PlacesLeaf (countOf (length s)) place room (Written i d) × (length (pathBytes s place) ≡ 32 * d)
   unfolding pathBytes
   batch-path place i room there e h =

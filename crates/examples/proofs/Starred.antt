@@ -13,7 +13,6 @@ use Rattle.laws.specs.Least.{least, somewhere}
 use Rattle.laws.specs.Numbers.{le}
 use Rattle.refusal.specs.declared.Refusal.{Refusal}
 use Rattle.message.specs.Frame.{lengthBad, countBad, edge, frameCode}
-use Rattle.batch.specs.Indx.{indxOf}
 use Rattle.tree.specs.Tree.{depthOf}
 use Rattle.batch.specs.Leaves.{countOf}
 use Rattle.runs.specs.Clash.{clash}
@@ -38,7 +37,7 @@ test (contradicts a b answer) = Bool·beq (clash a b) answer
 test (run vs i j) = isFrom (runOn vs) i j
 test (no-run vs code) = isNone (runOn vs) && eqb (takenNumber NoRun) code
 test (depth n d) = batch n d && ltb 0 n
-test (path n place i d) = batch n d && (ltb place n && eqb (indxOf d place) i)
+test (path n place i d) = batch n d && (ltb place n && eqb place i)
 test (indx i n code) = leb (2 ^ n) i && eqb 10 code
 test at-maxt = true
 test (above-maxt k code) = ltb 0 k && eqb 11 code
@@ -71,10 +70,10 @@ passes (depth n d) t =
     let b = batched n d (u .0) in
     λ s long. batch-rooted n d (b .0) (b .1) s long (ltb→lt 0 n (u .1))
 passes (path n place i d) t =
-    let u = and-yes (batch n d) (ltb place n && eqb (indxOf d place) i) t in
+    let u = and-yes (batch n d) (ltb place n && eqb place i) t in
     let b = batched n d (u .0) in
-    let w = and-yes (ltb place n) (eqb (indxOf d place) i) (u .1) in
-    λ s room long h. batch-path n d (b .0) (b .1) s long place i room (ltb→lt place n (w .0)) (eqb→eq _ i (w .1)) h
+    let w = and-yes (ltb place n) (eqb place i) (u .1) in
+    λ s room long h. batch-path n d (b .0) (b .1) s long place i room (ltb→lt place n (w .0)) (eqb→eq place i (w .1)) h
 passes (indx i n code) t =
     let u = and-yes (leb (2 ^ n) i) (eqb 10 code) t in
     let large = leb→le (2 ^ n) i (u .0) in
@@ -103,5 +102,5 @@ each (r ∷ rs) t = let u = and-yes (test r) (all-pass rs) t in (passes r (u .0)
 
 -- every row of the table holds
 pub starred : (why : Refusal) → Each (table why)
-unfolding whenOf firstOf any least somewhere le countOf depthOf indxOf frameCode lengthBad countBad edge
+unfolding whenOf firstOf any least somewhere le countOf depthOf frameCode lengthBad countBad edge
 starred why = each (table why) tt

@@ -28,8 +28,8 @@ table why =
     and no-run (Valid (100 ± 1) ∷ Refused why ∷ Valid (80 ± 1) ∷ []) 18
     -- 8. one leaf: d 0, INDX 0, empty path
     ∷ depth 1 0 and path 1 0 0 0
-    -- 9. three leaves: d 2; places 0 and 2 have INDX 3 and 1 (and two siblings each)
-    ∷ depth 3 2 and path 3 0 3 2 and path 3 2 1 2
+    -- 9. three leaves: d 2; places 0 and 2 have INDX 0 and 2 (and two siblings each; request P2)
+    ∷ depth 3 2 and path 3 0 0 2 and path 3 2 2 2
     -- 10. INDX 1 with no siblings: 10; INDX 2 with one: 10
     ∷ indx 1 0 10 and indx 2 1 10
     -- 11. MIDP = MAXT passes; MIDP = MAXT + 1: 11

@@ -1,5 +1,4 @@
--- The check of a path (draft 19, 5.3.1, but for the order of the hashes, which is draft 13's; document 01, "Hash and
--- tree").
+-- The check of a path (draft 19, 5.3.1; document 01, "Hash and tree", and request P2).
 use mathlib.Core.Bool.{Bool, _&&_}
 use mathlib.Core.List.{List, [], _∷_}
 use Prim.Native.Nat.{ℕ, zero, suc, _/_, _%_, _^_}
@@ -9,10 +8,10 @@ use Rattle.laws.specs.Same.{same}
 use Rattle.hash.specs.Hashes.{parentOf}
 use Rattle.tree.specs.Tree.{nodesIn}
 
--- one step up, by a bit of INDX: 0 gives H(0x01, sibling, h), and 1 gives H(0x01, h, sibling)
+-- one step up, by a bit of INDX: 0 gives H(0x01, h, sibling), and 1 gives H(0x01, sibling, h)
 unfoldable pub step : ℕ → List ℕ → List ℕ → List ℕ
-step zero h sibling = parentOf sibling h
-step (suc _) h sibling = parentOf h sibling
+step zero h sibling = parentOf h sibling
+step (suc _) h sibling = parentOf sibling h
 
 -- from h up, over the siblings, with the bits of INDX from its lowest
 unfoldable pub climb : ℕ → List ℕ → List (List ℕ) → List ℕ

@@ -25,14 +25,16 @@ pub struct Rooted {
 /// Where a leaf stands.
 #[derive(Clone, Copy, Debug, PartialEq, Eq)]
 pub struct Placed {
-    /// INDX: 2^depth - 1 less the leaf's place.
+    /// INDX: the leaf's place, counted from 0 at the left.
     pub indx: u32,
     /// How many siblings of 32 bytes were written.
     pub depth: usize,
 }
 
 /// Whether the siblings at `path` lead from `leaf` to `root`, and `indx` needs no more bits than
-/// there are siblings. Bytes that are not 0 to 32 whole siblings lead nowhere.
+/// there are siblings. Where a bit of `indx` is 0, the hash so far is the left child and the
+/// sibling the right one, as in draft 19, 5.3.1. Bytes that are not 0 to 32 whole siblings lead
+/// nowhere.
 #[must_use]
 pub fn leads(leaf: &Hash, indx: u32, path: &[u8], root: &Hash) -> bool {
     // SAFETY: see raw.

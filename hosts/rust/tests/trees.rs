@@ -137,8 +137,7 @@ fn every_leaf(seen: &mut Comparison) {
             let same = seen.path_from(&rows, count, place, path.len() + place % 5, 0);
             assert_eq!(path, same, "place {place} of {count}: the path, and the path from rows");
             let leaf = leaves[32 * place..32 * place + 32].try_into().expect("a leaf has 32 bytes");
-            let indx = ((1 << depth(count)) - 1 - place) as u32;
-            let walk = Walk { leaf, indx, path, root };
+            let walk = Walk { leaf, indx: place as u32, path, root };
             seen.walk(&walk, true);
             wrong_walks(seen, &walk);
             seen.unseen(&leaves, count, place);

@@ -56,14 +56,14 @@ pub struct Walk {
 }
 
 impl Walk {
-    /// The walk from `leaf` to where these siblings lead by the rule: at a bit of 0 the sibling
+    /// The walk from `leaf` to where these siblings lead by the rule: at a bit of 0 the hash so far
     /// goes first.
     pub fn right(leaf: Hash, indx: u32, path: &[Hash]) -> Self {
         let mut root = leaf;
         for (step, sibling) in path.iter().enumerate() {
             let bit = u64::from(indx) >> step & 1;
             root =
-                if bit == 0 { hash::parent(sibling, &root) } else { hash::parent(&root, sibling) };
+                if bit == 0 { hash::parent(&root, sibling) } else { hash::parent(sibling, &root) };
         }
         Walk { leaf, indx, path: path.concat(), root }
     }

@@ -1,8 +1,18 @@
 -- `batch::build::path` meets its contract. Each way out has its law, and what is left in the buffer has one.
+use mathlib.Core.Path.{refl}
 use Rattle.batch.proofs.Answers.{place-short, place-written, path-left}
 use borrow.Author.Needs.{needs}
 use Rattle.batch.proofs.build.path.Statement.{statement}
 use Rattle.batch.proofs.build.path.Tie as tie
+
+returns-3 : tie.Need-returns-3
+returns-3 c =
+    let fits = c .before .before .before .before .before .before .before .before in
+    let there = fits .before .before in (
+      place-written (there .before .count-of .ensures .0) (fits .before .depth .ensures .0) (there .if1 .left) refl
+          (fits .if2 .left),
+      search (path-left, needs),
+    )
 
 pub path-spec : {M : Type 1} → statement M
 path-spec =
@@ -18,6 +28,6 @@ path-spec =
     (λ c κs. search needs)
     (λ c. search needs)
     (λ c κs. search needs)
-    (λ c κs. search needs)
     (λ c. search needs)
-    (λ c. (search (place-written, needs), search (path-left, needs))))
+    (λ c. search needs)
+    returns-3)

@@ -1,9 +1,19 @@
 -- `batch::build::path_from` meets its contract. Each way out has its law, and what is left in the buffer has one.
+use mathlib.Core.Path.{refl}
 use Rattle.batch.proofs.Leaves.{held-rows}
 use Rattle.batch.proofs.Answers.{place-short, place-written, from-left}
 use borrow.Author.Needs.{needs}
 use Rattle.batch.proofs.build.path_from.Statement.{statement}
 use Rattle.batch.proofs.build.path_from.Tie as tie
+
+returns-3 : tie.Need-returns-3
+returns-3 c =
+    let fits = c .before .before .before .before in
+    let there = fits .before .before in (
+      place-written (there .before .held-of .ensures .0) (fits .before .depth .ensures .0) (there .if1 .left) refl
+          (fits .if2 .left),
+      search (from-left, needs),
+    )
 
 pub path-from-spec : {M : Type 1} → statement M
 path-from-spec =
@@ -16,6 +26,6 @@ path-from-spec =
     (λ c. search needs)
     (λ c. search (place-short, needs))
     (λ c κs. search (held-rows, needs))
-    (λ c κs. search needs)
     (λ c. search needs)
-    (λ c. search (place-written, from-left, needs)))
+    (λ c. search needs)
+    returns-3)
