@@ -5,7 +5,7 @@ use super::TbVerdict;
 use super::numbers::number;
 use verdict::Verdict;
 
-// Its code, and its window where there is none.
+// A response that passes has code 0 and its window, and one that is refused its code and zeros.
 pub fn verdict_told(v: Verdict) -> TbVerdict
     ensures { λ r. ⌜ r ≡ tbVerdict v ⌝ }
 {
