@@ -1,4 +1,5 @@
--- What the builders answer and write (document 01, "Hash and tree" and "Refusal codes"). The order is 20, 19.
+-- What the builders answer and write (document 01, "Hash and tree" and "Refusal codes"; INDX as request P2 has it). The
+-- order is 20, 19.
 use mathlib.Core.Path.{_≡_}
 use mathlib.Core.Bool.{cond}
 use mathlib.Core.List.{List}
