@@ -5,8 +5,8 @@ use crate::sides::{work, Side, Subject, Work};
 use independent::hash;
 use std::hint::black_box;
 
-/// Where ours may be no slower than the limit allows against sha2: a request with its header, which
-/// a server hashes for each client.
+/// A request with its header, which a server hashes for each client. From here on what is done once
+/// a message weighs little beside the blocks, and sha2's limit is another one.
 const PACKET: usize = 1036;
 
 /// Bytes without a pattern, though SHA-512 takes the same time over any.
@@ -28,11 +28,9 @@ fn sha512<'a>(name: &str, message: &'a [u8], limits: &Limits) -> Subject<'a> {
         #[cfg(feature = "peer")]
         (Side::Sha2, work(move || <sha2::Sha512 as sha2::Digest>::digest(black_box(message)))),
     ];
-    let mut held = vec![(Side::Independent, limits.independent)];
-    if message.len() == PACKET {
-        held.push((Side::Sha2, limits.sha2));
-    }
-    Subject { name: format!("sha512 {name}"), length: message.len(), limits: held, works }
+    let sha2 = if message.len() < PACKET { limits.sha2_short } else { limits.sha2 };
+    let limits = vec![(Side::Independent, limits.independent), (Side::Sha2, sha2)];
+    Subject { name: format!("sha512 {name}"), length: message.len(), limits, works }
 }
 
 fn parent<'a>(left: &'a [u8; 32], right: &'a [u8; 32]) -> Subject<'a> {

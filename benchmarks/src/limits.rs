@@ -5,8 +5,10 @@ use std::env;
 pub struct Limits {
     /// SHA-512 of any length against the independent implementation.
     pub independent: f64,
-    /// SHA-512 of a request against RustCrypto's sha2.
+    /// SHA-512 of a request, and of longer messages, against RustCrypto's sha2.
     pub sha2: f64,
+    /// SHA-512 of a parent's 65 bytes against RustCrypto's sha2.
+    pub sha2_short: f64,
     /// A full pile against the independent implementation.
     pub piles: f64,
 }
@@ -15,9 +17,10 @@ impl Limits {
     /// Those that the environment sets, or else the defaults.
     pub fn read() -> Self {
         Limits {
-            independent: limit("BENCH_LIMIT_INDEPENDENT", 1.15),
-            sha2: limit("BENCH_LIMIT_SHA2", 1.25),
-            piles: limit("BENCH_LIMIT_PILES", 1.2),
+            independent: limit("BENCH_LIMIT_INDEPENDENT", 1.05),
+            sha2: limit("BENCH_LIMIT_SHA2", 1.07),
+            sha2_short: limit("BENCH_LIMIT_SHA2_SHORT", 1.25),
+            piles: limit("BENCH_LIMIT_PILES", 0.85),
         }
     }
 }

@@ -89,8 +89,8 @@ fn main() -> ExitCode {
     let mut above = Vec::new();
     println!("the best of several turns; a ratio is of times, so below 1 ours is the faster");
     println!(
-        "limits for sha512: ours/independent {}, ours/sha2 {} at 1,036 bytes",
-        limits.independent, limits.sha2
+        "limits for sha512: ours/independent {}, ours/sha2 {} from 1,036 bytes on and {} below",
+        limits.independent, limits.sha2, limits.sha2_short
     );
     println!("{}", HASHES.header());
     let data = hashes::bytes(64 << 20);

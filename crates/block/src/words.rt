@@ -11,16 +11,18 @@ fn rotr(x: u64, n: u32) -> u64
     (x >> n) | (x << (64 - n))
 }
 
+// In fewer steps than FIPS's own words, on processors without an and-not.
 pub fn ch(x: u64, y: u64, z: u64) -> u64
     ensures { λ r. ⌜ r ≡ ch x y z ⌝ }
 {
-    (x & y) ^ (!x & z)
+    z ^ (x & (y ^ z))
 }
 
+// In fewer steps than FIPS's own words: in the next round this x and y are y and z, so that x ^ y serves twice.
 pub fn maj(x: u64, y: u64, z: u64) -> u64
     ensures { λ r. ⌜ r ≡ maj x y z ⌝ }
 {
-    (x & y) ^ (x & z) ^ (y & z)
+    ((x ^ y) & (y ^ z)) ^ y
 }
 
 pub fn big_sigma0(x: u64) -> u64
