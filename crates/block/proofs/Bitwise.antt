@@ -1,4 +1,4 @@
--- Ch and Maj of FIPS 180-4, (4.8) and (4.9), in the words that the code has for them. Both say the same of each bit, and
+-- Ch and Maj of FIPS 180-4, (4.8) and (4.9), in the form that the code has. Both forms say the same of each bit, and
 -- that is proved from the lowest bit on.
 use mathlib.Core.Path.{_≡_, refl, sym, ap, ap₂, subst, _∙_}
 use Prim.Native.Nat.{ℕ, zero, suc, _+_, _-_, _*_, _/_, _%_, _^_, _<_}
@@ -28,7 +28,8 @@ module _ (f g : ℕ → ℕ → ℕ → ℕ → ℕ) (f-apart : Apart f) (g-apar
   module _ (k x : ℕ) (a : Same k x 0 0) (b : Same k x 0 1) (c : Same k x 1 0) (d : Same k x 1 1) where
     bits-from : (y z : ℕ) → y < 2 → z < 2 → Same k x y z
     bits-from y z p q =
-        bit (λ (j : ℕ). Same k x j z) (bit (λ (i : ℕ). Same k x 0 i) a b z q) (bit (λ (i : ℕ). Same k x 1 i) c d z q) y p
+        bit (λ (j : ℕ). Same k x j z)
+        (bit (λ (i : ℕ). Same k x 0 i) a b z q) (bit (λ (i : ℕ). Same k x 1 i) c d z q) y p
 
   agree : ((x y z : ℕ) → x < 2 → y < 2 → z < 2 → Same 1 x y z) → Same 0 0 0 0
       → (k x y z : ℕ) → x < 2 ^ k → y < 2 ^ k → z < 2 ^ k → Same k x y z
@@ -102,7 +103,7 @@ majority-is =
 abbrev pub choice : ℕ → ℕ → ℕ → ℕ
 choice x y z = bitXor z (bitAnd x (bitXor y z))
 
--- the same on k bits; of Ch the complement is within them
+-- the same on k bits, where the complement in Ch is 2^k - 1 - x
 abbrev choiceOn : ℕ → ℕ → ℕ → ℕ → ℕ
 choiceOn k x y z = choice x y z
 

@@ -1,3 +1,3 @@
--- What the exports promise whose answers are told by cases. The structs, and what is told in each, are in the crate told.
+-- What the exports promise whose answers are told by cases. The structs, and what is told in each, are in `told`.
 pub mod Building
 pub mod Piling

@@ -1,5 +1,5 @@
--- Laws that belong to no one function. What the crate claims of itself stands in ReportNumbers, Exactly, CutReports, Stands,
--- Agree and Once.
+-- Laws that belong to no one function. What the crate claims of itself stands in ReportNumbers, Exactly, CutReports,
+-- Stands, Agree and Once.
 pub mod SameArrays
 pub mod Says
 pub mod Runs

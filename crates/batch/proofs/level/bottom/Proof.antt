@@ -1,4 +1,5 @@
--- `batch::level::bottom` meets its contract. The loop keeps: the first `i` places hold the leaves, the others are empty.
+-- `batch::level::bottom` meets its contract. The loop keeps: the first `i` places hold the leaves, the others are
+-- empty.
 use Prim.Native.Nat.{ℕ, _≤_, _<_, _-_}
 use mathlib.Core.Path.{_≡_, refl, sym, _∙_}
 use mathlib.Core.List.{[]}
