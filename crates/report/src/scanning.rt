@@ -1,6 +1,6 @@
 // The first record that is refused, and the first whose flag is not set.
 ghost use mathlib.Core.Path.{_≡_};
-ghost use Prim.Native.Nat.{_≤_, min};
+ghost use Prim.Native.Nat.{_≤_};
 ghost use Rattle.runs.specs.Convict.{verdictIn, flagIn};
 ghost use Rattle.report.specs.Promises.{FirstAt, recordOf};
 ghost use Rattle.report.specs.Report.{refused, loose};

@@ -1,7 +1,6 @@
 -- `verdict::agreement::time_outside` meets its contract.
 use mathlib.Core.Path.{_≡_, sym, ap, _∙_}
 use mathlib.Core.Bool.{or-false}
-use Prim.Native.Nat.{ℕ}
 use native.Mathlib.Omega.{arith}
 use borrow.Author.Tests.{lt-ltb, le-ltb}
 use denote.Ref.{now}
@@ -10,7 +9,7 @@ use Rattle.laws.proofs.Any.{any-here}
 use Rattle.laws.specs.Numbers.{le}
 use Rattle.message.specs.Tags.{MIDP, MINT, MAXT}
 use Rattle.message.specs.Values.{valueOf}
-use Rattle.wire.specs.Response.{srep, dele, midpIn, mintIn, maxtIn}
+use Rattle.wire.specs.Response.{midpIn, mintIn, maxtIn}
 use Rattle.verdict.specs.Check.{timeOutside}
 use borrow.Author.Needs.{needs}
 use Rattle.verdict.proofs.agreement.time_outside.Statement.{statement}
