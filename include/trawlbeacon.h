@@ -10,7 +10,8 @@
  *   - out leads to as many writable bytes as out_len, or the array it is declared as, says, is
  *     initialised memory, and overlaps no input.
  * All memory stays the caller's. The functions only read their inputs, allocate nothing, and keep
- * no pointer and no state; an answer is a value of its own. Inputs may overlap each other.
+ * no pointer and no state of their own; an answer is a value of its own. Inputs may overlap each
+ * other.
  *
  * The functions of hashes write the whole of out and cannot fail, and those that answer with a
  * bool cannot either. Every other one takes any bytes and answers with a code: 0 where it passed,
@@ -35,7 +36,7 @@ extern "C" {
 
 /* The version of this header: a change of the first number breaks callers. */
 #define TB_VERSION_MAJOR 0
-#define TB_VERSION_MINOR 3
+#define TB_VERSION_MINOR 4
 
 /* ---- Codes ---- */
 
@@ -88,7 +89,9 @@ enum tb_code {
     /* a list of servers is not whole records */
     TB_LISTS = 21,
     /* no list has the server */
-    TB_UNKNOWN_SERVER = 22
+    TB_UNKNOWN_SERVER = 22,
+    /* the pieces of a message come to more than 2^64 - 1 bytes */
+    TB_PIECES = 30
 };
 
 /* What a code says, in words. */
@@ -141,6 +144,8 @@ static inline const char *tb_code_text(uint32_t code) {
         return "a list of servers is not whole records";
     case TB_UNKNOWN_SERVER:
         return "no list has the server";
+    case TB_PIECES:
+        return "the pieces of a message come to more than 2^64 - 1 bytes";
     default:
         return "no such code";
     }
@@ -191,6 +196,66 @@ void tb_srv_value(const uint8_t key[32], uint8_t out[32]);
 /* The nonce that ties the next request of a chain to a response: H(response, rand). */
 void tb_link(const uint8_t *response, size_t response_len, const uint8_t rand[32],
              uint8_t out[32]);
+
+/* ---- Hashes in pieces ----
+ *
+ * For a message that comes a read at a time, with no buffer for the whole: start, take pieces of
+ * any length, none too, and finish. The digest is that of all pieces one after the other, however
+ * they were cut. Finishing only reads the state: it can be done again, and more pieces can follow.
+ *
+ * The state is the caller's, can be copied and kept, and is initialised memory before it is
+ * started (struct tb_running state = {0}). One that no start led to does no harm: each function
+ * ends, stays within it and gives the same answer to the same bytes. */
+
+/* The state: the hash value after the whole blocks so far, the bytes that fill no block yet, and
+ * how many bytes there were. */
+struct tb_running {
+    uint64_t h[8];
+    uint8_t rest[128];
+    uint64_t count;
+};
+
+/* The bytes of a state. */
+#define TB_RUNNING_SIZE 200
+
+/* What the functions below call, with the fields of a state one by one. */
+void tb_sha512_start_fields(uint64_t h[8], uint8_t rest[128], uint64_t *count);
+void tb_leaf_start_fields(uint64_t h[8], uint8_t rest[128], uint64_t *count);
+uint32_t tb_sha512_take_fields(uint64_t h[8], uint8_t rest[128], uint64_t *count,
+                               const uint8_t *piece, size_t piece_len);
+void tb_sha512_finish_fields(const uint64_t h[8], const uint8_t rest[128], uint64_t count,
+                             uint8_t out[64]);
+void tb_hash_finish_fields(const uint64_t h[8], const uint8_t rest[128], uint64_t count,
+                           uint8_t out[32]);
+
+/* Starts the hash of a message. */
+static inline void tb_sha512_start(struct tb_running *state) {
+    tb_sha512_start_fields(state->h, state->rest, &state->count);
+}
+
+/* Starts the leaf of a request packet: its pieces are those of the packet, and tb_hash_finish
+ * gives what tb_leaf gives of the whole. */
+static inline void tb_leaf_start(struct tb_running *state) {
+    tb_leaf_start_fields(state->h, state->rest, &state->count);
+}
+
+/* Takes a piece, which must not overlap the state. The code is 30, where the pieces would come to
+ * more than 2^64 - 1 bytes; then the state stays as it was. */
+static inline uint32_t tb_sha512_take(struct tb_running *state, const uint8_t *piece,
+                                      size_t piece_len) {
+    return tb_sha512_take_fields(state->h, state->rest, &state->count, piece, piece_len);
+}
+
+/* The SHA-512 digest of the pieces so far. */
+static inline void tb_sha512_finish(const struct tb_running *state, uint8_t out[64]) {
+    tb_sha512_finish_fields(state->h, state->rest, state->count, out);
+}
+
+/* H of the pieces so far: of a leaf that was started as one; and where the pieces are those of a
+ * response and then its rand, what tb_link gives. */
+static inline void tb_hash_finish(const struct tb_running *state, uint8_t out[32]) {
+    tb_hash_finish_fields(state->h, state->rest, state->count, out);
+}
 
 /* ---- Requests and responses ---- */
 

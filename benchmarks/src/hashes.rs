@@ -49,6 +49,29 @@ fn leaf(packet: &[u8]) -> Subject<'_> {
     Subject { name: "leaf 1,036 bytes".into(), length: packet.len(), limits: vec![], works }
 }
 
+/// A message in pieces of so many bytes, and the whole at once. What is done for each piece weighs
+/// more the shorter they are, so that only long ones have a limit.
+fn pieces<'a>(message: &'a [u8], length: usize, limits: &Limits) -> Subject<'a> {
+    let in_pieces = move || {
+        let mut hash = trawlbeacon::Sha512::new();
+        for piece in black_box(message).chunks(length) {
+            hash.update(piece).expect("far fewer than 2^64 bytes");
+        }
+        hash.finish()
+    };
+    let works: Vec<(Side, Work<'a>)> = vec![
+        (Side::Ours, work(in_pieces)),
+        (Side::Whole, work(move || trawlbeacon::sha512(black_box(message)))),
+    ];
+    let limits = if length < 1_000 { vec![] } else { vec![(Side::Whole, limits.pieces)] };
+    Subject { name: format!("1 MiB by {length} bytes"), length: message.len(), limits, works }
+}
+
+/// A mebibyte in pieces, at the start of `data`.
+pub fn in_pieces<'a>(data: &'a [u8], limits: &Limits) -> Vec<Subject<'a>> {
+    [1, 64, 1_000, 65_536].map(|length| pieces(&data[..1 << 20], length, limits)).into()
+}
+
 /// All hashes that are timed, over the start of `data`, which must have 64 MiB.
 pub fn subjects<'a>(data: &'a [u8], limits: &Limits) -> Vec<Subject<'a>> {
     let array = |at: usize| data[at..at + 32].try_into().expect("32 bytes");

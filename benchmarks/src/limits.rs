@@ -9,6 +9,8 @@ pub struct Limits {
     pub sha2: f64,
     /// SHA-512 of a parent's 65 bytes against the same.
     pub sha2_short: f64,
+    /// SHA-512 of a mebibyte in pieces of 1,000 bytes and more, against the whole at once.
+    pub pieces: f64,
     /// A full pile against the independent implementation.
     pub piles: f64,
 }
@@ -20,6 +22,7 @@ impl Limits {
             independent: limit("BENCH_LIMIT_INDEPENDENT", 1.05),
             sha2: limit("BENCH_LIMIT_SHA2", 1.07),
             sha2_short: limit("BENCH_LIMIT_SHA2_SHORT", 1.25),
+            pieces: limit("BENCH_LIMIT_PIECES", 1.05),
             piles: limit("BENCH_LIMIT_PILES", 0.87),
         }
     }

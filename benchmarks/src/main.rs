@@ -34,6 +34,13 @@ const HASHES: Table = Table {
     show: |length, seconds| length as f64 / seconds / 1e6,
 };
 
+const PIECES: Table = Table {
+    width: 22,
+    unit: "MB/s",
+    sides: &[Side::Ours, Side::Whole],
+    show: |length, seconds| length as f64 / seconds / 1e6,
+};
+
 const PILES: Table = Table {
     width: 40,
     unit: "us",
@@ -96,6 +103,11 @@ fn main() -> ExitCode {
     let data = hashes::bytes(64 << 20);
     for subject in hashes::subjects(&data, &limits) {
         HASHES.report(subject, &mut above);
+    }
+    println!("limit for pieces of 1,000 bytes and more: ours/whole {}", limits.pieces);
+    println!("{}", PIECES.header());
+    for subject in hashes::in_pieces(&data, &limits) {
+        PIECES.report(subject, &mut above);
     }
     println!(
         "limit for a full pile: ours/independent {}; no buffer is cleared between runs",

@@ -10,6 +10,8 @@ pub enum Side {
     // Never made where there is no sha2 to time.
     #[cfg_attr(not(feature = "peer"), allow(dead_code))]
     Sha2,
+    /// Ours too, over the whole message at once.
+    Whole,
 }
 
 impl Side {
@@ -18,6 +20,7 @@ impl Side {
             Side::Ours => "ours",
             Side::Independent => "independent",
             Side::Sha2 => "sha2",
+            Side::Whole => "whole",
         }
     }
 }

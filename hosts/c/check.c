@@ -118,6 +118,54 @@ static void expect_hashes(void) {
     expect_hash("tb_link", out, joined, 65);
 }
 
+/* Hashes in pieces, cut at every place, beside the whole; and a state that can take no more. */
+static void expect_pieces(void) {
+    uint8_t message[300], rand[32], whole[64] = {0}, out[64] = {0}, hash[32] = {0};
+    for (size_t i = 0; i < sizeof message; i++) message[i] = (uint8_t)(41 * i + 5);
+    memset(rand, 0x33, sizeof rand);
+    expect_number("size of a state", sizeof(struct tb_running), TB_RUNNING_SIZE);
+
+    tb_sha512(message, sizeof message, whole);
+    for (size_t cut = 0; cut <= sizeof message; cut += 25) {
+        struct tb_running state = {{0}, {0}, 0};
+        tb_sha512_start(&state);
+        expect_number("tb_sha512_take", tb_sha512_take(&state, message, cut), 0);
+        tb_sha512_finish(&state, out); /* which takes nothing from the state */
+        expect_number("tb_sha512_take of the rest",
+                      tb_sha512_take(&state, message + cut, sizeof message - cut), 0);
+        tb_sha512_finish(&state, out);
+        expect_bytes("tb_sha512_finish", out, whole, sizeof out);
+        tb_hash_finish(&state, hash);
+        expect_bytes("tb_hash_finish", hash, whole, sizeof hash);
+        expect_number("count of a state", state.count, sizeof message);
+
+        tb_sha512_take(&state, rand, sizeof rand);
+        tb_hash_finish(&state, out);
+        tb_link(message, sizeof message, rand, hash);
+        expect_bytes("a link in pieces", out, hash, sizeof hash);
+
+        tb_leaf_start(&state);
+        tb_sha512_take(&state, message, cut);
+        tb_sha512_take(&state, message + cut, sizeof message - cut);
+        tb_hash_finish(&state, out);
+        tb_leaf(message, sizeof message, hash);
+        expect_bytes("a leaf in pieces", out, hash, sizeof hash);
+    }
+
+    struct tb_running full = {{0}, {0}, 0}, before;
+    tb_sha512_start(&full);
+    full.count = UINT64_MAX - 100;
+    before = full;
+    expect_number("a piece too long", tb_sha512_take(&full, message, 101), TB_PIECES);
+    expect_number("a code", TB_PIECES, 30);
+    expect_bytes("a state after a refusal", (const uint8_t *)&full, (const uint8_t *)&before,
+                 sizeof full);
+    expect_number("a piece that just fits", tb_sha512_take(&full, message, 100), 0);
+    expect_number("a count that is full", full.count, UINT64_MAX);
+    expect_number("no bytes more", tb_sha512_take(&full, message, 0), 0);
+    expect_number("one byte more", tb_sha512_take(&full, message, 1), TB_PIECES);
+}
+
 /* Writes a request, where there is room and where there is none, and reads it back. */
 static void expect_request(void) {
     uint8_t key[32], nonce[32], srv[32] = {0}, out[TB_REQUEST_LENGTH + 8];
@@ -570,6 +618,7 @@ int main(void) {
     expect_digest("the digest of \"abc\"", abc, 3, ABC);
     expect_digest("the digest of the empty message", abc, 0, EMPTY);
     expect_hashes();
+    expect_pieces();
     expect_request();
     expect_response(packet);
     expect_parts(packet);

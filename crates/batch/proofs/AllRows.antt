@@ -7,9 +7,10 @@ use native.Mathlib.Omega.{arith}
 use lib.ListN.{length, getD, length-append, List·getD-append}
 use lib.Pow.{pow-pos, pow-mono}
 use lib.Seq.{getD-append-add}
+use Rattle.laws.specs.Flat.{flat}
 use Rattle.laws.specs.Upto.{upto}
 use Rattle.laws.proofs.Upto.{upto-length, upto-at}
-use Rattle.tree.specs.Tree.{nodeIn, flat, nodeAt, rootOf, beside, siblings, pathOf}
+use Rattle.tree.specs.Tree.{nodeIn, nodeAt, rootOf, beside, siblings, pathOf}
 use Rattle.batch.specs.AllRows.{levels, nodesOf, levelStart, laidAt, pathIn}
 use Rattle.tree.proofs.Nodes.{Whole, whole-append, whole-upto, flat-length, flat-at}
 

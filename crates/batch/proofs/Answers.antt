@@ -7,11 +7,12 @@ use native.Mathlib.Omega.{arith}
 use lib.Dec.{eqb, ltb, leb}
 use lib.ListN.{length, take, drop, replicate}
 use borrow.Author.Tests.{le-leb, lt-leb, lt-ltb, le-ltb, eq-eqb, ne-eqb}
+use Rattle.laws.specs.Flat.{flat}
 use Rattle.laws.specs.Written.{written, Puts}
 use Rattle.laws.proofs.Written.{puts-as, written-whole}
 use Rattle.refusal.specs.Refusal.{refusal, passed}
 use Rattle.refusal.specs.declared.Refusal.{Refusal}
-use Rattle.tree.specs.Tree.{nodeIn, nodesIn, flat, nodeAt, depthOf, rootOf, pathOf}
+use Rattle.tree.specs.Tree.{nodeIn, nodesIn, nodeAt, depthOf, rootOf, pathOf}
 use Rattle.batch.specs.AllRows.{levels, nodesOf, pathIn}
 use Rattle.batch.specs.Leaves.{countOf, leavesIn, depthIn, heldOf}
 use Rattle.batch.specs.Answers.{rootedOf, PlacesLeaf, pathBytes, fromBytes, LaysRows, rowsBytes}

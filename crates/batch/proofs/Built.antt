@@ -7,10 +7,11 @@ use native.Mathlib.Omega.{arith}
 use lib.ListN.{length, take, drop}
 use lib.Seq.{take-at}
 use borrow.Author.Tests.{eq-eqb, le-leb, lt-ltb}
+use Rattle.laws.specs.Flat.{flat}
 use Rattle.laws.specs.Written.{written}
 use Rattle.laws.proofs.Same.{same-refl}
 use Rattle.hash.specs.Hashes.{emptyPlace}
-use Rattle.tree.specs.Tree.{nodeIn, nodesIn, flat, nodeAt, depthOf, rootOf, siblings, pathOf}
+use Rattle.tree.specs.Tree.{nodeIn, nodesIn, nodeAt, depthOf, rootOf, siblings, pathOf}
 use Rattle.tree.specs.PathCheck.{climb, reached, leadsOf}
 use Rattle.batch.specs.Leaves.{countOf, leavesIn, depthIn, most}
 use Rattle.batch.specs.Answers.{rootedOf, placedNumber, PlacesLeaf, pathBytes}

@@ -6,18 +6,20 @@ use Prim.Native.Nat.{ℕ, zero, suc, _+_, _*_, _-_, _/_, _^_, _≤_, _<_}
 use native.Mathlib.Omega.{arith}
 use lib.ListN.{length, getD}
 use lib.Pow.{pow-pos}
+use Rattle.laws.specs.Flat.{flat}
+use Rattle.laws.proofs.Flat.{flat-append}
 use Rattle.laws.specs.Upto.{upto}
 use Rattle.laws.specs.Pasted.{pasted}
 use Rattle.laws.specs.Written.{Puts}
 use Rattle.laws.proofs.Upto.{upto-same}
 use Rattle.laws.proofs.Written.{puts-none, puts-more, puts-put, puts-as}
 use Rattle.hash.specs.Hashes.{parentOf}
-use Rattle.tree.specs.Tree.{flat, nodeAt}
+use Rattle.tree.specs.Tree.{nodeAt}
 use Rattle.batch.specs.AllRows.{levels, nodesOf}
 use Rattle.batch.specs.Leaves.{most}
 use Rattle.batch.specs.Level.{Level, Parents, bytesOf}
 use Rattle.tree.proofs.Width.{pow-half}
-use Rattle.tree.proofs.Nodes.{flat-append, flat-more}
+use Rattle.tree.proofs.Nodes.{flat-more}
 use Rattle.batch.proofs.Coming.{coming-next, coming-done}
 
 -- ---- A row as it is put from byte `at` on: its first i nodes are

@@ -4,9 +4,10 @@ use mathlib.Core.List.{List, [], _∷_, _++_}
 use Prim.Native.Nat.{ℕ, zero, suc, _+_, _*_, _-_, _/_, _^_, _≤_, _<_}
 use native.Mathlib.Omega.{arith}
 use lib.ListN.{length}
+use Rattle.laws.specs.Flat.{flat}
 use Rattle.laws.specs.Written.{Puts}
 use Rattle.laws.proofs.Written.{puts-none, puts-more, puts-as}
-use Rattle.tree.specs.Tree.{nodeIn, flat, beside, siblings}
+use Rattle.tree.specs.Tree.{nodeIn, beside, siblings}
 use Rattle.batch.specs.AllRows.{nodesOf, levelStart, laidAt, pathIn}
 use Rattle.tree.proofs.Width.{pow-half}
 use Rattle.batch.proofs.Coming.{coming-next, coming-done}

@@ -5,8 +5,9 @@ use mathlib.Core.List.{List, _++_}
 use Prim.Native.Nat.{ℕ, _-_, _^_, _<_}
 use native.Mathlib.Omega.{arith}
 use lib.ListN.{length, drop, length-append}
+use Rattle.laws.specs.Flat.{flat}
 use Rattle.laws.specs.Written.{written}
-use Rattle.tree.specs.Tree.{nodeIn, flat, nodeAt}
+use Rattle.tree.specs.Tree.{nodeIn, nodeAt}
 use Rattle.batch.specs.AllRows.{levels, nodesOf, pathIn}
 use Rattle.batch.specs.Leaves.{countOf, leavesIn, depthIn, heldOf}
 use Rattle.batch.specs.Answers.{rootedOf, placedNumber, PlacesLeaf, pathBytes, fromBytes}

@@ -6,8 +6,9 @@ use mathlib.Core.List.{List}
 use Prim.Native.Nat.{ℕ, _*_, _≤_, _<_}
 use lib.Dec.{eqb}
 use lib.ListN.{length, replicate}
+use Rattle.laws.specs.Flat.{flat}
 use Rattle.refusal.specs.Refusal.{refusal, passed}
-use Rattle.tree.specs.Tree.{flat, depthOf, rootOf, pathOf}
+use Rattle.tree.specs.Tree.{depthOf, rootOf, pathOf}
 use Rattle.batch.specs.AllRows.{levels, nodesOf, pathIn}
 use Rattle.batch.specs.Leaves.{countOf, leavesIn, depthIn}
 use Rattle.batch.specs.declared.Rooted.{Rooted}

@@ -4,9 +4,10 @@ use mathlib.Core.Path.{_≡_}
 use mathlib.Core.List.{List, []}
 use Prim.Native.Nat.{ℕ, _+_, _*_, _≤_, _<_, _^_}
 use lib.ListN.{length, getD}
+use Rattle.laws.specs.Flat.{flat}
 use Rattle.laws.specs.Upto.{upto}
 use Rattle.hash.specs.Hashes.{parentOf}
-use Rattle.tree.specs.Tree.{nodeAt, flat}
+use Rattle.tree.specs.Tree.{nodeAt}
 use Rattle.batch.specs.AllRows.{nodesOf}
 use Rattle.batch.specs.Leaves.{most}
 

@@ -1,8 +1,9 @@
 // A tree built level by level: each an array of nodes, of which half as many are in use at every step towards the root.
 ghost use Prim.Native.Nat.{_+_, _*_, _≤_};
 ghost use lib.ListN.{length};
+ghost use Rattle.laws.specs.Flat.{flat};
 ghost use Rattle.laws.specs.Written.{Puts};
-ghost use Rattle.tree.specs.Tree.{nodesIn, flat};
+ghost use Rattle.tree.specs.Tree.{nodesIn};
 ghost use Rattle.batch.specs.AllRows.{levels, nodesOf};
 ghost use Rattle.batch.specs.Leaves.{most};
 ghost use Rattle.batch.specs.Level.{Level, Parents, bytesOf, CanLay};

@@ -2,8 +2,9 @@
 ghost use mathlib.Core.Path.{_≡_};
 ghost use Prim.Native.Nat.{_+_, _*_, _≤_, _<_};
 ghost use lib.ListN.{length};
+ghost use Rattle.laws.specs.Flat.{flat};
 ghost use Rattle.laws.specs.Written.{Puts};
-ghost use Rattle.tree.specs.Tree.{nodeIn, flat, beside};
+ghost use Rattle.tree.specs.Tree.{nodeIn, beside};
 ghost use Rattle.batch.specs.AllRows.{pathIn};
 ghost use Rattle.batch.specs.Leaves.{most};
 ghost use Rattle.batch.specs.Level.{CanRead};

@@ -1,9 +1,10 @@
--- Each export's contract settles its result, and what it leaves in the lent buffer.
+-- Each export's contract settles its result, and what it leaves in the lent buffers.
 use Prim.Native.Nat.{ℕ}
 use mathlib.Core.Path.{refl, sym, ap, _∙_}
 use mathlib.Core.List.{List}
 use lib.ListN.{length}
 use Rattle.laws.proofs.Once.{Settles}
+use Rattle.sha512.specs.declared.Running.{Running}
 use Rattle.batch.proofs.Answers.{places-once, lays-once}
 use Rattle.report.proofs.Says.{report-once}
 use Rattle.report.proofs.Runs.{takes-once}
@@ -20,6 +21,16 @@ use Rattle.capi.proofs.hashing.tb_srv_value.Kinds as tb-srv-value-kinds
 use Rattle.capi.proofs.hashing.tb_srv_value.Reads as tb-srv-value-reads
 use Rattle.capi.proofs.hashing.tb_link.Kinds as tb-link-kinds
 use Rattle.capi.proofs.hashing.tb_link.Reads as tb-link-reads
+use Rattle.capi.proofs.pieces.tb_sha512_start_fields.Kinds as tb-sha512-start-fields-kinds
+use Rattle.capi.proofs.pieces.tb_sha512_start_fields.Reads as tb-sha512-start-fields-reads
+use Rattle.capi.proofs.pieces.tb_leaf_start_fields.Kinds as tb-leaf-start-fields-kinds
+use Rattle.capi.proofs.pieces.tb_leaf_start_fields.Reads as tb-leaf-start-fields-reads
+use Rattle.capi.proofs.pieces.tb_sha512_take_fields.Kinds as tb-sha512-take-fields-kinds
+use Rattle.capi.proofs.pieces.tb_sha512_take_fields.Reads as tb-sha512-take-fields-reads
+use Rattle.capi.proofs.pieces.tb_sha512_finish_fields.Kinds as tb-sha512-finish-fields-kinds
+use Rattle.capi.proofs.pieces.tb_sha512_finish_fields.Reads as tb-sha512-finish-fields-reads
+use Rattle.capi.proofs.pieces.tb_hash_finish_fields.Kinds as tb-hash-finish-fields-kinds
+use Rattle.capi.proofs.pieces.tb_hash_finish_fields.Reads as tb-hash-finish-fields-reads
 use Rattle.capi.proofs.reading.tb_read_request.Kinds as tb-read-request-kinds
 use Rattle.capi.proofs.reading.tb_read_request.Reads as tb-read-request-reads
 use Rattle.capi.proofs.reading.tb_read_response.Kinds as tb-read-response-kinds
@@ -78,6 +89,31 @@ tb-srv-value-once κs a x u y v p q = (refl, ap (λ (out : List ℕ). (tt, (out,
 
 pub tb-link-once : Settles tb-link-kinds.ps tb-link-kinds.r tb-link-reads.Learnt
 tb-link-once κs a x u y v p q = (refl, ap (λ (out : List ℕ). (tt, (tt, (out, tt)))) (p ∙ sym q))
+
+pub tb-sha512-start-fields-once : Settles tb-sha512-start-fields-kinds.ps tb-sha512-start-fields-kinds.r
+    tb-sha512-start-fields-reads.Learnt
+tb-sha512-start-fields-once κs a x u y v p q =
+    (refl, ap (λ (r : Running). (r .h, (r .rest, (r .count, tt)))) (p ∙ sym q))
+
+pub tb-leaf-start-fields-once : Settles tb-leaf-start-fields-kinds.ps tb-leaf-start-fields-kinds.r
+    tb-leaf-start-fields-reads.Learnt
+tb-leaf-start-fields-once κs a x u y v p q =
+    (refl, ap (λ (r : Running). (r .h, (r .rest, (r .count, tt)))) (p ∙ sym q))
+
+pub tb-sha512-take-fields-once : Settles tb-sha512-take-fields-kinds.ps tb-sha512-take-fields-kinds.r
+    tb-sha512-take-fields-reads.Learnt
+tb-sha512-take-fields-once κs a x u y v p q =
+    (p .0 ∙ sym (q .0), ap (λ (r : Running). (r .h, (r .rest, (r .count, (tt, tt))))) (p .1 ∙ sym (q .1)))
+
+pub tb-sha512-finish-fields-once : Settles tb-sha512-finish-fields-kinds.ps tb-sha512-finish-fields-kinds.r
+    tb-sha512-finish-fields-reads.Learnt
+tb-sha512-finish-fields-once κs a x u y v p q =
+    (refl, ap (λ (out : List ℕ). (tt, (tt, (tt, (out, tt))))) (p ∙ sym q))
+
+pub tb-hash-finish-fields-once : Settles tb-hash-finish-fields-kinds.ps tb-hash-finish-fields-kinds.r
+    tb-hash-finish-fields-reads.Learnt
+tb-hash-finish-fields-once κs a x u y v p q =
+    (refl, ap (λ (hash : List ℕ). (tt, (tt, (tt, (hash, tt))))) (p ∙ sym q))
 
 pub tb-read-request-once : Settles tb-read-request-kinds.ps tb-read-request-kinds.r tb-read-request-reads.Learnt
 tb-read-request-once κs a x u y v p q = (p ∙ sym q, refl)

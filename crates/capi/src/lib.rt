@@ -5,6 +5,7 @@ mod building;
 mod finding;
 mod hashing;
 mod judging;
+mod pieces;
 mod piling;
 mod reading;
 mod writing;

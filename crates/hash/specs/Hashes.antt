@@ -1,10 +1,12 @@
 -- H, and what it is taken of: a server's SRV value (draft 19, 5.1.4), leaves and parents (5.3), an empty place
--- (document 01, house) and links (8.2).
+-- (document 01, house) and links (8.2); and H of pieces (P5).
 -- A contract cannot use the name `H`, so it is `H32` here.
 use mathlib.Core.List.{List, [], _∷_, _++_}
 use Prim.Native.Nat.{ℕ}
 use lib.ListN.{take}
 use Rattle.sha512.specs.Computation.{Sha512}
+use Rattle.sha512.specs.State.{stateDigest}
+use Rattle.sha512.specs.declared.Running.{Running}
 
 -- the first 32 bytes of SHA-512
 unfoldable pub H32 : List ℕ → List ℕ
@@ -29,3 +31,7 @@ srvOf key = H32 (0xff ∷ key)
 -- the nonce that links a request to the response before it, with the request's own rand
 unfoldable pub linkOf : List ℕ → List ℕ → List ℕ
 linkOf response rand = H32 (response ++ rand)
+
+-- the first 32 bytes of the digest of what a state has been fed
+unfoldable pub hashOf : Running → List ℕ
+hashOf r = take 32 (stateDigest r)

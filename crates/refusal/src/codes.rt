@@ -66,3 +66,6 @@ pub const LISTS: u8 = 21;
 
 // no list has the server
 pub const UNKNOWN_SERVER: u8 = 22;
+
+// the pieces of a message come to more than 2^64 - 1 bytes
+pub const PIECES: u8 = 30;

@@ -12,14 +12,21 @@ use Rattle.laws.specs.Pasted.{pasted}
 use Rattle.laws.proofs.Pasted.{drop-replicate, pasted-end, pasted-zeros}
 use Rattle.block.specs.HashValue.{hashed}
 use Rattle.block.proofs.HashValue.{hashed-split, hashed-rest, hashed-short}
+use Rattle.refusal.specs.Refusal.{refusal, passed}
+use Rattle.refusal.specs.declared.Refusal.{Refusal}
 use Rattle.sha512.specs.Computation.{digest, Sha512}
 use Rattle.sha512.specs.InitialHash.{H0}
 use Rattle.sha512.specs.Padding.{padding}
-use Rattle.sha512.specs.State.{restOf, filled, stateOf, waiting, counted, kept, moved, updated, stateDigest}
+use Rattle.sha512.specs.State.{restOf, filled, stateOf, waiting, counted, kept, moved, updated, fedOf}
+use Rattle.sha512.specs.State.{stateDigest}
 use Rattle.sha512.specs.declared.Running.{Running}
+use Rattle.sha512.specs.declared.Fed.{Fed}
 
 abbrev pub state : List ℕ → List ℕ → ℕ → Running
 state h b c = record { h = h; rest = b; count = c }
+
+abbrev fed : Running → Refusal → Fed
+fed r f = record { state = r; refusal = f }
 
 -- ---- the part s, put behind what waits in the state r
 
@@ -86,6 +93,21 @@ module _ (r : Running) (s b : List ℕ) (c : ℕ) (long : length (r .rest) ≡ 1
         rw (le-ltb (length all) 128 many)
         (ap₂ (λ (u v : List ℕ). state u v c) h-is d-filled
         ∙ ap (state (hashed (r .h) all) (filled (restOf all))) c-is)
+
+-- ---- the piece s: whether it is taken
+
+module _ (r : Running) (s : List ℕ) (within : r .count ≤ 2 ^ 64 - 1) where
+  pub fed-refused : (f : Refusal) → 2 ^ 64 - 1 - r .count < length s → f ≡ refusal 30
+      → record { state = r; refusal = f } ≡ fedOf r s
+  unfolding fedOf
+  fed-refused f l f-is =
+      rw (lt-ltb (2 ^ 64 - 1) (r .count + length s) (omega arith)) (ap (λ (x : Refusal). fed r x) f-is)
+
+  pub fed-passed : (q : Running) → length s ≤ 2 ^ 64 - 1 - r .count → q ≡ updated r s
+      → record { state = q; refusal = passed } ≡ fedOf r s
+  unfolding fedOf
+  fed-passed q l q-is =
+      rw (le-ltb (2 ^ 64 - 1) (r .count + length s) (omega arith)) (ap (λ (x : Running). fed x passed) q-is)
 
 -- ---- parts come to the same as the whole
 
@@ -164,7 +186,7 @@ module _ (m : List ℕ) where
         ∙ ap₂ (λ (v : List ℕ) (k : ℕ). state (hashed H0 (m ++ s)) (filled v) k) (sym (restOf-more ∙ x-rest)) counted-is
 
     -- one part more
-    updated-is : updated (stateOf m) s ≡ stateOf (m ++ s)
+    pub updated-is : updated (stateOf m) s ≡ stateOf (m ++ s)
     unfolding updated
     updated-is = rw waiting-is (pick (ltb (length (restOf m ++ s)) 128) refl)
       where
@@ -172,7 +194,3 @@ module _ (m : List ℕ) where
             → cond b (kept (stateOf m) s (restOf m ++ s)) (moved (stateOf m) s (restOf m ++ s)) ≡ stateOf (m ++ s)
         pick true e = kept-more (ltb-true (length (restOf m ++ s)) 128 e)
         pick false e = moved-more
-
--- one part more, as code has the states
-pub then : (r q : Running) (m s : List ℕ) → r ≡ stateOf m → q ≡ updated r s → q ≡ stateOf (m ++ s)
-then r q m s r-is q-is = q-is ∙ ap (λ (x : Running). updated x s) r-is ∙ updated-is m s

@@ -1,10 +1,10 @@
 //! The proved Roughtime library, for Rust.
 //!
 //! Each function here calls the function of the proved library that has the same name after `tb_`,
-//! and adds nothing to it; [`cut`], [`Record`] and [`Pile`] only lay out bytes beside such calls.
-//! The proofs speak of the library's own code; that these few lines declare and call it rightly is
-//! shown by the tests alone, which compare every function with an implementation that shares no
-//! code with the library.
+//! and adds nothing to it; [`cut`], [`Record`] and [`Pile`] only lay out bytes beside such calls,
+//! and [`Sha512`] holds the state between those that end in `_fields`. The proofs speak of the
+//! library's own code; that these few lines declare and call it rightly is shown by the tests
+//! alone, which compare every function with an implementation that shares no code with the library.
 //!
 //! H, below, is Roughtime's hash: the first 32 bytes of SHA-512. The example `console` goes from
 //! the request to the window, with both signatures verified, and takes a file for what the server
@@ -32,6 +32,7 @@
 mod check;
 mod gathering;
 mod packets;
+mod pieces;
 mod piles;
 pub mod raw;
 mod refusal;
@@ -44,6 +45,7 @@ pub use gathering::{Pile, Record};
 pub use packets::{
     read_request, read_response, write_request, Request, Response, LONGEST_PACKET, REQUEST_LENGTH,
 };
+pub use pieces::Sha512;
 pub use piles::{
     check_report, contradicts, cut, cut_run, first_rand_zero, judge, linked, pile_code, Cut, Pair,
     ReportRefusal, Run, MOST_RECORDS, RECORD_LENGTH,

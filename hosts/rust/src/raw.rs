@@ -6,11 +6,23 @@
 //! lead to. What is written to must be initialised, and must overlap nothing that is read.
 //!
 //! Why the safe functions of this package are sound: the library only reads its inputs, only writes
-//! within `out`, and keeps no pointer. A Rust slice's pointer is never null, also where the slice
+//! within `out` and a state that it is lent, and keeps no pointer. A Rust slice's pointer is never null, also where the slice
 //! is empty; what it leads to is initialised; and a mutable one, or a new array that is filled with
 //! zeros first, overlaps no other.
 
 #![allow(non_camel_case_types)]
+
+/// The state of a hash in pieces. It is the caller's, and any content does no harm.
+#[repr(C)]
+#[derive(Clone, Copy, Debug, PartialEq, Eq)]
+pub struct tb_running {
+    /// The hash value after the whole blocks so far.
+    pub h: [u64; 8],
+    /// The bytes that fill no block yet, at its front.
+    pub rest: [u8; 128],
+    /// How many bytes there were.
+    pub count: u64,
+}
 
 /// What [`tb_read_request`] answers.
 #[repr(C)]
@@ -188,6 +200,23 @@ extern "C" {
     pub fn tb_srv_value(key: &[u8; 32], out: &mut [u8; 32]);
     /// The nonce of the next request of a chain.
     pub fn tb_link(response: *const u8, response_len: usize, rand: &[u8; 32], out: &mut [u8; 32]);
+
+    /// Starts the hash of a message.
+    pub fn tb_sha512_start_fields(h: &mut [u64; 8], rest: &mut [u8; 128], count: &mut u64);
+    /// Starts the leaf of a packet.
+    pub fn tb_leaf_start_fields(h: &mut [u64; 8], rest: &mut [u8; 128], count: &mut u64);
+    /// Takes a piece.
+    pub fn tb_sha512_take_fields(
+        h: &mut [u64; 8],
+        rest: &mut [u8; 128],
+        count: &mut u64,
+        piece: *const u8,
+        piece_len: usize,
+    ) -> u32;
+    /// The SHA-512 digest of the pieces so far.
+    pub fn tb_sha512_finish_fields(h: &[u64; 8], rest: &[u8; 128], count: u64, out: &mut [u8; 64]);
+    /// H of the pieces so far.
+    pub fn tb_hash_finish_fields(h: &[u64; 8], rest: &[u8; 128], count: u64, out: &mut [u8; 32]);
 
     /// Reads a request.
     pub fn tb_read_request(packet: *const u8, packet_len: usize) -> tb_request;

@@ -56,6 +56,8 @@ pub enum Refusal {
     Lists,
     /// no list has the server
     UnknownServer,
+    /// the pieces of a message come to more than 2^64 - 1 bytes
+    Pieces,
 }
 
 impl Refusal {
@@ -85,6 +87,7 @@ impl Refusal {
             Refusal::Leaves => 20,
             Refusal::Lists => 21,
             Refusal::UnknownServer => 22,
+            Refusal::Pieces => 30,
         }
     }
 
@@ -125,6 +128,7 @@ impl Refusal {
             }
             Refusal::Lists => "a list of servers is not whole records",
             Refusal::UnknownServer => "no list has the server",
+            Refusal::Pieces => "the pieces of a message come to more than 2^64 - 1 bytes",
         }
     }
 
@@ -154,6 +158,7 @@ impl Refusal {
             20 => Refusal::Leaves,
             21 => Refusal::Lists,
             22 => Refusal::UnknownServer,
+            30 => Refusal::Pieces,
             _ => return None,
         })
     }
@@ -195,8 +200,8 @@ mod tests {
     fn each_number_stands_for_one_refusal() {
         let all: Vec<Refusal> = (0..=1_000).filter_map(Refusal::from_code).collect();
         assert!(!all.is_empty());
-        for (place, refusal) in all.iter().enumerate() {
-            assert_eq!(refusal.code(), place as u32 + 1);
+        for refusal in &all {
+            assert_eq!(Refusal::from_code(refusal.code()), Some(*refusal));
             assert_eq!(refusal.to_string(), refusal.words());
             assert_eq!(Refusal::check(refusal.code()), Err(*refusal));
         }

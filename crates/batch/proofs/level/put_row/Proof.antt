@@ -3,10 +3,10 @@ use mathlib.Core.Path.{_≡_}
 use Prim.Native.Nat.{_+_, _*_, _≤_, _-_}
 use native.Mathlib.Nat.{add-zero}
 use native.Mathlib.Omega.{arith}
+use Rattle.laws.specs.Flat.{flat}
 use Rattle.laws.specs.Upto.{upto}
 use Rattle.laws.specs.Written.{Puts}
 use Rattle.laws.proofs.Written.{puts-none, puts-length}
-use Rattle.tree.specs.Tree.{flat}
 use Rattle.batch.specs.Level.{bytesOf}
 use Rattle.batch.proofs.Laying.{row-next}
 use borrow.Author.Needs.{needs}
