@@ -92,35 +92,15 @@ module _ (s : List ℕ) {n : ℕ} (e : n ≡ countOf (length s)) where
     rooted-some some p =
         simp (ne-eqb (countOf (length s)) 0 (λ (z : countOf (length s) ≡ 0). some (e ∙ z)), p, deep, e)
 
-    module _ {z nodes : List ℕ} {k : ℕ} (rows : Puts z 0 (flat (levels (nodesIn n s) d 0)) nodes k) where
-      pub rows-left : nodes ≡ written 0 (rowsBytes s) z
-      unfolding rowsBytes
-      rows-left = rw (deep, e) at (written-whole rows)
+    pub rows-left : {b : ℕ} {o out : List ℕ} → Puts o 0 (flat (levels (nodesIn n s) d 0)) out b
+        → out ≡ written 0 (rowsBytes s) o
+    unfolding rowsBytes
+    rows-left p = rw (deep, e) at (written-whole p)
 
-      long : (k j : ℕ) → length (nodeAt (nodesIn n s) k j) ≡ 32
-      long = tree-long (nodesIn n s) (leaves-long n s (omega (arith, e, count-bounds (length s) .1)))
-
-      -- the root, and the path of a leaf, are read out of the rows
-      pub root-read : {r : List ℕ} {size : ℕ} → (n ≡ 0 → ⊥) → size ≡ 32 * nodesOf d
-          → r ≡ take 32 (drop (size - 32) nodes) → record { refusal = passed; depth = d; root = r } ≡ rootedOf s
-      unfolding nodeIn
-      root-read {size = size} some q p =
-          let i : size - 32 ≡ 32 * (nodesOf d - 1) = omega arith in
-          rooted-some some
-          (p
-          ∙ ap (λ (x : ℕ). take 32 (drop x nodes)) i
-          ∙ ap (λ (l : List ℕ). nodeIn l (nodesOf d - 1)) (written-whole rows)
-          ∙ root-laid (nodesIn n s) long _ d)
-
-      pub path-left : {place b : ℕ} {o out : List ℕ} → place < n → n ≤ 2 ^ d
-          → Puts o 0 (flat (pathIn nodes d place)) out b → out ≡ written 0 (pathBytes s place) o
-      unfolding pathBytes
-      path-left {place} there holds p =
-          let read : pathIn nodes d place ≡ pathOf (leavesIn s) (depthIn s) place =
-          ap (λ (l : List ℕ). pathIn l d place) (written-whole rows)
-          ∙ path-laid (nodesIn n s) long _ d place (omega arith)
-          ∙ rw (deep, e) in
-          written-whole (puts-as (ap flat read) p)
+    pub path-left : (place : ℕ) {b : ℕ} {o out : List ℕ} → Puts o 0 (flat (pathOf (nodesIn n s) d place)) out b
+        → out ≡ written 0 (pathBytes s place) o
+    unfolding pathBytes
+    path-left place p = rw (deep, e) at (written-whole p)
 
 -- ---- What a builder leaves that was lent the rows of count leaves, of which n are held.
 

@@ -2,6 +2,7 @@
 pub mod Leads
 pub mod Depth
 pub mod Leaves
+pub mod Halving
 pub mod Coming
 pub mod Laying
 pub mod Reading

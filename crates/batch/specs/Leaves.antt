@@ -9,7 +9,7 @@ use Rattle.batch.specs.AllRows.{nodesOf}
 
 -- the most leaves of a batch: all definitions have the size from here
 abbrev pub most : ℕ
-most = 64
+most = 1024
 
 -- how many leaves so many bytes are: 0 where they are not 1 to `most` whole leaves
 unfoldable pub countOf : ℕ → ℕ

@@ -8,20 +8,17 @@ ghost use Rattle.batch.specs.Answers.{laidNumber, LaysRows, rowsBytes};
 use super::Laid;
 use super::Placed;
 use super::Rooted;
-use super::level::lay;
+use super::local::find_path;
+use super::local::find_root;
+use super::local::lay_rows;
 use super::siblings::read_path;
-use super::size::MOST;
 use super::size::bytes;
 use super::size::count_of;
 use super::size::depth;
 use super::size::held_of;
-use octets::copy32;
 use refusal::PASSED;
 use refusal::codes;
 use refusal::refuse;
-
-// The bytes of all nodes of the largest tree.
-const ALL: usize = 32 * (2 * MOST - 1);
 
 // The root of a batch, and the depth of its tree.
 pub fn root(leaves: &[u8]) -> Rooted
@@ -36,9 +33,7 @@ pub fn root(leaves: &[u8]) -> Rooted
         };
     }
     let d = depth(count);
-    let mut nodes = [0u8; ALL];
-    lay(leaves, count, d, &mut nodes);
-    let root = copy32(&nodes, bytes(d) - 32);
+    let root = find_root(leaves, count, d);
     Rooted {
         refusal: PASSED,
         depth: d,
@@ -62,9 +57,7 @@ pub fn path(leaves: &[u8], place: usize, out: &mut [u8]) -> Placed
     if out.len() < 32 * (d as usize) {
         return Placed::Short;
     }
-    let mut nodes = [0u8; ALL];
-    lay(leaves, count, d, &mut nodes);
-    read_path(&nodes, d, place, out);
+    find_path(leaves, count, d, place, out);
     Placed::Written {
         indx: place as u32,
         depth: d,
@@ -84,7 +77,7 @@ pub fn rows(leaves: &[u8], out: &mut [u8]) -> Laid
     if out.len() < bytes(d) {
         return Laid::Short;
     }
-    lay(leaves, count, d, out);
+    lay_rows(leaves, count, d, out);
     Laid::Written { depth: d }
 }
 

@@ -2,6 +2,8 @@
 // tree at once, for a server that answers the whole batch. No public function has a `requires`.
 mod build;
 mod level;
+mod local;
+mod row;
 mod siblings;
 mod size;
 

@@ -4,27 +4,29 @@ ghost use Prim.Native.Nat.{_+_, _*_, _≤_, _<_};
 ghost use lib.ListN.{length};
 ghost use Rattle.laws.specs.Flat.{flat};
 ghost use Rattle.laws.specs.Written.{Puts};
-ghost use Rattle.tree.specs.Tree.{nodeIn, beside};
+ghost use Rattle.tree.specs.Tree.{beside};
 ghost use Rattle.batch.specs.AllRows.{pathIn};
 ghost use Rattle.batch.specs.Leaves.{most};
 ghost use Rattle.batch.specs.Level.{CanRead};
 use super::size::width;
+use octets::copy32;
 use octets::put;
 
 // The place of the other child of j's parent.
-fn other(j: usize) -> usize
+pub fn other(j: usize) -> usize
     requires { ⌜ j < most ⌝ }
     ensures { λ r. ⌜ r ≡ beside j ⌝ }
 {
     if j % 2 == 0 { j + 1 } else { j - 1 }
 }
 
-// Node k of rows, from index at of out on.
-fn put_node(rows: &[u8], k: usize, out: &mut [u8], at: usize)
-    requires { ⌜ (32 * k + 32 ≤ length (now rows)) × (at + 32 ≤ length (now out)) ⌝ }
-    ensures { λ _. ⌜ Puts (now (out .entry)) at (nodeIn (now (rows .entry)) k) (now (out .exit)) (at + 32) ⌝ }
+// A node, from index at of out on. It comes by value: what is lent could be a part of out for all that the compiler
+// knows, and would be copied byte by byte.
+pub fn put_node(node: [u8; 32], out: &mut [u8], at: usize)
+    requires { ⌜ at + 32 ≤ length (now out) ⌝ }
+    ensures { λ _. ⌜ Puts (now (out .entry)) at node (now (out .exit)) (at + 32) ⌝ }
 {
-    put(out, at, &rows[32 * k..32 * k + 32]);
+    put(out, at, &node);
 }
 
 // The siblings of the leaf at place, leaf end first, at the front of out. A level has n nodes, from number first on.
@@ -40,7 +42,7 @@ pub fn read_path(rows: &[u8], d: u32, place: usize, out: &mut [u8])
     let mut j = place;
     let mut at: usize = 0;
     while 0 < left {
-        put_node(rows, first + other(j), out, at);
+        put_node(copy32(rows, 32 * (first + other(j))), out, at);
         first += n;
         n = n / 2;
         j = j / 2;

@@ -7,7 +7,7 @@ ghost use Rattle.batch.specs.Leaves.{most, countOf, heldOf};
 use tree::bit_length;
 
 // The most leaves of a batch: a power of two. The definitions' `most` goes with it.
-pub const MOST: usize = 64;
+pub const MOST: usize = 1024;
 
 // How many leaves size bytes are: 0 where they are not 1 to MOST whole leaves.
 pub fn count_of(size: usize) -> usize

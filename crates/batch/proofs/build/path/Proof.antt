@@ -7,12 +7,12 @@ use Rattle.batch.proofs.build.path.Tie as tie
 
 returns-3 : tie.Need-returns-3
 returns-3 c =
-    let fits = c .before .before .before .before .before .before .before .before in
-    let there = fits .before .before in (
-      place-written (there .before .count-of .ensures .0) (fits .before .depth .ensures .0) (there .if1 .left) refl
-          (fits .if2 .left),
-      search (path-left, needs),
-    )
+    let at-way = c .before .before in
+    let fits = at-way .before .before in
+    let there = fits .before .before in
+    let n = there .before .count-of .ensures .0 in
+    let d = fits .before .depth .ensures .0 in
+    (place-written n d (there .if1 .left) refl (fits .if2 .left), path-left _ n d _ (at-way .find-path .ensures))
 
 pub path-spec : {M : Type 1} → statement M
 path-spec =
@@ -24,9 +24,6 @@ path-spec =
     (λ c. search needs)
     (λ c. search needs)
     (λ c. search (place-short, needs))
-    (λ c. search needs)
-    (λ c κs. search needs)
-    (λ c. search needs)
     (λ c κs. search needs)
     (λ c. search needs)
     (λ c. search needs)

@@ -1,17 +1,14 @@
 -- `batch::build::root` meets its contract. Each way out has its law.
-use Rattle.batch.proofs.Answers.{rooted-none, root-read}
+use Rattle.batch.proofs.Answers.{rooted-none, rooted-some}
 use borrow.Author.Needs.{needs}
 use Rattle.batch.proofs.build.root.Statement.{statement}
 use Rattle.batch.proofs.build.root.Tie as tie
 
 returns-2 : tie.Need-returns-2
 returns-2 c =
-    let at-lay = c .before .before .before .before in
-    let at-depth = at-lay .before .before in
+    let at-depth = c .before in
     let n = at-depth .before .before .count-of .ensures .0 in
-    let d = at-depth .depth .ensures .0 in
-    let some = at-depth .before .if1 .left in
-    root-read _ n d (at-lay .lay .ensures) some (c .before .bytes .ensures) (c .copy32 .ensures)
+    rooted-some _ n (at-depth .depth .ensures .0) (at-depth .before .if1 .left) (c .find-root .ensures)
 
 pub root-spec : {M : Type 1} → statement M
 root-spec =
@@ -21,10 +18,5 @@ root-spec =
     (λ c κs. search needs)
     (λ c. search (rooted-none, needs))
     (λ c κs. search needs)
-    (λ c. search needs)
-    (λ c κs. search needs)
-    (λ c. search needs)
-    (λ c κs. search needs)
-    (λ c. search needs)
     (λ c κs. search needs)
     returns-2)

@@ -1,37 +1,45 @@
--- `batch::siblings::read_path` meets its contract. The loop's state is a `Reading`.
+-- `batch::siblings::read_path` meets its contract. The loop keeps a `Reading`, and where its level starts.
+use mathlib.Core.Path.{_≡_, _∙_}
+use Prim.Native.Nat.{_+_, _*_, _^_}
 use native.Mathlib.Omega.{arith}
-use Rattle.laws.proofs.Written.{puts-length}
-use Rattle.batch.proofs.Reading.{Reading, reading-first, reading-beside, reading-next, reading-done}
+use Rattle.tree.specs.Tree.{nodeIn}
+use Rattle.batch.specs.AllRows.{laidAt}
+use Rattle.batch.proofs.Reading.{Reading, reading-first, reading-next, reading-done}
+use Rattle.batch.proofs.Reading.{rows-next, rows-beside, rows-node}
 use borrow.Author.Needs.{needs}
 use Rattle.batch.proofs.siblings.read_path.Statement.{statement}
 use Rattle.batch.proofs.siblings.read_path.Tie as tie
 
 abbrev Inv-loop : tie.InvT-loop
 Inv-loop rows d place out₀ first₀ n₀ left₀ j₀ at₀ out first n left j at =
-    Reading rows d place out₀ first n left j at out
+    (first + 2 * n ≡ 2 * 2 ^ d) × Reading (laidAt rows d) d place out₀ n left j at out
 
 abbrev μ-loop : tie.MeasureT-loop
 μ-loop rows d place out₀ first₀ n₀ left₀ j₀ at₀ out first n left j at = left
 
-put-node-requires : tie.Need-put-node-requires Inv-loop μ-loop
-put-node-requires c κs =
-    let at-other = c .before in
-    let l = at-other .before .before .loop in
-    let s = at-other .before .before .before .before .before .before in
-    let live = at-other .before .loop-test .taken in (
-      reading-beside (l .inv) live (at-other .other .ensures) (s .pre .held),
-      omega (arith, puts-length (l .inv .puts), s .pre .enough),
-    )
+loop-holds : tie.Need-loop-holds Inv-loop μ-loop
+loop-holds c = (omega arith, search (reading-first, needs))
+
+copy32-requires : tie.Need-copy32-requires Inv-loop μ-loop
+copy32-requires c κs =
+    let at-loop = c .before .before in
+    let l = at-loop .loop in
+    let s = at-loop .before .before .before .before in
+    rows-beside _ _ (l .inv .1) (l .inv .0) (c .before .loop-test .taken) (c .other .ensures) (s .pre .held)
 
 loop-again : tie.Need-loop-again Inv-loop μ-loop
+unfolding nodeIn
 loop-again c =
-    let at-other = c .before .before .before .before in
+    let at-put = c .before .before in
+    let at-copy = at-put .before .before in
+    let at-other = at-copy .before in
     let l = at-other .before .before .loop in
     let live = at-other .before .loop-test .taken in
-    reading-next (l .inv) live (at-other .other .ensures) (c .before .before .put-node .ensures)
+    let is = at-copy .copy32 .ensures ∙ rows-node _ _ (l .inv .1) (l .inv .0) live (at-other .other .ensures) in
+    (rows-next _ _ (l .inv .1) (l .inv .0) live, reading-next (l .inv .1) live is (at-put .put-node .ensures))
 
 returns : tie.Need-returns Inv-loop μ-loop
-returns c = reading-done (c .before .loop .inv) (omega arith)
+returns c = reading-done (c .before .loop .inv .1) (omega arith)
 
 pub read-path-spec : {M : Type 1} → statement M
 read-path-spec =
@@ -40,14 +48,16 @@ read-path-spec =
     Inv-loop
     μ-loop
     (λ c κs. search needs)
-    (λ c. search (reading-first, needs))
+    loop-holds
     (λ c κs. search needs)
     (λ c. search needs)
-    put-node-requires
+    (λ c. search needs)
+    copy32-requires
+    (λ c κs. search needs)
     (λ c. search needs)
     (λ c. search needs)
     (λ c. search needs)
     (λ c. search needs)
     loop-again
-    (λ c. puts-length (c .before .loop .inv .puts))
+    (λ c. search needs)
     returns)

@@ -1,4 +1,4 @@
--- `batch::level::put_row` meets its contract. The loop keeps: the first `i` nodes are put.
+-- `batch::row::put_row` meets its contract. The loop keeps: the first `i` nodes are put.
 use mathlib.Core.Path.{_≡_}
 use Prim.Native.Nat.{_+_, _*_, _≤_, _-_}
 use native.Mathlib.Nat.{add-zero}
@@ -10,29 +10,30 @@ use Rattle.laws.proofs.Written.{puts-none, puts-length}
 use Rattle.batch.specs.Level.{bytesOf}
 use Rattle.batch.proofs.Laying.{row-next}
 use borrow.Author.Needs.{needs}
-use Rattle.batch.proofs.level.put_row.Statement.{statement}
-use Rattle.batch.proofs.level.put_row.Tie as tie
+use Rattle.batch.proofs.row.put_row.Statement.{statement}
+use Rattle.batch.proofs.row.put_row.Tie as tie
 
 abbrev Inv-loop : tie.InvT-loop
-Inv-loop n out₀ at row i₀ out i = (i ≤ n) × Puts out₀ at (bytesOf row i) out (at + 32 * i)
+Inv-loop row n out₀ at i₀ out i = (i ≤ n) × Puts out₀ at (bytesOf row i) out (at + 32 * i)
 
 abbrev μ-loop : tie.MeasureT-loop
-μ-loop n out₀ at row i₀ out i = n - i
+μ-loop row n out₀ at i₀ out i = n - i
 
 loop-holds : tie.Need-loop-holds Inv-loop μ-loop
 unfolding upto flat
 loop-holds c = (omega arith, rw add-zero (puts-none _ _ (omega arith)))
 
-put-requires : tie.Need-put-requires Inv-loop μ-loop
-put-requires c κs =
-    let size = puts-length (c .before .before .before .before .loop .inv .1) in
+put-node-requires : tie.Need-put-node-requires Inv-loop μ-loop
+put-node-requires c κs =
+    let size = puts-length (c .before .before .before .loop .inv .1) in
     search needs
 
 loop-again : tie.Need-loop-again Inv-loop μ-loop
 loop-again c =
-    let l = c .before .before .before .before .before .before .before .loop in
-    let row = c .before .before .before .before .before .before .before .before .before .args .t1 in
-    (omega arith, row-next row (l .i) (l .inv .1) (search needs) (omega arith) (c .before .before .put .ensures))
+    let at-put = c .before .before in
+    let at-loop = at-put .before .before .before .before in
+    let l = at-loop .loop in
+    (omega arith, row-next (at-loop .before .before .args .row .now) (l .i) (l .inv .1) (at-put .put-node .ensures))
 
 returns : tie.Need-returns Inv-loop μ-loop
 returns c =
@@ -51,7 +52,7 @@ put-row-spec =
     (λ c. search needs)
     (λ c. search needs)
     (λ c. search needs)
-    put-requires
+    put-node-requires
     (λ c. search needs)
     (λ c. search needs)
     loop-again
