@@ -36,7 +36,7 @@ extern "C" {
 
 /* The version of this header: a change of the first number breaks callers. */
 #define TB_VERSION_MAJOR 0
-#define TB_VERSION_MINOR 4
+#define TB_VERSION_MINOR 5
 
 /* ---- Codes ---- */
 
@@ -84,7 +84,7 @@ enum tb_code {
     TB_NO_CONTRADICTION = 18,
     /* the buffer is too short */
     TB_ROOM = 19,
-    /* the leaves are not 1 to 64 whole ones, or the place is past the last */
+    /* the leaves are not 1 to 1,024 whole ones, or the place is past the last */
     TB_LEAVES = 20,
     /* a list of servers is not whole records */
     TB_LISTS = 21,
@@ -139,7 +139,7 @@ static inline const char *tb_code_text(uint32_t code) {
     case TB_ROOM:
         return "the buffer is too short";
     case TB_LEAVES:
-        return "the leaves are not 1 to 64 whole ones, or the place is past the last";
+        return "the leaves are not 1 to 1,024 whole ones, or the place is past the last";
     case TB_LISTS:
         return "a list of servers is not whole records";
     case TB_UNKNOWN_SERVER:
@@ -164,8 +164,13 @@ static inline const char *tb_code_text(uint32_t code) {
 #define TB_REQUEST_LENGTH 1036
 
 /* The most leaves of a tree, and bytes of the rows of the largest one. */
-#define TB_MOST_LEAVES 64
+#define TB_MOST_LEAVES 1024
 #define TB_MOST_ROWS_LENGTH (32 * (2 * TB_MOST_LEAVES - 1))
+
+/* Bytes of stack that are enough for every tree operation. tb_root, tb_path and tb_rows keep a row
+ * of TB_MOST_LEAVES nodes there, whatever the number of leaves: 34,576 bytes at the most, measured
+ * on aarch64 (hosts/c/stack.c). tb_path_from takes next to nothing, and tb_leads 1,456. */
+#define TB_TREE_STACK 36864
 
 /* Bytes of a record of a list of servers. */
 #define TB_SERVER_LENGTH 64
@@ -348,7 +353,8 @@ struct tb_verdict tb_check_response(const uint8_t *request, size_t request_len,
  *
  * A tree has 1 to TB_MOST_LEAVES leaves of 32 bytes, one after the other, and 2^depth places for
  * them, as few as will do; each empty place holds H(0x00). The leaf at a place, counted from 0 at
- * the left, has depth siblings of 32 bytes, and its indx is its place. */
+ * the left, has depth siblings of 32 bytes, 10 at the most, and its indx is its place. A server
+ * that answers a whole batch builds it once, by tb_rows, and takes each path by tb_path_from. */
 
 /* Whether the siblings of a path lead from the leaf to the root, and indx needs no more bits than
  * there are siblings. Where a bit of indx is 0, the hash so far is the left child and the sibling

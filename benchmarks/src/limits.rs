@@ -15,6 +15,22 @@ pub struct Limits {
     pub piles: f64,
 }
 
+/// All rows of a tree against the hashing that it needs, by the number of its leaves.
+pub fn rows(leaves: usize) -> f64 {
+    match leaves {
+        900 | 1024 => 1.10,
+        8.. => 1.2,
+        _ => 1.7,
+    }
+}
+
+/// A path that is built for one leaf against all rows of its tree. It is the same hashing, so that
+/// what is above 1 is there for the clock.
+pub const PATH: f64 = 1.02;
+
+/// A path that is read out of the rows against one hash, of which it needs none.
+pub const PATH_FROM: f64 = 0.5;
+
 impl Limits {
     /// Those that the environment sets, or else the defaults.
     pub fn read() -> Self {

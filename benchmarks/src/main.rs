@@ -13,6 +13,7 @@ mod limits;
 mod piles;
 mod sides;
 mod timing;
+mod trees;
 
 use limits::Limits;
 use sides::{Side, Subject, SIDES};
@@ -23,6 +24,8 @@ struct Table {
     width: usize,
     unit: &'static str,
     sides: &'static [Side],
+    /// How many digits a time has behind its point.
+    digits: usize,
     /// From the bytes and the seconds of one call.
     show: fn(usize, f64) -> f64,
 }
@@ -31,6 +34,7 @@ const HASHES: Table = Table {
     width: 22,
     unit: "MB/s",
     sides: SIDES,
+    digits: 1,
     show: |length, seconds| length as f64 / seconds / 1e6,
 };
 
@@ -45,6 +49,15 @@ const PILES: Table = Table {
     width: 40,
     unit: "us",
     sides: &[Side::Ours, Side::Independent],
+    digits: 1,
+    show: |_, seconds| seconds * 1e6,
+};
+
+const TREES: Table = Table {
+    width: 26,
+    unit: "us",
+    sides: &[Side::Ours, Side::Hashing, Side::Rows, Side::Independent],
+    digits: 3,
     show: |_, seconds| seconds * 1e6,
 };
 
@@ -71,10 +84,9 @@ impl Table {
         let shown = |number: Option<f64>, digits: usize| {
             number.map_or("-".into(), |n| format!("{n:.digits$}"))
         };
-        let measures = self
-            .sides
-            .iter()
-            .map(|side| shown(time_of(*side).map(|time| (self.show)(subject.length, time)), 1));
+        let measures = self.sides.iter().map(|side| {
+            shown(time_of(*side).map(|time| (self.show)(subject.length, time)), self.digits)
+        });
         let ratios =
             self.sides[1..].iter().map(|side| shown(time_of(*side).map(|time| ours / time), 3));
         println!("{}", self.line(&subject.name, measures.chain(ratios)));
@@ -116,6 +128,22 @@ fn main() -> ExitCode {
     println!("{}", PILES.header());
     for plan in &piles::plans() {
         PILES.report(plan.subject(&limits), &mut above);
+    }
+    println!(
+        "trees by their leaves; the hashing is the parents that a tree needs, or one for path_from"
+    );
+    println!(
+        "limits: rows/hashing {} below 8, {} from 8 on, {} at 900 and 1,024; path/rows {} at \
+         1,024; path_from/hashing {}",
+        limits::rows(2),
+        limits::rows(8),
+        limits::rows(1024),
+        limits::PATH,
+        limits::PATH_FROM
+    );
+    println!("{}", TREES.header());
+    for subject in trees::subjects(&data) {
+        TREES.report(subject, &mut above);
     }
     for line in &above {
         println!("TOO SLOW: {line}");

@@ -7,6 +7,10 @@ use std::hint::black_box;
 pub enum Side {
     Ours,
     Independent,
+    /// Our own hashing alone, as much of it as a tree needs.
+    Hashing,
+    /// All rows of the same tree, by ours.
+    Rows,
     // Never made where there is no sha2 to time.
     #[cfg_attr(not(feature = "peer"), allow(dead_code))]
     Sha2,
@@ -19,6 +23,8 @@ impl Side {
         match self {
             Side::Ours => "ours",
             Side::Independent => "independent",
+            Side::Hashing => "hashing",
+            Side::Rows => "rows",
             Side::Sha2 => "sha2",
             Side::Whole => "whole",
         }
@@ -48,6 +54,6 @@ pub struct Subject<'a> {
     pub length: usize,
     /// The highest ratio of our time to another side's that passes, where there is one.
     pub limits: Vec<(Side, f64)>,
-    /// In the order of `SIDES`, of which a subject may lack the last.
+    /// Ours first. A subject may lack some of the others.
     pub works: Vec<(Side, Work<'a>)>,
 }

@@ -2,8 +2,8 @@
  *
  * It hashes "abc" and the empty message and compares the digests with NIST's, then holds each other
  * function to what the header says of it: a hash by the digest of its parts joined, a tree of three
- * leaves by its nodes, a reader and the check by a request of ours and by a response that draft 19
- * prints, a lookup by the place of the record, a pile by the times it was made of, a writer by what
+ * leaves by its nodes and the largest one by a path through it, a reader and the check by a request
+ * of ours and by a response that draft 19 prints, a lookup by the place of the record, a pile by the times it was made of, a writer by what
  * it leaves in a buffer, the words of a code by some of them. Whether all of that is right on every
  * input is for the tests of hosts/rust.
  */
@@ -353,6 +353,38 @@ static void expect_tree(void) {
     expect_paths(nodes);
 }
 
+/* The largest tree, and one leaf too many. */
+static void expect_largest_tree(void) {
+    static uint8_t leaves[32 * (TB_MOST_LEAVES + 1)], rows[TB_MOST_ROWS_LENGTH];
+    uint8_t path[320];
+    const uint8_t *last = leaves + 32 * (TB_MOST_LEAVES - 1);
+    const uint8_t *root = rows + TB_MOST_ROWS_LENGTH - 32;
+    for (size_t i = 0; i < sizeof leaves; i++) leaves[i] = (uint8_t)(i / 32 + 7 * i);
+    memset(rows, 0xee, sizeof rows);
+
+    struct tb_laid laid = tb_rows(leaves, sizeof leaves, rows, sizeof rows);
+    expect_number("code of rows of 1,025 leaves", laid.code, 20);
+    expect_all("the buffer of refused rows", rows, 0xee, sizeof rows);
+    expect_number("code of a root of 1,025 leaves", tb_root(leaves, sizeof leaves).code, 20);
+    expect_placed("tb_path of 1,025 leaves", tb_path(leaves, sizeof leaves, 0, path, sizeof path),
+                  20, 0, 0);
+
+    laid = tb_rows(leaves, sizeof leaves - 32, rows, sizeof rows);
+    expect_number("code of rows of 1,024 leaves", laid.code, 0);
+    expect_number("depth of rows of 1,024 leaves", laid.depth, 10);
+    expect_bytes("the leaves in the rows", rows, leaves, sizeof leaves - 32);
+    expect_bytes("a root of 1,024 leaves", tb_root(leaves, sizeof leaves - 32).root, root, 32);
+    expect_placed("tb_path of the last of 1,024 leaves",
+                  tb_path(leaves, sizeof leaves - 32, 1023, path, sizeof path), 0, 1023, 10);
+    expect_number("tb_leads from the last of 1,024 leaves",
+                  tb_leads(last, 1023, path, sizeof path, root), 1);
+    memset(path, 0xee, sizeof path);
+    expect_placed("tb_path_from of the last of 1,024 leaves",
+                  tb_path_from(rows, sizeof rows, 1024, 1023, path, sizeof path), 0, 1023, 10);
+    expect_number("tb_leads from the last leaf in the rows",
+                  tb_leads(last, 1023, path, sizeof path, root), 1);
+}
+
 static void expect_verdict(const char *what, struct tb_verdict is, struct tb_verdict should) {
     expect_number(what, is.code, should.code);
     expect_number(what, is.radi, should.radi);
@@ -623,6 +655,7 @@ int main(void) {
     expect_response(packet);
     expect_parts(packet);
     expect_tree();
+    expect_largest_tree();
     expect_checks(packet);
     expect_lookups();
     expect_piles();

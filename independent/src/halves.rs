@@ -109,7 +109,8 @@ mod tests {
     #[test]
     fn halves_and_rows_make_the_same_tree() {
         for count in 1..=MOST_LEAVES {
-            let leaves: Vec<Hash> = (0..count).map(|i| [i as u8; 32]).collect();
+            let leaf = |i: u16| Hash::try_from(i.to_le_bytes().repeat(16)).unwrap();
+            let leaves: Vec<Hash> = (0..count as u16).map(leaf).collect();
             let (Node { value, seats }, tree) =
                 (root(&leaves), Tree::build(&leaves.concat()).unwrap());
             assert_eq!((value, seats.len()), (tree.root(), count));

@@ -47,7 +47,7 @@ pub enum Refusal {
     NoContradiction = 18,
     /// The buffer to be written into is too short.
     BufferTooShort = 19,
-    /// The leaves are not 1 to 64 whole ones, or a place is past the last.
+    /// The leaves are not 1 to 1,024 whole ones, or a place is past the last.
     Leaves = 20,
     /// A list of servers is not whole records.
     List = 21,

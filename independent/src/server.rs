@@ -115,8 +115,13 @@ mod tests {
         }
     }
 
+    /// Each request has a nonce of its own.
+    fn nonce_of(i: u32) -> Hash {
+        i.to_le_bytes().repeat(8).try_into().unwrap()
+    }
+
     fn requests(count: usize) -> Vec<Vec<u8>> {
-        (0..count).map(|i| write::request(&[1; 32], &[i as u8; 32])).collect()
+        (0..count as u32).map(|i| write::request(&[1; 32], &nonce_of(i))).collect()
     }
 
     #[test]
@@ -142,16 +147,16 @@ mod tests {
         for (packet, (indx, path)) in server().answer(&requests).unwrap().iter().zip(due) {
             let response = response::read(packet).unwrap();
             assert_eq!((response.outer.indx, response.outer.path), (indx, path));
-            assert_eq!(response.outer.nonc, [indx as u8; 32]);
+            assert_eq!(response.outer.nonc, nonce_of(indx));
             assert_eq!(response.srep.root, parent(&left, &right));
         }
     }
 
     /// One signature serves them all, since SREP is the same.
     #[test]
-    fn every_response_of_every_batch_is_valid() {
+    fn every_response_of_a_batch_is_valid() {
         let window = Window { midp: 1000, radi: 7, low: 993, high: 1007 };
-        for count in 1..=MOST_LEAVES {
+        for count in (1..=65).chain([511, 512, 513, 900, MOST_LEAVES - 1, MOST_LEAVES]) {
             let requests = requests(count);
             let packets = server().answer(&requests).unwrap();
             assert_eq!(packets.len(), count);
@@ -165,9 +170,9 @@ mod tests {
     }
 
     #[test]
-    fn a_batch_has_1_to_64_good_requests() {
+    fn a_batch_has_1_to_1024_good_requests() {
         assert_eq!(server().answer(&requests(0)), Err(Refusal::Leaves));
-        assert_eq!(server().answer(&requests(65)), Err(Refusal::Leaves));
+        assert_eq!(server().answer(&requests(1025)), Err(Refusal::Leaves));
         let mut requests = requests(3);
         requests[1][0] ^= 1;
         assert_eq!(server().answer(&requests), Err(Refusal::Request));

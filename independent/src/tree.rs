@@ -10,7 +10,7 @@ use crate::refusal::Refusal;
 use crate::value;
 
 /// The most leaves that we build a tree of. The draft sets no limit; this is a house rule.
-pub const MOST_LEAVES: usize = 64;
+pub const MOST_LEAVES: usize = 1024;
 
 /// Whether `path` leads from `leaf` to `root`.
 ///
@@ -130,8 +130,9 @@ mod tests {
     const B: Hash = [2; 32];
     const C: Hash = [3; 32];
 
+    /// Leaves of which no two are equal.
     fn leaves(count: usize) -> Vec<u8> {
-        (0..count).flat_map(|i| [i as u8; 32]).collect()
+        (0..count as u16).flat_map(|i| i.to_le_bytes().repeat(16)).collect()
     }
 
     #[test]
@@ -197,7 +198,7 @@ mod tests {
 
     #[test]
     fn every_path_leads_to_the_root() {
-        for count in 1..=MOST_LEAVES {
+        for count in (1..=65).chain([511, 512, 513, 900, MOST_LEAVES - 1, MOST_LEAVES]) {
             let leaves = leaves(count);
             let tree = Tree::build(&leaves).unwrap();
             assert!(1 << tree.depth() >= count && 1 << tree.depth() < 2 * count, "{count} leaves");
@@ -214,12 +215,12 @@ mod tests {
     }
 
     #[test]
-    fn leaves_are_1_to_64_and_whole() {
-        for length in 0..=66 * 32 {
+    fn leaves_are_1_to_1024_and_whole() {
+        for length in 0..=1030 * 32 {
             let built = Tree::build(&vec![7; length]);
             assert_eq!(
                 built.is_ok(),
-                length % 32 == 0 && (1..=64).contains(&(length / 32)),
+                length % 32 == 0 && (1..=1024).contains(&(length / 32)),
                 "{length} bytes"
             );
         }
@@ -236,8 +237,8 @@ mod tests {
             assert_eq!(Tree::read(&[&bytes[..], &[9; 40]].concat(), count), Ok(tree));
             assert_eq!(Tree::read(&bytes[1..], count), Err(Refusal::Leaves));
         }
-        for count in [0, 65, usize::MAX] {
-            assert_eq!(Tree::read(&[0; 300 * 32], count), Err(Refusal::Leaves));
+        for count in [0, 1025, usize::MAX] {
+            assert_eq!(Tree::read(&[0; 5000 * 32], count), Err(Refusal::Leaves));
         }
     }
 }

@@ -12,31 +12,33 @@ use Rattle.tree.proofs.Width.{bits-of, bits-over, below-pow}
 use Rattle.tree.specs.Tree.{depthOf}
 use Rattle.batch.specs.Leaves.{most}
 
-pub depth-of : (n d : ℕ) → 0 < n → Bits (n - 1) d → d ≡ depthOf n
-unfolding depthOf
-depth-of n d p b =
-    let fits : n ≤ 2 ^ d = omega (arith, b .holds) in
-    let below : d < n = omega (arith, b .least (n - 1) (below-pow (n - 1))) in
-    least-found (λ e. leb n (2 ^ e)) d n
-    (least-all (λ e. leb n (2 ^ e)) d (λ e h. lt-leb n (2 ^ e) (omega (arith, bits-over e b h))))
-    (le-leb n (2 ^ d) fits) below
+full : 2 ^ depthOf most ≡ most
+unfolding depthOf least
+full = refl
+
+-- the last place of n, which code has as x, needs d bits
+module _ {n x d : ℕ} (b : Bits x d) (last : x ≡ n - 1) where
+  pub depth-of : 0 < n → d ≡ depthOf n
+  unfolding depthOf
+  depth-of p =
+      let fits : n ≤ 2 ^ d = omega (arith, b .holds) in
+      let below : d < n = omega (arith, b .least x (below-pow x)) in
+      least-found (λ e. leb n (2 ^ e)) d n
+      (least-all (λ e. leb n (2 ^ e)) d (λ e h. lt-leb n (2 ^ e) (omega (arith, bits-over e b h))))
+      (le-leb n (2 ^ d) fits) below
+
+  -- where n are not too many, their tree is not too large. That `most` is a power of two is used only here.
+  pub deep-most : n ≤ most → 2 ^ d ≤ most
+  deep-most h = omega (arith, full, pow-mono (b .least (depthOf most) (omega (arith, full))))
 
 -- a tree has place for its leaves
 pub depth-holds : (n : ℕ) → 0 < n → n ≤ most → n ≤ 2 ^ depthOf n
 depth-holds n p h =
     let b = bits-of (n - 1) (omega arith) in
-    subst (λ (d : ℕ). n ≤ 2 ^ d) (depth-of n _ p b) (omega (arith, b .holds))
-
--- and where they are not too many it is not too large. That `most` is a power of two is used only here.
-full : 2 ^ depthOf most ≡ most
-unfolding depthOf least
-full = refl
-
-pub deep-most : (n d : ℕ) → n ≤ most → Bits (n - 1) d → 2 ^ d ≤ most
-deep-most n d h b = omega (arith, full, pow-mono (b .least (depthOf most) (omega (arith, full))))
+    subst (λ (d : ℕ). n ≤ 2 ^ d) (depth-of b refl p) (omega (arith, b .holds))
 
 -- a path of it is not too long to be checked
 pub depth-short : (n : ℕ) → 0 < n → n ≤ most → depthOf n ≤ 32
 depth-short n p h =
     let b = bits-of (n - 1) (omega arith) in
-    subst (λ (d : ℕ). d ≤ 32) (depth-of n _ p b) (b .least 32 (omega arith))
+    subst (λ (d : ℕ). d ≤ 32) (depth-of b refl p) (b .least 32 (omega arith))

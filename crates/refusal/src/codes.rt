@@ -58,7 +58,7 @@ pub const NO_CONTRADICTION: u8 = 18;
 // the buffer is too short
 pub const ROOM: u8 = 19;
 
-// the leaves are not 1 to 64 whole ones, or the place is past the last
+// the leaves are not 1 to 1,024 whole ones, or the place is past the last
 pub const LEAVES: u8 = 20;
 
 // a list of servers is not whole records

@@ -50,7 +50,7 @@ pub enum Refusal {
     NoContradiction,
     /// the buffer is too short
     Room,
-    /// the leaves are not 1 to 64 whole ones, or the place is past the last
+    /// the leaves are not 1 to 1,024 whole ones, or the place is past the last
     Leaves,
     /// a list of servers is not whole records
     Lists,
@@ -124,7 +124,7 @@ impl Refusal {
             }
             Refusal::Room => "the buffer is too short",
             Refusal::Leaves => {
-                "the leaves are not 1 to 64 whole ones, or the place is past the last"
+                "the leaves are not 1 to 1,024 whole ones, or the place is past the last"
             }
             Refusal::Lists => "a list of servers is not whole records",
             Refusal::UnknownServer => "no list has the server",

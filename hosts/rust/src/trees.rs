@@ -3,12 +3,12 @@
 //!
 //! Leaves, siblings and rows are bytes here, one hash of 32 bytes after the other.
 
-// A depth is at most 6, so nothing is lost where it becomes a usize.
+// A depth is at most 10, so nothing is lost where it becomes a usize.
 
 use crate::{raw, Hash, Refusal};
 
 /// The most leaves that a tree is built of.
-pub const MOST_LEAVES: usize = 64;
+pub const MOST_LEAVES: usize = 1024;
 
 /// Bytes of the rows of the largest tree. A tree of depth d has 2^(d+1) - 1 nodes.
 pub const MOST_ROWS_LENGTH: usize = 32 * (2 * MOST_LEAVES - 1);

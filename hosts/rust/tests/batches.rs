@@ -23,14 +23,17 @@ const CHANGED: &str = "sibling changed";
 const SWAPPED: &str = "siblings swapped";
 const DRAFT_13: &str = "draft 13's ROOT";
 
-/// How many leaves the batches of 1 to 64 have together.
-const LEAVES: usize = MOST_LEAVES * (MOST_LEAVES + 1) / 2;
+/// How many requests the batches have: 1 to 64, and then numbers around the next powers of two, up
+/// to the most, and what a class on a Saturday brings.
+fn sizes() -> impl Iterator<Item = usize> {
+    (1..=65).chain([511, 512, 513, 900, MOST_LEAVES - 1, MOST_LEAVES])
+}
 
-/// A number that goes by the depth of a tree, summed over those leaves. The depth of `count` leaves
-/// is the least d with 2^d places for them.
+/// A number that goes by the depth of a tree, summed over all leaves of these batches. The depth of
+/// `count` leaves is the least d with 2^d places for them.
 fn over_all(by_depth: fn(usize) -> usize) -> usize {
     let depth = |count: usize| count.next_power_of_two().trailing_zeros() as usize;
-    (1..=MOST_LEAVES).map(|count| count * by_depth(depth(count))).sum()
+    sizes().map(|count| count * by_depth(depth(count))).sum()
 }
 
 /// A request, and what the server sends for it.
@@ -114,7 +117,7 @@ impl Comparison {
         let (midp, radi, wide) = (server.midp, server.radi, u64::from(server.radi));
         let (low, high) = (midp.saturating_sub(wide), midp.saturating_add(wide));
         let window = Window { midp, radi, low, high };
-        let pieces = server.pieces(requests).expect("these are 1 to 64 good requests");
+        let pieces = server.pieces(requests).expect("these are 1 to 1,024 good requests");
         let pairs = requests.iter().zip(pieces);
         pairs.map(|(request, pieces)| Sent::new(request, pieces, window)).collect()
     }
@@ -161,7 +164,7 @@ impl Comparison {
 /// each bit of INDX and each place in PATH counts, and draft 13's order leads elsewhere wherever
 /// there is a sibling.
 fn different_requests(seen: &mut Comparison) {
-    for count in 1..=MOST_LEAVES {
+    for count in sizes() {
         let requests: Vec<Vec<u8>> = (0..count).map(|_| seen.request()).collect();
         let batch = seen.sent(&requests);
         seen.build(&batch);
@@ -200,10 +203,10 @@ fn other_siblings(seen: &mut Comparison, sent: &Sent) {
 
 /// One request over and over. Both orders are the same at a step where the two children are equal.
 /// That is so at every step, and then draft 13's ROOT is the right one, where the batch fills all
-/// places: where it has 1, 2, 4, 8, 16, 32 or 64 requests. With any other number an empty place is
-/// below the right child of the root and none below the left one, so that they differ.
+/// places: where the number of its requests is a power of two. With any other number an empty place
+/// is below the right child of the root and none below the left one, so that they differ.
 fn equal_requests(seen: &mut Comparison) {
-    for count in 1..=MOST_LEAVES {
+    for count in sizes() {
         let request = seen.request();
         let batch = seen.sent(&vec![request; count]);
         seen.build(&batch);
@@ -222,8 +225,8 @@ fn responses_of_a_draft_19_server_are_taken() {
     let tally = Tally::new(&[SENT, TURNED, LONG, CHANGED, SWAPPED, DRAFT_13]);
     let mut seen = Comparison { tally, random: Xorshift::new(0x5eed_0b01), built: 0 };
     let groups: [Group; 2] = [
-        ("batches of 1 to 64 different requests, every leaf", different_requests),
-        ("batches of 1 to 64 equal requests, every leaf", equal_requests),
+        ("batches of 1 to 1,024 different requests, every leaf", different_requests),
+        ("batches of 1 to 1,024 equal requests, every leaf", equal_requests),
     ];
     for (name, group) in groups {
         let before = seen.tally.answers();
@@ -237,15 +240,17 @@ fn responses_of_a_draft_19_server_are_taken() {
     println!("{}", seen.tally.table("code"));
     println!("{} leaves: the library builds the root, INDX and PATH that were sent", seen.built);
     seen.tally.no_difference();
-    assert_eq!(seen.built, 2 * LEAVES);
-    seen.tally.at_least(2 * LEAVES, SENT, [0]);
+    let leaves: usize = sizes().sum();
+    assert_eq!(seen.built, 2 * leaves);
+    seen.tally.at_least(2 * leaves, SENT, [0]);
     seen.tally.at_least(over_all(|depth| depth), TURNED, [10]);
     seen.tally.at_least(over_all(|depth| depth), CHANGED, [10]);
-    seen.tally.at_least(LEAVES, LONG, [10]);
+    seen.tally.at_least(leaves, LONG, [10]);
     // No two siblings of a path are equal, since they are roots of trees of different depths.
     seen.tally.at_least(over_all(|depth| depth * depth.saturating_sub(1) / 2), SWAPPED, [10]);
-    // Of the different requests only the one that is alone has no sibling. Of the equal ones 127
+    // Of the different requests only the one that is alone has no sibling. Of the equal ones these
     // are in batches that fill all places.
-    seen.tally.at_least(LEAVES - 1 + LEAVES - 127, DRAFT_13, [10]);
-    seen.tally.at_least(1 + 127, DRAFT_13, [0]);
+    let full: usize = sizes().filter(|count| count.is_power_of_two()).sum();
+    seen.tally.at_least(leaves - 1 + leaves - full, DRAFT_13, [10]);
+    seen.tally.at_least(1 + full, DRAFT_13, [0]);
 }

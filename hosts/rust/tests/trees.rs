@@ -17,6 +17,15 @@ const PATHS: &str = "paths";
 const ROWS: &str = "rows";
 const PATHS_FROM: &str = "paths from rows";
 
+/// Numbers of leaves at which something ends or begins: the row that is built in, a level, and what
+/// a class on a Saturday brings.
+const CHOSEN: [usize; 12] = [1, 2, 3, 63, 64, 65, 511, 512, 513, 900, 1023, MOST_LEAVES];
+
+/// Some numbers of leaves: all of the small ones, and the chosen ones.
+fn some_counts() -> impl Iterator<Item = usize> {
+    (1..=66).chain(CHOSEN.into_iter().filter(|count| *count > 66))
+}
+
 /// The least d with 2^d places for `count` leaves, found by trying.
 fn depth(count: usize) -> usize {
     (0..).find(|d| 1 << d >= count).expect("some power is large enough")
@@ -123,9 +132,31 @@ impl Comparison {
     }
 }
 
-/// Every leaf of every tree. What is written must also lead to the root, by both checks.
+/// Trees of every number of leaves, and those just above that are refused: the root, all rows, and
+/// the paths of the first leaf, the last and another.
+fn every_count(seen: &mut Comparison) {
+    for count in 0..=MOST_LEAVES + 6 {
+        let due = if (1..=MOST_LEAVES).contains(&count) { 0 } else { 20 };
+        let leaves = seen.random.bytes(32 * count);
+        seen.root(&leaves, due);
+        let rows = seen.rows(&leaves, MOST_ROWS_LENGTH + count % 7, due);
+        let other = seen.random.below(count.max(1));
+        for place in [0, count.saturating_sub(1), other] {
+            let path = seen.path(&leaves, place, 320 + place % 3, due);
+            if due > 0 {
+                continue;
+            }
+            assert_eq!(path, seen.path_from(&rows, count, place, 320, due));
+            let root = rows[rows.len() - 32..].try_into().expect("the root has 32 bytes");
+            let leaf = leaves[32 * place..][..32].try_into().expect("a leaf has 32 bytes");
+            seen.walk(&Walk { leaf, indx: place as u32, path, root }, true);
+        }
+    }
+}
+
+/// Every leaf of some trees. What is written must also lead to the root, by both checks.
 fn every_leaf(seen: &mut Comparison) {
-    for count in 1..=MOST_LEAVES {
+    for count in some_counts() {
         let leaves = seen.random.bytes(32 * count);
         seen.root(&leaves, 0);
         let root = trawlbeacon::root(&leaves).expect("it was compared").root;
@@ -140,7 +171,10 @@ fn every_leaf(seen: &mut Comparison) {
             let walk = Walk { leaf, indx: place as u32, path, root };
             seen.walk(&walk, true);
             wrong_walks(seen, &walk);
-            seen.unseen(&leaves, count, place);
+            // It builds several trees, so that not every leaf of the large ones has its turn.
+            if count <= 66 || place % 64 == 0 {
+                seen.unseen(&leaves, count, place);
+            }
         }
     }
 }
@@ -216,12 +250,13 @@ fn wrong_lengths(seen: &mut Comparison, walk: &Walk) {
 /// Leaves that are none, too many, or not whole. A buffer that is too short as well changes
 /// nothing.
 fn wrong_leaves(seen: &mut Comparison) {
-    let counts = [0, 65, 66, 96, 127, 128, 129, 256, 1000].map(|count| 32 * count);
-    let ragged = (0..=65).flat_map(|count| [1, 4, 16, 31].map(|more| 32 * count + more));
+    let counts = [0, 1025, 1026, 1500, 2047, 2048, 2049, 4096, 16_384].map(|count| 32 * count);
+    let ragged =
+        (0..=65).chain(1020..=1025).flat_map(|count| [1, 4, 16, 31].map(|more| 32 * count + more));
     for length in counts.into_iter().chain(ragged) {
         let leaves = seen.random.bytes(length);
         seen.root(&leaves, 20);
-        for room in [0, 31, MOST_ROWS_LENGTH, 65_536] {
+        for room in [0, 31, MOST_ROWS_LENGTH, 131_072] {
             seen.rows(&leaves, room, 20);
             seen.path(&leaves, 0, room, 20);
         }
@@ -233,11 +268,11 @@ fn wrong_leaves(seen: &mut Comparison) {
 /// small again in 32 bits.
 fn past(count: usize) -> [usize; 9] {
     let (width, high) = (1 << depth(count), 1 << 32);
-    [count, count + 1, width, 2 * width, 64, 65, high, usize::MAX, usize::MAX - 31]
+    [count, count + 1, width, 2 * width, MOST_LEAVES, 1025, high, usize::MAX, usize::MAX - 31]
 }
 
 fn wrong_places(seen: &mut Comparison) {
-    for count in 1..=MOST_LEAVES {
+    for count in some_counts() {
         let leaves = seen.random.bytes(32 * count);
         let rows = seen.rows(&leaves, MOST_ROWS_LENGTH, 0);
         for place in past(count).into_iter().filter(|place| *place >= count) {
@@ -253,7 +288,7 @@ fn wrong_places(seen: &mut Comparison) {
 
 /// Buffers around the length that is needed.
 fn buffers(seen: &mut Comparison) {
-    for count in 1..=MOST_LEAVES {
+    for count in some_counts() {
         let leaves = seen.random.bytes(32 * count);
         let needed = rows_length(count);
         for room in [0, 1, 32, needed - 32, needed - 1] {
@@ -274,7 +309,7 @@ fn buffers(seen: &mut Comparison) {
 /// Rows that are too short, too long, of another tree, or no rows at all. What is no tree is still
 /// read as it stands.
 fn other_rows(seen: &mut Comparison) {
-    for count in 1..=MOST_LEAVES {
+    for count in some_counts() {
         let leaves = seen.random.bytes(32 * count);
         let rows = seen.rows(&leaves, rows_length(count), 0);
         let (room, place) = (32 * depth(count), seen.random.below(count));
@@ -283,7 +318,7 @@ fn other_rows(seen: &mut Comparison) {
             seen.path_from(&rows[cut..], count, place, 0, 20);
         }
         let more = seen.random.bytes(100);
-        let longer = [&rows[..], &more[..1 + place]].concat();
+        let longer = [&rows[..], &more[..1 + place % 100]].concat();
         let path = seen.path_from(&longer, count, place, room, 0);
         assert_eq!(
             path,
@@ -292,7 +327,7 @@ fn other_rows(seen: &mut Comparison) {
         );
         let any = seen.random.bytes(MOST_ROWS_LENGTH);
         seen.path_from(&any, count, place, room, 0);
-        for wrong in [0, 65, 128, 1 << 32 | count, usize::MAX, usize::MAX - 63] {
+        for wrong in [0, 1025, 2048, 1 << 32 | count, usize::MAX, usize::MAX - 1023] {
             seen.path_from(&any, wrong, place, 4096, 20);
             seen.unseen(&any, wrong, place);
         }
@@ -315,10 +350,10 @@ fn damaged_rows(seen: &mut Comparison, count: usize, rows: &[u8]) {
 
 /// The rows of one count asked for the paths of another, of the same depth or not.
 fn other_counts(seen: &mut Comparison) {
-    for count in 1..=MOST_LEAVES {
+    for count in some_counts() {
         let leaves = seen.random.bytes(32 * count);
         let rows = seen.rows(&leaves, rows_length(count), 0);
-        for other in 1..=MOST_LEAVES {
+        for other in some_counts() {
             let place = seen.random.below(other);
             let due = if rows_length(other) <= rows.len() { 0 } else { 20 };
             seen.path_from(&rows, other, place, 32 * depth(other), due);
@@ -329,15 +364,15 @@ fn other_counts(seen: &mut Comparison) {
 /// Leaves and buffers may start anywhere.
 fn unaligned(seen: &mut Comparison) {
     for start in 1..16 {
-        let count = 4 * start + 1;
+        let count = 60 * start + 1;
         let bytes = seen.random.bytes(start + 32 * count);
         let (leaves, place) = (&bytes[start..], count - start);
         seen.root(leaves, 0);
         let rows = seen.rows(leaves, MOST_ROWS_LENGTH, 0);
         let shifted = [&bytes[..start], &rows[..]].concat();
-        seen.path_from(&shifted[start..], count, place, 300, 0);
-        let due = seen.path(leaves, place, 300, 0);
-        let mut out = vec![0xee; start + 300];
+        seen.path_from(&shifted[start..], count, place, 400, 0);
+        let due = seen.path(leaves, place, 400, 0);
+        let mut out = vec![0xee; start + 400];
         trawlbeacon::path(leaves, place, &mut out[start..]).expect("there is room");
         let (front, end) = (start, start + due.len());
         assert_eq!(out[front..end], due);
@@ -351,8 +386,9 @@ type Group = (&'static str, fn(&mut Comparison));
 fn both_sides_build_and_check_alike() {
     let tally = Tally::new(&[WALKS, ROOTS, PATHS, ROWS, PATHS_FROM]);
     let mut seen = Comparison { tally, random: Xorshift::new(0x5eed_0301) };
-    let groups: [Group; 8] = [
-        ("every leaf of every tree, and each path with one thing wrong", every_leaf),
+    let groups: [Group; 9] = [
+        ("trees of 0 to 1,030 leaves", every_count),
+        ("every leaf of some trees, and each path with one thing wrong", every_leaf),
         ("paths of 0 to 40 siblings, and each with one thing wrong", long_walks),
         ("leaves that are none, too many or not whole", wrong_leaves),
         ("places past the last", wrong_places),
@@ -372,10 +408,13 @@ fn both_sides_build_and_check_alike() {
     );
     println!("{}", seen.tally.table("code"));
     seen.tally.no_difference();
-    seen.tally.at_least(2_080, WALKS, [0, 10]);
-    seen.tally.at_least(64, ROOTS, [0, 20]);
-    seen.tally.at_least(2_080, PATHS, [0]);
-    seen.tally.at_least(2_080, PATHS_FROM, [0]);
+    // Each leaf of the chosen trees, and three of every other one.
+    let leaves = CHOSEN.iter().sum::<usize>() + 3 * MOST_LEAVES;
+    seen.tally.at_least(leaves, WALKS, [0, 10]);
+    seen.tally.at_least(MOST_LEAVES, ROOTS, [0]);
+    seen.tally.at_least(64, ROOTS, [20]);
+    seen.tally.at_least(leaves, PATHS, [0]);
+    seen.tally.at_least(leaves, PATHS_FROM, [0]);
     seen.tally.at_least(100, ROWS, [0, 19, 20]);
     seen.tally.at_least(100, PATHS, [19, 20]);
     seen.tally.at_least(100, PATHS_FROM, [19, 20]);

@@ -156,7 +156,7 @@ pub fn unseen_fields(bytes: &[u8], count: usize, place: usize) -> Option<String>
 /// Whether an answer of this code can have this number and depth.
 fn fits(code: u32, indx: u32, depth: u32) -> bool {
     match code {
-        0 => depth <= 6 && indx < 1 << depth,
+        0 => depth <= 10 && indx < 1 << depth,
         19 | 20 => (indx, depth) == (0, 0),
         _ => false,
     }

@@ -28,6 +28,12 @@ slice-copy-out-put-node c =
     let i = row-beside (l .inv .0) (l .inv .1) (c .before .loop-test .taken) (c .other .ensures) in
     omega (arith, i, l .inv .0 .room, l .inv .0 .size)
 
+halve-requires : tie.Need-halve-requires Inv-loop μ-loop
+halve-requires c κs =
+    let at-put = c .before .before .before in
+    let r = at-put .before .before .before .before .before .loop .inv .0 in
+    omega (arith, r .room, r .size)
+
 loop-again : tie.Need-loop-again Inv-loop μ-loop
 loop-again c =
     let at-put = c .before .before .before .before .before in
@@ -55,7 +61,7 @@ way-spec =
     (λ c. search needs)
     slice-copy-out-put-node
     (λ c κs. search needs)
-    (λ c κs. search needs)
+    halve-requires
     (λ c. search needs)
     (λ c. search needs)
     (λ c. search needs)

@@ -1,4 +1,5 @@
--- `batch::local::lay_rows` meets its contract.
+-- `batch::local::lay_rows` meets its contract, in either row.
+use Rattle.laws.proofs.Written.{puts-length}
 use borrow.Author.Needs.{needs}
 use Rattle.batch.proofs.local.lay_rows.Statement.{statement}
 use Rattle.batch.proofs.local.lay_rows.Tie as tie
@@ -10,9 +11,9 @@ lay-rows-spec =
     (λ c κs. search needs)
     (λ c. search needs)
     (λ c κs. search needs)
-    (λ c. search needs)
-    (λ c. search needs)
+    (λ c. puts-length (c .before .before .before .lay .ensures))
+    (λ c. c .before .before .before .lay .ensures)
     (λ c. search needs)
     (λ c κs. search needs)
-    (λ c. search needs)
-    (λ c. search needs))
+    (λ c. puts-length (c .before .before .before .lay2 .ensures))
+    (λ c. c .before .before .before .lay2 .ensures))

@@ -8,7 +8,8 @@ use Rattle.batch.proofs.size.depth.Tie as tie
 returns : tie.Need-returns
 returns c =
     let b = c .bit-length .ensures in
-    (depth-of _ _ (omega arith) b, deep-most _ _ (omega arith) b, omega (arith, b .holds))
+    let n = c .before .args .count in
+    (depth-of b (omega arith) (omega arith), deep-most {n = n} b (omega arith) (omega arith), omega (arith, b .holds))
 
 pub depth-spec : {M : Type 1} → statement M
 depth-spec =
