@@ -2,27 +2,25 @@
 use mathlib.Core.Path.{_≡_, sym, ap, _∙_}
 use mathlib.Core.Bool.{cond, false}
 use mathlib.Core.List.{List}
-use Prim.Native.Nat.{ℕ, _-_, _*_, _^_, _≤_, _<_}
+use Prim.Native.Nat.{ℕ, _*_, _≤_, _<_}
 use native.Mathlib.Omega.{arith}
 use lib.Dec.{eqb, ltb, leb}
-use lib.ListN.{length, take, drop, replicate}
+use lib.ListN.{length, replicate}
 use borrow.Author.Tests.{le-leb, lt-leb, lt-ltb, le-ltb, eq-eqb, ne-eqb}
 use Rattle.laws.specs.Flat.{flat}
 use Rattle.laws.specs.Written.{written, Puts}
-use Rattle.laws.proofs.Written.{puts-as, written-whole}
+use Rattle.laws.proofs.Written.{written-whole}
 use Rattle.refusal.specs.Refusal.{refusal, passed}
 use Rattle.refusal.specs.declared.Refusal.{Refusal}
-use Rattle.tree.specs.Tree.{nodeIn, nodesIn, nodeAt, depthOf, rootOf, pathOf}
+use Rattle.tree.specs.Tree.{nodesIn, depthOf, rootOf, pathOf}
 use Rattle.batch.specs.AllRows.{levels, nodesOf, pathIn}
-use Rattle.batch.specs.Leaves.{countOf, leavesIn, depthIn, heldOf}
+use Rattle.batch.specs.Leaves.{countOf, heldOf}
 use Rattle.batch.specs.Answers.{rootedOf, PlacesLeaf, pathBytes, fromBytes, LaysRows, rowsBytes}
 use Rattle.batch.specs.declared.Placed.{Placed}
 use Rattle.batch.specs.declared.Placed.the-variants as placed
 use Rattle.batch.specs.declared.Laid.{Laid}
 use Rattle.batch.specs.declared.Laid.the-variants as laid
-use Rattle.tree.proofs.Nodes.{leaves-long, tree-long}
-use Rattle.batch.proofs.Leaves.{count-bounds, held-is}
-use Rattle.batch.proofs.AllRows.{root-laid, path-laid}
+use Rattle.batch.proofs.Leaves.{held-is}
 
 -- ---- Which answer is right. There are n leaves, which code has as m, and their tree has the depth d.
 

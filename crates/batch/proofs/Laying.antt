@@ -79,7 +79,8 @@ module _ {xs row : List (List ℕ)} {d n : ℕ} where
       }
 
   -- the level with no level above it is the root
-  pub level-top : {left : ℕ} {was : List (List ℕ)} → AtLevel xs d was left n row → left ≡ 0 → getD row 0 [] ≡ rootOf xs d
+  pub level-top : {left : ℕ} {was : List (List ℕ)} → AtLevel xs d was left n row → left ≡ 0
+      → getD row 0 [] ≡ rootOf xs d
   level-top {left} r z =
       let q : d - left ≡ d = omega arith in
       r .nodes 0 (r .some) ∙ ap (λ (k : ℕ). nodeAt xs k 0) q

@@ -1,4 +1,5 @@
--- The leaves that a builder is lent, as they are or as the rows of their tree (document 01, "Hash and tree", house).
+-- The leaves that a builder is lent, as they are or as the rows of their tree (document 01, "Hash and tree", house; how
+-- many there may be is as request P6 has it).
 use mathlib.Core.Bool.{cond, _&&_}
 use mathlib.Core.List.{List}
 use Prim.Native.Nat.{ℕ, _*_, _/_, _%_}

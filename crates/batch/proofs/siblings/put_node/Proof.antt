@@ -1,5 +1,4 @@
 -- `batch::siblings::put_node` meets its contract.
-use native.Mathlib.Omega.{arith}
 use Rattle.laws.proofs.Written.{puts-one}
 use borrow.Author.Needs.{needs}
 use Rattle.batch.proofs.siblings.put_node.Statement.{statement}
