@@ -17,7 +17,9 @@
  * bool cannot either. Every other one takes any bytes and answers with a code: 0 where it passed,
  * or else the first that applies of those that it names, in the order in which it names them.
  * Of a response, 4 to 7 are judged for its outermost message, then SREP, then CERT, then DELE, and
- * 8 comes after them all.
+ * 8 comes after them all. A RADI of 0 is a 7 of SREP. 8 is given where TYPE or SREP's VER is not 1,
+ * or VERS lacks SREP's VER; where a request is lent, also where its VER lacks SREP's VER, or some
+ * version that is larger than SREP's VER stands in both its VER and VERS.
  *
  * On a refusal out stays as it was, and every other field of the answer is 0, but for the place of
  * a record where the answer has one. What is written stands at the front of out; what follows it
@@ -36,7 +38,7 @@ extern "C" {
 
 /* The version of this header: a change of the first number breaks callers. */
 #define TB_VERSION_MAJOR 0
-#define TB_VERSION_MINOR 5
+#define TB_VERSION_MINOR 6
 
 /* ---- Codes ---- */
 
@@ -57,9 +59,9 @@ enum tb_code {
     TB_TAG_ORDER = 5,
     /* a needed tag is absent */
     TB_TAG_ABSENT = 6,
-    /* a value's length is wrong, or a version list does not rise */
+    /* a value's length is wrong, a version list does not rise, or RADI is 0 */
     TB_VALUE = 7,
-    /* TYPE or the version is wrong */
+    /* TYPE or the version is wrong, VERS lacks it, or both sides know a higher one */
     TB_TYPE_OR_VERSION = 8,
     /* NONC is not the request's */
     TB_NONCE = 9,
@@ -112,9 +114,9 @@ static inline const char *tb_code_text(uint32_t code) {
     case TB_TAG_ABSENT:
         return "a needed tag is absent";
     case TB_VALUE:
-        return "a value's length is wrong, or a version list does not rise";
+        return "a value's length is wrong, a version list does not rise, or RADI is 0";
     case TB_TYPE_OR_VERSION:
-        return "TYPE or the version is wrong";
+        return "TYPE or the version is wrong, VERS lacks it, or both sides know a higher one";
     case TB_NONCE:
         return "NONC is not the request's";
     case TB_PATH:

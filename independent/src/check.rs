@@ -44,10 +44,14 @@ pub fn check(
     let request = request::read(request_packet).map_err(|_| Refusal::Request)?;
     let response = response::read(response_packet)?;
     let Response { outer, srep, dele, .. } = &response;
+    // The largest version that the client and the server both know: a server that answers with a
+    // lower one talks the client down.
+    let best = srep.versions.iter().filter(|version| request.versions.contains(version)).max();
     // The leaf is of the packet as it was sent, its header with it.
     let leaf = hash::leaf(request_packet);
     let rules = [
         (request.versions.contains(&srep.version), Refusal::Kind),
+        (best <= Some(&srep.version), Refusal::Kind),
         (outer.nonc == request.nonc, Refusal::Nonce),
         (tree::reaches(&leaf, outer.indx, &outer.path, &srep.root), Refusal::Path),
         (dele.mint <= srep.midp && srep.midp <= dele.maxt, Refusal::Time),
@@ -64,7 +68,7 @@ pub fn check(
 mod tests {
     use super::*;
     use crate::pieces::{put, Pieces};
-    use crate::tag::{INDX, MAXT, MIDP, MINT, NONC, PATH, RADI, ROOT, TYPE};
+    use crate::tag::{INDX, MAXT, MIDP, MINT, NONC, PATH, RADI, ROOT, TYPE, VERS};
     use crate::{packet, write};
 
     /// A request, and the response that it is the only leaf of.
@@ -122,10 +126,55 @@ mod tests {
         assert_eq!(code(&request, &response, no), 9);
         put(&mut response.outer, TYPE, &[0; 4]);
         assert_eq!(code(&request, &response, no), 8);
-        put(&mut response.srep, RADI, &[0; 8]);
+        put(&mut response.srep, RADI, &[0; 4]);
         assert_eq!(code(&request, &response, no), 7);
         assert_eq!(code(&request[..1035], &response, no), 14);
         assert_eq!(code(&[], &response, no), 14);
+    }
+
+    /// The code for a request with these versions, and a response that lists those.
+    fn versions(asked: &[u32], listed: &[u32]) -> u32 {
+        let request = write::request_of(asked, &[1; 32], &[2; 32], 912);
+        let (_, mut response) = pair();
+        let listed: Vec<u8> = listed.iter().flat_map(|version| version.to_le_bytes()).collect();
+        put(&mut response.srep, VERS, &listed);
+        put(&mut response.srep, ROOT, &hash::leaf(&request));
+        code(&request, &response, (true, true))
+    }
+
+    #[test]
+    fn no_version_above_the_one_that_was_chosen_is_known_to_both() {
+        let draft = 0x8000_000c;
+        for (asked, listed, due) in [
+            (&[1][..], &[1][..], 0),
+            (&[0, 1], &[0, 1], 0),
+            (&[1, 2], &[1], 0),
+            (&[1], &[1, 2], 0),
+            (&[1, 2], &[1, 3], 0),
+            (&[1, draft], &[1, 2], 0),
+            (&[1, 2], &[1, 2], 8),
+            (&[1, 2, 4], &[1, 2, 3], 8),
+            (&[1, 3, 4], &[1, 2, 4], 8),
+            (&[1, draft], &[1, draft], 8),
+            (&[0, 1, 2, draft], &[1, 2, 3], 8),
+        ] {
+            assert_eq!(versions(asked, listed), due, "{asked:?} and {listed:?}");
+        }
+        let many: Vec<u32> = (1..=32).collect();
+        assert_eq!(versions(&many, &many), 8);
+        assert_eq!(versions(&many, &[1]), 0);
+        assert_eq!(versions(&many, &[1, 33]), 0);
+        assert_eq!(versions(&[1, 32], &many), 8);
+    }
+
+    /// A version that both know comes before another nonce.
+    #[test]
+    fn a_downgrade_comes_before_the_nonce() {
+        let request = write::request_of(&[1, 2], &[1; 32], &[3; 32], 912);
+        let (_, mut response) = pair();
+        assert_eq!(code(&request, &response, (false, false)), 9);
+        put(&mut response.srep, VERS, &[1, 0, 0, 0, 2, 0, 0, 0]);
+        assert_eq!(code(&request, &response, (false, false)), 8);
     }
 
     #[test]

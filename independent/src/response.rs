@@ -54,11 +54,11 @@ pub struct Srep<'a> {
     pub bytes: &'a [u8],
     /// VER: the version of the response, 1 in a good one.
     pub version: u32,
-    /// RADI: the radius, in seconds.
+    /// RADI: the radius, in seconds, never 0.
     pub radi: u32,
     /// MIDP: the midpoint.
     pub midp: u64,
-    /// VERS: the versions that the server knows, rising.
+    /// VERS: the versions that the server knows, rising. That of a good response is among them.
     pub versions: Vec<u32>,
     /// ROOT: the root of the tree.
     pub root: Hash,
@@ -111,7 +111,7 @@ impl<'a> Srep<'a> {
         Ok(Srep {
             bytes,
             version: value::number(version)?,
-            radi: value::number(radi)?,
+            radi: value::radius(radi)?,
             midp: value::time(midp)?,
             versions: value::versions(versions)?,
             root: value::array(root)?,
@@ -150,7 +150,11 @@ pub fn shaped(packet: &[u8]) -> Result<Response<'_>, Refusal> {
 /// The response that `packet` is.
 pub fn read(packet: &[u8]) -> Result<Response<'_>, Refusal> {
     let response = shaped(packet)?;
-    if response.outer.kind == TYPE_OF_RESPONSE && response.srep.version == VERSION {
+    let Srep { version, versions, .. } = &response.srep;
+    let right = response.outer.kind == TYPE_OF_RESPONSE
+        && *version == VERSION
+        && versions.contains(version);
+    if right {
         Ok(response)
     } else {
         Err(Refusal::Kind)
@@ -272,11 +276,45 @@ mod tests {
         }
     }
 
+    /// The bytes of a list of versions.
+    fn list(versions: &[u32]) -> Vec<u8> {
+        versions.iter().flat_map(|version| version.to_le_bytes()).collect()
+    }
+
     #[test]
-    fn a_radius_of_0_and_versions_without_1_pass() {
+    fn the_servers_versions_hold_that_of_the_response() {
+        for (versions, due) in [
+            (&[1][..], None),
+            (&[1, 2], None),
+            (&[0, 1], None),
+            (&[0, 1, 0x8000_000c], None),
+            (&[0], Some(8)),
+            (&[2], Some(8)),
+            (&[0, 2], Some(8)),
+            (&[0x0100_0000], Some(8)),
+        ] {
+            let mut pieces = good();
+            put(&mut pieces.srep, VERS, &list(versions));
+            assert_eq!(pieces.code(), due, "{versions:?}");
+        }
+        // That both are the same does not help where it is a version that nobody knows.
         let mut pieces = good();
+        put(&mut pieces.srep, VER, &list(&[2]));
+        put(&mut pieces.srep, VERS, &list(&[2]));
+        assert_eq!(pieces.code(), Some(8));
+    }
+
+    /// It is judged with the other values of SREP: after its tags, and before CERT.
+    #[test]
+    fn a_radius_of_0_is_a_wrong_value_of_srep() {
+        let mut pieces = good();
+        put(&mut pieces.outer, TYPE, &[0; 4]);
         put(&mut pieces.srep, RADI, &[0; 4]);
-        put(&mut pieces.srep, VERS, &[2, 0, 0, 0]);
-        assert_eq!(pieces.code(), None);
+        assert_eq!(shaped(&pieces.clone().packet()), Err(Refusal::Value));
+        assert_eq!(pieces.clone().code(), Some(7));
+        pieces.cert.swap(0, 1);
+        assert_eq!(pieces.clone().code(), Some(7));
+        pieces.srep.retain(|pair| pair.0 != ROOT);
+        assert_eq!(pieces.code(), Some(6));
     }
 }

@@ -19,6 +19,14 @@ pub fn number(value: &[u8]) -> Result<u32, Refusal> {
     array(value).map(u32::from_le_bytes)
 }
 
+/// A radius: a number of 4 bytes that is not 0, since nobody can keep such a claim.
+pub fn radius(value: &[u8]) -> Result<u32, Refusal> {
+    match number(value)? {
+        0 => Err(Refusal::Value),
+        radius => Ok(radius),
+    }
+}
+
 /// A time: seconds since 1970, in 8 bytes.
 pub fn time(value: &[u8]) -> Result<u64, Refusal> {
     array(value).map(u64::from_le_bytes)
@@ -65,6 +73,17 @@ mod tests {
         assert_eq!(number(&[0; 8]), Err(Refusal::Value));
         assert_eq!(time(&[0; 4]), Err(Refusal::Value));
         assert_eq!(number(&[]), Err(Refusal::Value));
+    }
+
+    #[test]
+    fn a_radius_is_any_number_but_0() {
+        for radi in [1, 2, 255, 256, 1 << 16, 1 << 24, 1 << 31, u32::MAX] {
+            assert_eq!(radius(&radi.to_le_bytes()), Ok(radi));
+        }
+        for length in 0..=8 {
+            assert_eq!(radius(&vec![0; length]), Err(Refusal::Value), "{length} zeros");
+        }
+        assert_eq!(radius(&[1, 0, 0, 0, 0, 0, 0, 0]), Err(Refusal::Value));
     }
 
     #[test]

@@ -19,8 +19,14 @@ pub fn request(key: &[u8; 32], nonce: &[u8; 32]) -> Vec<u8> {
 /// The same with another number of zeros, for it to be shorter or longer. A server may leave a
 /// shorter one unanswered.
 pub fn padded_request(key: &[u8; 32], nonce: &[u8; 32], padding: usize) -> Vec<u8> {
+    request_of(&[VERSION], key, nonce, padding)
+}
+
+/// The same from a client that knows these versions.
+pub fn request_of(versions: &[u32], key: &[u8; 32], nonce: &[u8; 32], padding: usize) -> Vec<u8> {
+    let versions: Vec<u8> = versions.iter().flat_map(|version| version.to_le_bytes()).collect();
     let pairs: [(_, &[u8]); 5] = [
-        (VER, &VERSION.to_le_bytes()),
+        (VER, &versions),
         (SRV, &hash::srv_value(key)),
         (NONC, nonce),
         (TYPE, &TYPE_OF_REQUEST.to_le_bytes()),

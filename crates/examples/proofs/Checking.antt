@@ -32,7 +32,9 @@ module _ (q p : List ℕ) (d s : Bool) (b : Before10 q p) where
   from-10 =
       test-false refusals _ _ refl (b .request)
       (says-0 refusals _ _ refl (b .shape)
-      (is-last refusals (test-false refusals _ _ refl (b .version) (test-false refusals _ _ refl (b .nonce) refl))))
+      (is-last refusals
+      (test-false refusals _ _ refl (b .version)
+      (test-false refusals _ _ refl (b .highest) (test-false refusals _ _ refl (b .nonce) refl)))))
 
   says-left : verdictNumber (verdictOf q p d s) ≡ left .code
   unfolding verdictOf

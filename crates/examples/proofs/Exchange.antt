@@ -1,42 +1,44 @@
 -- What is read of the request and the response that are made up: no check refuses before that of the path, which leads
 -- to ROOT where there are no siblings, and the numbers are those that the response says.
-use mathlib.Core.Path.{_≡_, sym, ap, _∙_}
+use mathlib.Core.Path.{_≡_, refl, sym, ap, _∙_}
 use mathlib.Core.Bool.{Bool, true, false, not}
-use mathlib.Core.List.{List, [], append-nil}
-use Prim.Native.Nat.{ℕ, _+_, _*_, _^_, _≤_, _<_}
+use mathlib.Core.List.{List, []}
+use Prim.Native.Nat.{ℕ, _+_, _*_, _≤_}
 use native.Mathlib.Omega.{arith}
 use borrow.Author.Tests.{eq-eqb}
 use lib.ListN.{length, length-replicate}
+use Rattle.laws.specs.Least.{least, somewhere}
 use Rattle.laws.specs.Numbers.{le, leBytes}
 use Rattle.laws.specs.Upto.{upto}
-use Rattle.laws.proofs.Numbers.{le-leBytes}
 use Rattle.laws.proofs.Same.{same-refl}
 use Rattle.hash.specs.Hashes.{leafOf}
 use Rattle.message.specs.Encode.{valueAmong}
-use Rattle.message.specs.Tags.{VER, NONC, DELE, PATH, RADI, MIDP, SREP, MINT, ROOT, CERT, MAXT, INDX}
+use Rattle.message.specs.Tags.{VER, NONC, DELE, PATH, RADI, MIDP, SREP, VERS, MINT, ROOT, CERT, MAXT, INDX}
 use Rattle.message.specs.Values.{valueOf}
 use Rattle.message.proofs.Encoded.{value-encoded}
 use Rattle.tree.specs.Tree.{nodesIn}
 use Rattle.tree.specs.PathCheck.{climb, reached, leadsOf}
 use Rattle.wire.specs.Packet.{body}
 use Rattle.wire.specs.Request.{requestBad, requestCode}
-use Rattle.wire.specs.Response.{srep, cert, dele, indxIn, verIn, radiIn, midpIn, mintIn, maxtIn}
-use Rattle.wire.specs.Versions.{HoldsVersion}
+use Rattle.wire.specs.Response.{srep, cert, dele, indxIn, verIn, versIn, radiIn, midpIn, mintIn, maxtIn}
 use Rattle.wire.proofs.GoodRequest.{good-request}
 use Rattle.wire.proofs.GoodResponse.{good-response}
 use Rattle.wire.proofs.PacketFields.{fields-value}
 use Rattle.wire.proofs.Versions.{version-test}
-use Rattle.verdict.specs.Check.{versionUnasked, nonceDiffers, pathMisses, answersCode, checkCode, windowIn}
+use Rattle.verdict.specs.Check.{versionUnasked, versionDowngraded, nonceDiffers, pathMisses, answersCode, checkCode}
+use Rattle.verdict.specs.Check.{windowIn}
+use Rattle.verdict.specs.Downgrade.{askedAbove, downgrades}
 use Rattle.examples.specs.Claims.{_±_, Before10, Climbs, Late}
 use Rattle.examples.proofs.Checking.{answers-left}
-use Rattle.examples.proofs.MadeRequest.{version-held, request, ask-packet, ask-good}
+use Rattle.examples.proofs.MadeRequest.{one-version, version-held, request, ask-packet, ask-good}
 use Rattle.examples.proofs.MadeResponse.{Answer, Sound, srepFields, deleFields, certFields, zeroPath}
 use Rattle.examples.proofs.MadeResponse.{answerFields, response, srep-fields, dele-fields, cert-fields}
-use Rattle.examples.proofs.MadeResponse.{answer-packet, answer-good}
+use Rattle.examples.proofs.MadeResponse.{number, answer-packet, answer-good}
 
--- a number is read as it was written
-number : (k n : ℕ) → n < 256 ^ k → le k (leBytes k n) 0 ≡ n
-number k n h = rw append-nil at (le-leBytes k n [] h)
+-- where both sides know version 1 and no other, none is above it
+one-is-highest : downgrades one-version one-version 1 ≡ false
+unfolding downgrades askedAbove somewhere least leBytes le
+one-is-highest = refl
 
 -- with no siblings a leaf is its own root
 alone : (leaf : List ℕ) → leadsOf leaf 0 [] leaf ≡ true
@@ -96,6 +98,10 @@ module _ (a : Answer) (ok : Sound a) where
   unfolding valueAmong
   ver-is = rw (srep-is VER) (number 4 1 (omega arith))
 
+  vers-is : versIn (body p) ≡ one-version
+  unfolding valueAmong
+  vers-is = srep-is VERS
+
   path-is : valueOf (body p) PATH ≡ zeroPath a
   unfolding valueAmong
   path-is = value-is PATH
@@ -109,16 +115,17 @@ module _ (a : Answer) (ok : Sound a) where
   root-is = srep-is ROOT
 
   -- none of 14 and 1 to 9 applies
-  version-asked : HoldsVersion (valueOf (body q) VER) 1
+  asked-is : valueOf (body q) VER ≡ one-version
   unfolding valueAmong
-  version-asked = rw (fields-value q _ (ask-packet (a .nonce) (ok .nonce-long)) VER) version-held
+  asked-is = fields-value q _ (ask-packet (a .nonce) (ok .nonce-long)) VER
 
   before-10 : Before10 q p
-  unfolding requestBad versionUnasked nonceDiffers
+  unfolding requestBad versionUnasked versionDowngraded nonceDiffers
   before-10 = record {
     request = ap not (eq-eqb (requestCode q .code) 0 (good-request q (ask-good (a .nonce) (ok .nonce-long))));
     shape = good-response p (answer-good a ok);
-    version = rw ver-is (version-test _ 1 .1 version-asked);
+    version = rw (ver-is, asked-is) (version-test _ 1 .1 version-held);
+    highest = rw (ver-is, vers-is, asked-is) one-is-highest;
     nonce = rw (request-nonce (a .nonce) (ok .nonce-long), nonce-is) (ap not (same-refl (a .nonce)));
   }
 

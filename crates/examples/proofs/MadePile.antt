@@ -1,7 +1,7 @@
 -- A pile for any 1 to 16 replies: the verdict on each record is the reply's, and each after the first is linked.
 -- No hash is computed.
 use mathlib.Core.Path.{_≡_, refl, sym, ap, _∙_}
-use mathlib.Core.Bool.{Bool, true}
+use mathlib.Core.Bool.{Bool, true, _&&_}
 use mathlib.Core.List.{List, [], _∷_}
 use Prim.Native.Nat.{ℕ, zero, suc, _-_, _^_, _≤_, _<_}
 use native.Mathlib.Nat.{le-of-suc-le-suc}
@@ -89,13 +89,16 @@ module _ (rs : List Reply) (fit : T (allFit rs)) where
 
   sound : (k : ℕ) → Sound (answerAt k)
   sound k =
-      let f = and-yes (ltb (reply rs k .midp) (2 ^ 64)) (ltb (reply rs k .radi) (2 ^ 32)) (fits-at rs fit k) in
+      let r = reply rs k in
+      let f = and-yes (ltb (r .midp) (2 ^ 64)) (ltb (r .radi) (2 ^ 32) && ltb 0 (r .radi)) (fits-at rs fit k) in
+      let g = and-yes (ltb (r .radi) (2 ^ 32)) (ltb 0 (r .radi)) (f .1) in
       record {
         nonce-long = length-nonce rs k;
         few = omega arith;
         indx-fits = omega arith;
         midp-fits = ltb→lt _ _ (f .0);
-        radi-fits = ltb→lt _ _ (f .1);
+        radi-fits = ltb→lt _ _ (g .0);
+        radi-more = ltb→lt _ _ (g .1);
         maxt-fits = omega arith;
       }
 

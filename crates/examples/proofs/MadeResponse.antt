@@ -1,14 +1,14 @@
 -- A response made up of fields: it is a good one, whatever it says. Its siblings, signatures and PUBK are zeros, and
 -- MINT is 0. ROOT is the leaf of the request with its nonce; the hash is not computed.
 use mathlib.Core.Path.{_≡_, refl, _∙_}
-use mathlib.Core.List.{List, [], _∷_}
+use mathlib.Core.List.{List, [], _∷_, append-nil}
 use Prim.Native.Nat.{ℕ, _+_, _*_, _%_, _^_, _≤_, _<_}
 use native.Mathlib.Omega.{arith}
 use lib.ListN.{length, replicate, length-append, length-replicate}
 use Rattle.laws.specs.Any.{any}
 use Rattle.laws.specs.Least.{least, somewhere}
 use Rattle.laws.specs.Numbers.{le, leBytes}
-use Rattle.laws.proofs.Numbers.{length-leBytes}
+use Rattle.laws.proofs.Numbers.{length-leBytes, le-leBytes}
 use Rattle.hash.specs.Hashes.{leafOf}
 use Rattle.hash.proofs.Lengths.{length-leaf}
 use Rattle.message.specs.Encode.{Field, Fields, encode, values, among, valueAmong}
@@ -20,7 +20,11 @@ use Rattle.wire.specs.Good.{PacketFields, GoodResponse}
 use Rattle.wire.specs.Packet.{packetOf}
 use Rattle.examples.proofs.AreBytes.{AreBytes, bytes-zeros, bytes-le, bytes-leaf, bytes-encode, bytes-packet}
 use Rattle.examples.proofs.FieldsKept.{_is_, tagsWrong, fields-kept, packed}
-use Rattle.examples.proofs.MadeRequest.{one-version, versions-good, request}
+use Rattle.examples.proofs.MadeRequest.{one-version, versions-good, version-held, request}
+
+-- a number is read as it was written
+pub number : (k n : ℕ) → n < 256 ^ k → le k (leBytes k n) 0 ≡ n
+number k n h = rw append-nil at (le-leBytes k n [] h)
 
 -- what it says, and how many siblings it has
 pub record Answer : Type 0 where
@@ -31,13 +35,14 @@ pub record Answer : Type 0 where
   pub radi : ℕ
   pub maxt : ℕ
 
--- a nonce of 32 bytes, siblings that have room, and numbers of their width
+-- a nonce of 32 bytes, siblings that have room, and numbers of their width, RADI not 0
 pub record Sound (a : Answer) : Type 0 where
   pub nonce-long : length (a .nonce) ≡ 32
   pub few : a .siblings ≤ 32
   pub indx-fits : a .indx < 2 ^ 32
   pub midp-fits : a .midp < 2 ^ 64
   pub radi-fits : a .radi < 2 ^ 32
+  pub radi-more : 0 < a .radi
   pub maxt-fits : a .maxt < 2 ^ 64
 
 -- its messages, from within
@@ -143,6 +148,10 @@ module _ (a : Answer) (ok : Sound a) where
       bytes-packet _
       (bytes-encode _ (bytes-zeros 64, (b, (bytes-le 4 1, (path, (srep, (cert, (bytes-le 4 _, tt))))))))
 
+  -- RADI is not 0,
+  radi-read : 0 < le 4 (leBytes 4 (a .radi)) 0
+  radi-read = rw (number 4 (a .radi) (ok .radi-fits)) (ok .radi-more)
+
   -- and a good response
   pub answer-good : GoodResponse (response a)
   unfolding among valueAmong leBytes le
@@ -159,7 +168,7 @@ module _ (a : Answer) (ok : Sound a) where
     indx = record { there = refl; right = refl };
     srep = record { there = refl; fields = srepFields a; kept = srep-fields; is = refl };
     ver = record { there = refl; right = refl };
-    radi = record { there = refl; right = refl };
+    radi = record { there = refl; right = record { four = refl; more = radi-read } };
     midp = record { there = refl; right = refl };
     vers = record { there = refl; right = versions-good };
     root = record { there = refl; right = length-leaf _ };
@@ -171,4 +180,5 @@ module _ (a : Answer) (ok : Sound a) where
     maxt = record { there = refl; right = refl };
     type-is = refl;
     version = refl;
+    listed = version-held;
   }

@@ -61,9 +61,9 @@ unfoldable pub answersOf : List Reply → List ℕ
 answersOf [] = []
 answersOf (r ∷ rs) = byteOf (r .delegation) ∷ byteOf (r .signature) ∷ answersOf rs
 
--- reply k; past the last one, zeros and no
+-- reply k; past the last one 0±1, and no
 abbrev pub reply : List Reply → ℕ → Reply
-reply rs k = getD rs k (record { midp = 0; radi = 0; delegation = false; signature = false })
+reply rs k = getD rs k (record { midp = 0; radi = 1; delegation = false; signature = false })
 
 pub length-answers : (rs : List Reply) → length (answersOf rs) ≡ 2 * length rs
 unfolding answersOf

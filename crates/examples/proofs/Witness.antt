@@ -70,6 +70,7 @@ small i siblings midp maxt t =
       indx-fits = omega arith;
       midp-fits = omega arith;
       radi-fits = omega arith;
+      radi-more = omega arith;
       maxt-fits = omega arith;
     }
 

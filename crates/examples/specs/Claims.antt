@@ -20,7 +20,8 @@ use Rattle.batch.specs.Leaves.{countOf}
 use Rattle.batch.specs.Answers.{rootedOf, PlacesLeaf, pathBytes}
 use Rattle.batch.specs.declared.Placed.the-variants.{Written}
 use Rattle.verdict.specs.Window.{windowOf}
-use Rattle.verdict.specs.Check.{versionUnasked, nonceDiffers, pathMisses, windowIn, verdictOf, verdictNumber}
+use Rattle.verdict.specs.Check.{versionUnasked, versionDowngraded, nonceDiffers, pathMisses, windowIn, verdictOf}
+use Rattle.verdict.specs.Check.{verdictNumber}
 use Rattle.verdict.specs.declared.Verdict.{Verdict}
 use Rattle.verdict.specs.declared.Verdict.the-variants.{Valid}
 use Rattle.verdict.specs.declared.Window.{Window}
@@ -95,6 +96,7 @@ pub record Before10 (q p : List ℕ) : Type 0 where
   pub request : requestBad q ≡ false
   pub shape : responseCode p .code ≡ 0
   pub version : versionUnasked (body q) (body p) ≡ false
+  pub highest : versionDowngraded (body q) (body p) ≡ false
   pub nonce : nonceDiffers (body q) (body p) ≡ false
 
 -- such a response, with this INDX and so many siblings

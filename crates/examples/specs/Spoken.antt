@@ -67,9 +67,9 @@ abbrev pub verdictsOn : List Reply → List Verdict
 verdictsOn [] = []
 verdictsOn (r ∷ rs) = verdictOn r ∷ verdictsOn rs
 
--- MIDP is a u64 and RADI a u32,
+-- MIDP is a u64, and RADI a u32 that is not 0,
 abbrev pub fits : Reply → Bool
-fits r = ltb (r .midp) (2 ^ 64) && ltb (r .radi) (2 ^ 32)
+fits r = ltb (r .midp) (2 ^ 64) && (ltb (r .radi) (2 ^ 32) && ltb 0 (r .radi))
 
 -- of each of them
 abbrev pub allFit : List Reply → Bool

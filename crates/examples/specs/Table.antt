@@ -15,8 +15,8 @@ table why =
     contradicts (1000 ± 5) (990 ± 5) false
     -- 2. 1000±5 then 990±4: contradiction
     ∷ contradicts (1000 ± 5) (990 ± 4) true
-    -- 3. 3±10 has low end 0; then 0±0: no contradiction
-    ∷ low-end (3 ± 10) 0 and contradicts (3 ± 10) (0 ± 0) false
+    -- 3. 3±10 has low end 0; then 0±1: no contradiction (request P4)
+    ∷ low-end (3 ± 10) 0 and contradicts (3 ± 10) (0 ± 1) false
     -- 4. MIDP 2^64-1, RADI 1: high end 2^64-1
     ∷ high-end ((2 ^ 64 - 1) ± 1) (2 ^ 64 - 1)
     -- 5. run 2..3

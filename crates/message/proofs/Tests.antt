@@ -9,14 +9,16 @@ use native.Mathlib.Omega.{arith}
 use borrow.Author.Tests.{le-ltb, eq-eqb, ne-eqb, lt-leb, ltb-false, leb-false, eqb-true, eqb-false, not-false}
 use lib.ListN.{length}
 use Rattle.laws.specs.Least.{somewhere}
+use Rattle.laws.specs.Numbers.{le}
 use Rattle.laws.proofs.Any.{any-not, any-none, any-parts}
 use Rattle.laws.proofs.Least.{nowhere, nowhere-at}
 use Rattle.message.specs.Frame.{word, notAbove, count, offset, section, edge, lengthBad, countBad, offsetBad}
 use Rattle.message.specs.Frame.{offsetsBad, tagsBad}
-use Rattle.message.specs.Rules.{Rule, bytes, versions, siblings, message, Row, versionsBad, siblingsBad, valueBad}
-use Rattle.message.specs.Rules.{absent, broken, rowAbsent, rowBroken, someAbsent, someBroken}
-use Rattle.message.specs.Sentences.{LengthGood, CountGood, OffsetsGood, TagsRise, TagsThere, VersionList}
-use Rattle.message.specs.Sentences.{SiblingList, KeepsRule, ValuesRight}
+use Rattle.message.specs.Rules.{Rule, bytes, nonzero, versions, siblings, message, Row, nonzeroBad, versionsBad}
+use Rattle.message.specs.Rules.{siblingsBad, valueBad, absent, broken, rowAbsent, rowBroken, someAbsent}
+use Rattle.message.specs.Rules.{someBroken}
+use Rattle.message.specs.Sentences.{LengthGood, CountGood, OffsetsGood, TagsRise, TagsThere, NonzeroNumber}
+use Rattle.message.specs.Sentences.{VersionList, SiblingList, KeepsRule, ValuesRight}
 use Rattle.message.proofs.Edges.{edge-first, edge-inner}
 
 -- the n words from `at` rise where none of them is followed by one that is not above it
@@ -26,6 +28,10 @@ words-rise s at n = (
   λ e k h. leb-false _ _ (nowhere-at (notAbove s at) (n - 1) k e (omega arith)),
   λ r. nowhere (notAbove s at) (n - 1) (λ k h. lt-leb _ _ (r k (omega arith))),
 )
+
+-- a number that is not 0 is above it
+positive : {n : ℕ} → (n ≡ 0 → ⊥) → 0 < n
+positive {n} h = omega arith
 
 module _ (m : List ℕ) where
   -- ---- codes 4 and 5
@@ -56,9 +62,6 @@ module _ (m : List ℕ) where
         any-not _ (ne-eqb (count m) 0 (λ e. omega (arith, g .one)))
         (any-not _ (le-ltb _ _ (g .few)) (any-not _ (le-ltb _ _ (g .fits)) any-none)),
   )
-    where
-      positive : {n : ℕ} → (n ≡ 0 → ⊥) → 1 ≤ n
-      positive {n} h = omega arith
 
   -- the same of a test's answer that code has as t
   pub length-good : (t : Bool) → t ≡ lengthBad m → t ≡ false → LengthGood m
@@ -117,6 +120,18 @@ module _ (m : List ℕ) where
 
 -- ---- codes 6 and 7
 
+pub nonzero-test : (v : List ℕ) → nonzeroBad v ≡ false ↔ NonzeroNumber v
+unfolding nonzeroBad
+nonzero-test v = (
+  λ e.
+      let a = any-parts _ _ e in
+      let b = any-parts _ _ (a .1) in
+      record { four = eqb-true _ _ (not-false _ (a .0)); more = positive (eqb-false (le 4 v 0) 0 (b .0)) },
+  λ g.
+      any-not _ (ap not (eq-eqb _ _ (g .four)))
+      (any-not _ (ne-eqb (le 4 v 0) 0 (λ e. omega (arith, g .more))) any-none),
+)
+
 pub versions-test : (v : List ℕ) → versionsBad v ≡ false ↔ VersionList v
 unfolding versionsBad
 versions-test v = (
@@ -151,6 +166,7 @@ siblings-test v = (
 pub value-test : (rule : Rule) (v : List ℕ) → valueBad rule v ≡ false ↔ KeepsRule rule v
 unfolding valueBad
 value-test (bytes n) v = (λ e. eqb-true _ _ (not-false _ e), λ g. ap not (eq-eqb _ _ g))
+value-test nonzero v = nonzero-test v
 value-test versions v = versions-test v
 value-test siblings v = siblings-test v
 value-test message v = (λ e. record {}, λ g. refl)

@@ -5,11 +5,12 @@ use mathlib.Core.Bool.{not, cond}
 use lib.Dec.{eqb}
 use lib.ListN.{length, getD}
 use Rattle.laws.specs.Upto.{upto}
-use Rattle.message.specs.Rules.{Rule, bytes, versions, siblings, message, Row}
+use Rattle.message.specs.Rules.{Rule, bytes, nonzero, versions, siblings, message, Row}
 
--- the rule that a number is: 1, 2 and 3 are names, any other number is a length in bytes
+-- the rule that a number is: 1, 2, 3 and 5 are names, any other number is a length in bytes
 unfoldable pub ruleIn : ℕ → Rule
-ruleIn n = cond (eqb n 1) versions (cond (eqb n 2) siblings (cond (eqb n 3) message (bytes n)))
+ruleIn n =
+    cond (eqb n 1) versions (cond (eqb n 2) siblings (cond (eqb n 3) message (cond (eqb n 5) nonzero (bytes n))))
 
 -- row k: its tag, whether it must be there (0 where it may be absent), and its rule
 abbrev pub rowIn : List ℕ → ℕ → Row

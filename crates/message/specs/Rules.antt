@@ -6,14 +6,17 @@ use lib.ListN.{length, getD}
 use lib.Dec.{ltb, eqb}
 use Rattle.laws.specs.Any.{any}
 use Rattle.laws.specs.Least.{somewhere}
+use Rattle.laws.specs.Numbers.{le}
 use Rattle.refusal.specs.Refusal.{first, when}
 use Rattle.refusal.specs.declared.Refusal.{Refusal}
 use Rattle.message.specs.Frame.{notAbove, frameCode}
 use Rattle.message.specs.Values.{has, valueOf}
 
--- the rule of a value: that it has so many bytes, is a list of versions, is a list of siblings, or is a message
+-- the rule of a value: that it has so many bytes, is a number that is not 0, is a list of versions, is a list of
+-- siblings, or is a message
 pub data Rule : Type 0 where
   bytes : ℕ → Rule
+  nonzero : Rule
   versions : Rule
   siblings : Rule
   message : Rule
@@ -30,6 +33,10 @@ must tag rule = record { tag = tag; needed = true; rule = rule }
 
 abbrev pub may : ℕ → Rule → Row
 may tag rule = record { tag = tag; needed = false; rule = rule }
+
+-- not a u32, or 0 (draft 19, 5.2.5, of RADI; request P4)
+unfoldable pub nonzeroBad : List ℕ → Bool
+nonzeroBad v = any (not (eqb (length v) 4) ∷ eqb (le 4 v 0) 0 ∷ [])
 
 -- not 1 to 32 versions of 4 bytes, strictly rising (draft 19, 5.1.1; of VERS 5.2.5 says sorted, and document 01 that it
 -- rises as VER in a request)
@@ -49,6 +56,7 @@ siblingsBad v = any (ltb 1024 (length v) ∷ not (eqb (length v % 32) 0) ∷ [])
 -- a value breaks its rule; a message may have any length here, since its own codes are told after this one's
 unfoldable pub valueBad : Rule → List ℕ → Bool
 valueBad (bytes n) v = not (eqb (length v) n)
+valueBad nonzero v = nonzeroBad v
 valueBad versions v = versionsBad v
 valueBad siblings v = siblingsBad v
 valueBad message v = false

@@ -6,9 +6,10 @@ use mathlib.Core.Path.{_≡_}
 use mathlib.Core.Bool.{true}
 use mathlib.Core.List.{List}
 use lib.ListN.{length}
+use Rattle.laws.specs.Numbers.{le}
 use Rattle.message.specs.Encode.{Field, Fields, encode, among, valueAmong}
 use Rattle.message.specs.Frame.{word, count, offset, tagAt, section}
-use Rattle.message.specs.Rules.{Rule, bytes, versions, siblings, message, Row, row}
+use Rattle.message.specs.Rules.{Rule, bytes, nonzero, versions, siblings, message, Row, row}
 use Rattle.message.specs.Values.{has, valueOf}
 
 -- ---- code 4
@@ -51,6 +52,11 @@ TagsThere m rows = (k : ℕ) → k < length rows → row rows k .needed ≡ true
 
 -- ---- code 7
 
+-- a u32 that is not 0
+pub record NonzeroNumber (v : List ℕ) : Type 0 where
+  pub four : length v ≡ 4
+  pub more : 0 < le 4 v 0
+
 -- 1 to 32 versions of 4 bytes, strictly rising
 pub record VersionList (v : List ℕ) : Type 0 where
   pub whole : length v % 4 ≡ 0
@@ -66,6 +72,7 @@ pub record SiblingList (v : List ℕ) : Type 0 where
 -- a value keeps its rule; of a message, its own sentences say more
 abbrev pub KeepsRule : Rule → List ℕ → Type 0
 KeepsRule (bytes n) v = length v ≡ n
+KeepsRule nonzero v = NonzeroNumber v
 KeepsRule versions v = VersionList v
 KeepsRule siblings v = SiblingList v
 KeepsRule message v = record {}

@@ -4,14 +4,15 @@ ghost use mathlib.Core.Bool.{not};
 ghost use Prim.Native.Nat.{_+_, _*_, _-_, _<_};
 ghost use lib.Dec.{eqb};
 ghost use Rattle.message.specs.Numbered.{ruleIn, rowsIn};
-ghost use Rattle.message.specs.Rules.{versionsBad, siblingsBad, valueBad, absent, broken, someAbsent, someBroken};
-ghost use Rattle.message.specs.Rules.{messageCode};
+ghost use Rattle.message.specs.Rules.{nonzeroBad, versionsBad, siblingsBad, valueBad, absent, broken};
+ghost use Rattle.message.specs.Rules.{someAbsent, someBroken, messageCode};
 ghost use Rattle.message.specs.Scans.{firstAbsent, firstBroken};
 ghost use Rattle.message.specs.Sentences.{Good};
 use super::frame::first_fall;
 use super::frame::frame_code;
 use super::values::has_tag;
 use super::values::value_of;
+use octets::le32;
 use refusal::PASSED;
 use refusal::Refusal;
 use refusal::codes;
@@ -22,12 +23,15 @@ pub const MUST: u32 = 1;
 
 pub const MAY: u32 = 0;
 
-// The rules of a value by their numbers; any other number is a length in bytes.
+// The rules of a value by their numbers; any other number is a length in bytes. Lengths are multiples of 4, so that no
+// name is.
 pub const VERSIONS: u32 = 1;
 
 pub const SIBLINGS: u32 = 2;
 
 pub const MESSAGE: u32 = 3;
+
+pub const NONZERO: u32 = 5;
 
 // Codes 4 to 7 of a message by a table: of each row three numbers, its tag, MUST or MAY, and the rule of its value.
 pub fn message_code(m: &[u8], t: &[u32]) -> Refusal
@@ -126,7 +130,20 @@ fn value_bad(rule: u32, v: &[u8]) -> bool
     if rule == MESSAGE {
         return false;
     }
+    if rule == NONZERO {
+        return nonzero_bad(v);
+    }
     v.len() != rule as usize
+}
+
+// Not a u32, or 0.
+fn nonzero_bad(v: &[u8]) -> bool
+    ensures { λ r. ⌜ r ≡ nonzeroBad (now (v .entry)) ⌝ }
+{
+    if v.len() != 4 {
+        return true;
+    }
+    le32(v, 0) == 0
 }
 
 // Not 1 to 32 versions of 4 bytes, strictly rising.

@@ -19,10 +19,10 @@ pub const TAG_ORDER: u8 = 5;
 // a needed tag is absent
 pub const TAG_ABSENT: u8 = 6;
 
-// a value's length is wrong, or a version list does not rise
+// a value's length is wrong, a version list does not rise, or RADI is 0
 pub const VALUE: u8 = 7;
 
-// TYPE or the version is wrong
+// TYPE or the version is wrong, VERS lacks it, or both sides know a higher one
 pub const TYPE_OR_VERSION: u8 = 8;
 
 // NONC is not the request's

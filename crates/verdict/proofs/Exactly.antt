@@ -2,12 +2,10 @@
 -- and the sentence are one. The way from the code to the sentence asks that the two packets are bytes.
 use Prim.Native.Nat.{ℕ}
 use mathlib.Core.Path.{_≡_, refl, sym, ap}
-use mathlib.Core.Bool.{Bool, true, false, not, cond}
+use mathlib.Core.Bool.{Bool, false, not}
 use mathlib.Core.List.{List}
 use mathlib.Core.Logic.{_↔_}
-use native.Mathlib.Omega.{arith}
-use borrow.Author.Tests.{eq-eqb, eqb-true, le-ltb, ltb-false, not-false}
-use lib.Dec.{eqb}
+use borrow.Author.Tests.{eq-eqb, le-ltb, ltb-false, not-false}
 use Rattle.refusal.specs.Refusal.{passed, refusals}
 use Rattle.laws.specs.Bytes.{Bytes}
 use Rattle.laws.proofs.Any.{any-not, any-none, any-parts}
@@ -21,22 +19,24 @@ use Rattle.wire.specs.Response.{midpIn, mintIn, maxtIn}
 use Rattle.wire.proofs.GoodRequest.{good-request, request-good}
 use Rattle.wire.proofs.GoodResponse.{good-response, response-good}
 use Rattle.wire.proofs.Versions.{version-test}
-use Rattle.verdict.specs.Check.{versionUnasked, nonceDiffers, pathMisses, timeOutside, answersCode, agreementCode}
-use Rattle.verdict.specs.Check.{checkCode, windowIn, verdictOf}
+use Rattle.verdict.specs.Check.{versionUnasked, versionDowngraded, nonceDiffers, pathMisses, timeOutside}
+use Rattle.verdict.specs.Check.{answersCode, agreementCode, checkCode, windowIn, verdictOf}
 use Rattle.verdict.specs.Passes.{Passes}
 use Rattle.verdict.specs.declared.Verdict.the-variants.{Valid}
 use Rattle.verdict.specs.declared.Window.{Window}
+use Rattle.verdict.proofs.Downgrade.{no-downgrade}
 use Rattle.verdict.proofs.Lent.{lent-good, by-valid, valid-by}
 
 module _ (q p : List ℕ) (d s : Bool) where
   -- where the code is 0, each check passed, and its fact holds
   sound : Bytes q → Bytes p → checkCode q p d s .code ≡ 0 → Passes q p d s
-  unfolding checkCode agreementCode answersCode versionUnasked nonceDiffers pathMisses timeOutside
+  unfolding checkCode agreementCode answersCode versionUnasked versionDowngraded nonceDiffers pathMisses timeOutside
   sound q-bytes p-bytes z =
       let c14 = row-quiet refusals _ _ z in
       let c1 = row-quiet refusals _ _ (c14 .1) in
       let c8 = row-quiet refusals _ _ (row-quiet refusals _ _ (c1 .1) .0) in
-      let c9 = row-quiet refusals _ _ (c8 .1) in
+      let high = row-quiet refusals _ _ (c8 .1) in
+      let c9 = row-quiet refusals _ _ (high .1) in
       let c10 = row-quiet refusals _ _ (c9 .1) in
       let c11 = row-quiet refusals _ _ (c10 .1) in
       let c12 = row-quiet refusals _ _ (row-quiet refusals _ _ (c11 .1) .0) in
@@ -47,6 +47,7 @@ module _ (q p : List ℕ) (d s : Bool) where
         shape = response-good p p-bytes (c1 .0);
         nonce = same-true _ _ (not-false _ (test-quiet refusals _ _ tt (c9 .0)));
         version = version-test _ _ .0 (test-quiet refusals _ _ tt (c8 .0));
+        highest = no-downgrade _ _ _ .0 (test-quiet refusals _ _ tt (high .0));
         path = not-false _ (test-quiet refusals _ _ tt (c10 .0));
         from = ltb-false _ _ (times .0);
         to = ltb-false _ _ (any-parts _ _ (times .1) .0);
@@ -78,6 +79,10 @@ module _ (q p : List ℕ) (d s : Bool) where
     unfolding versionUnasked
     version-asked = sym (version-test _ _ .1 (ok .version))
 
+    version-highest : false ≡ versionDowngraded (body q) (body p)
+    unfolding versionDowngraded
+    version-highest = sym (no-downgrade _ _ _ .1 (ok .highest))
+
     answers-yes : answersCode d s ≡ passed
     unfolding answersCode
     answers-yes =
@@ -90,9 +95,10 @@ module _ (q p : List ℕ) (d s : Bool) where
     agrees =
         sym
         (test-false refusals _ _ version-asked refl
+        (test-false refusals _ _ version-highest refl
         (test-false refusals _ _ nonce-same refl
         (test-false refusals _ _ path-leads refl
-        (test-false refusals _ _ time-inside refl (is-last refusals (sym answers-yes))))))
+        (test-false refusals _ _ time-inside refl (is-last refusals (sym answers-yes)))))))
 
     -- and where every fact holds, the code is 0; this asks nothing of the packets
     pub passes-code : checkCode q p d s .code ≡ 0

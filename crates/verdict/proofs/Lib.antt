@@ -1,4 +1,5 @@
 -- Laws that belong to no one function.
 pub mod Lent
+pub mod Downgrade
 pub mod Exactly
 pub mod Once

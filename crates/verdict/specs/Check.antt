@@ -13,8 +13,9 @@ use Rattle.refusal.specs.declared.Refusal.{Refusal}
 use Rattle.tree.specs.PathCheck.{leadsOf}
 use Rattle.wire.specs.Packet.{body}
 use Rattle.wire.specs.Request.{requestBad}
-use Rattle.wire.specs.Response.{srep, indxIn, verIn, radiIn, midpIn, mintIn, maxtIn, responseCode}
+use Rattle.wire.specs.Response.{srep, indxIn, verIn, versIn, radiIn, midpIn, mintIn, maxtIn, responseCode}
 use Rattle.wire.specs.Versions.{lacksVersion}
+use Rattle.verdict.specs.Downgrade.{downgrades}
 use Rattle.verdict.specs.Window.{windowOf}
 use Rattle.verdict.specs.declared.Verdict.{Verdict}
 use Rattle.verdict.specs.declared.Verdict.the-variants.{Valid, Refused}
@@ -29,6 +30,10 @@ pathLeads q b = leadsOf (leafOf q) (indxIn b) (valueOf b PATH) (valueOf (srep b)
 -- 8: SREP's VER does not stand in the request's VER
 unfoldable pub versionUnasked : List ℕ → List ℕ → Bool
 versionUnasked a b = lacksVersion (valueOf a VER) (verIn b)
+
+-- 8: a version that stands in both VERS and the request's VER is larger than SREP's VER (request P4)
+unfoldable pub versionDowngraded : List ℕ → List ℕ → Bool
+versionDowngraded a b = downgrades (versIn b) (valueOf a VER) (verIn b)
 
 -- 9: NONC differs
 unfoldable pub nonceDiffers : List ℕ → List ℕ → Bool
@@ -51,6 +56,7 @@ unfoldable pub agreementCode : List ℕ → List ℕ → List ℕ → Bool → B
 agreementCode q a b d s =
     first
     (when (versionUnasked a b) 8
+    ∷ when (versionDowngraded a b) 8
     ∷ when (nonceDiffers a b) 9
     ∷ when (pathMisses q b) 10
     ∷ when (timeOutside b) 11

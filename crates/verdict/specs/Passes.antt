@@ -1,4 +1,5 @@
--- When a response is valid, as document 01 says it (draft 19, 5.4): all of these at once. No code stands in it.
+-- When a response is valid, as document 01 and request P4 say it (draft 19, 5.4): all of these at once. No code stands
+-- in it.
 use Prim.Native.Nat.{ℕ, _≤_}
 use mathlib.Core.Path.{_≡_}
 use mathlib.Core.Bool.{Bool, true}
@@ -7,21 +8,24 @@ use Rattle.message.specs.Tags.{VER, NONC}
 use Rattle.message.specs.Values.{valueOf}
 use Rattle.wire.specs.Good.{GoodRequest, GoodResponse}
 use Rattle.wire.specs.Packet.{body}
-use Rattle.wire.specs.Response.{verIn, midpIn, mintIn, maxtIn}
+use Rattle.wire.specs.Response.{verIn, versIn, midpIn, mintIn, maxtIn}
 use Rattle.wire.specs.Versions.{HoldsVersion}
 use Rattle.verdict.specs.Check.{pathLeads}
+use Rattle.verdict.specs.Downgrade.{Downgrade}
 
 -- the response packet p to the request packet q, where d and s say whether the delegation's and the response's
 -- signatures verify
 pub record Passes (q p : List ℕ) (d s : Bool) : Type 0 where
   -- the request lent with it is a good request
   pub request : GoodRequest q
-  -- shapes are right; TYPE and version are right
+  -- shapes are right, RADI is not 0; TYPE and version are right, and VERS holds the version
   pub shape : GoodResponse p
   -- NONC equals the request's
   pub nonce : valueOf (body q) NONC ≡ valueOf (body p) NONC
   -- SREP's VER stands in the request's VER
   pub version : HoldsVersion (valueOf (body q) VER) (verIn (body p))
+  -- no version that stands in both VERS and the request's VER is larger than SREP's VER
+  pub highest : Downgrade (versIn (body p)) (valueOf (body q) VER) (verIn (body p)) → ⊥
   -- the path leads from the request's leaf to ROOT
   pub path : pathLeads q (body p) ≡ true
   -- MINT <= MIDP <= MAXT

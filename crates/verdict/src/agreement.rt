@@ -2,8 +2,9 @@
 ghost use mathlib.Core.Path.{_≡_};
 ghost use mathlib.Core.Bool.{not};
 ghost use Rattle.wire.specs.Facts.{Asks, Shaped};
-ghost use Rattle.verdict.specs.Check.{versionUnasked, nonceDiffers, pathMisses, timeOutside, answersCode};
-ghost use Rattle.verdict.specs.Check.{agreementCode};
+ghost use Rattle.verdict.specs.Check.{versionUnasked, versionDowngraded, nonceDiffers, pathMisses, timeOutside};
+ghost use Rattle.verdict.specs.Check.{answersCode, agreementCode};
+use super::downgrading::downgrades_to;
 use hash::leaf;
 use message::tags::INDX;
 use message::tags::MAXT;
@@ -14,6 +15,7 @@ use message::tags::PATH;
 use message::tags::ROOT;
 use message::tags::SREP;
 use message::tags::VER;
+use message::tags::VERS;
 use message::value_of;
 use octets::equal;
 use refusal::PASSED;
@@ -40,6 +42,9 @@ pub fn agreement_code<'a>(
     ensures { λ r. ⌜ r ≡ agreementCode (now (q .entry)) (now (a .entry)) (now (b .entry)) delegation signature ⌝ }
 {
     if version_unasked(a, b) {
+        return refuse(codes::TYPE_OR_VERSION);
+    }
+    if version_downgraded(a, b) {
         return refuse(codes::TYPE_OR_VERSION);
     }
     if nonce_differs(a, b) {
@@ -73,6 +78,15 @@ fn version_unasked<'a>(a: &'a [u8], b: &'a [u8]) -> bool
     ensures { λ r. ⌜ r ≡ versionUnasked (now (a .entry)) (now (b .entry)) ⌝ }
 {
     lacks_version(a, VER, srep_version(b))
+}
+
+// A version that stands in both VERS and the request's VER is above SREP's.
+fn version_downgraded<'a>(a: &'a [u8], b: &'a [u8]) -> bool
+    requires { ⌜ Asks (now a) × Shaped (now b) ⌝ }
+    ensures { λ r. ⌜ r ≡ versionDowngraded (now (a .entry)) (now (b .entry)) ⌝ }
+{
+    let srep = value_of(b, SREP);
+    downgrades_to(value_of(srep, VERS), value_of(a, VER), srep_version(b))
 }
 
 // NONC is not the request's.

@@ -2,6 +2,7 @@
 // comes out.
 mod agreement;
 mod checking;
+mod downgrading;
 mod windows;
 
 pub use checking::check_response;

@@ -2,28 +2,32 @@
 -- the packet. The direction from the sentences to the code asks nothing of the packet.
 use Prim.Native.Nat.{ℕ}
 use mathlib.Core.Path.{_≡_, refl, sym, ap, _∙_}
-use mathlib.Core.Bool.{true}
+use mathlib.Core.Bool.{true, false}
 use mathlib.Core.List.{List}
 use mathlib.Core.Logic.{_↔_}
 use borrow.Author.Tests.{eqb-true, not-false}
 use Rattle.laws.specs.Bytes.{Bytes}
 use Rattle.laws.specs.Numbers.{le}
 use Rattle.laws.proofs.Bytes.{bytes-drop}
-use Rattle.laws.proofs.First.{says-0, is-last, equal, is-empty, none-quiet, row-quiet, test-quiet}
+use Rattle.laws.proofs.First.{says-0, is-last, test-false, equal, is-empty, none-quiet, row-quiet}
+use Rattle.laws.proofs.First.{test-quiet}
 use Rattle.refusal.specs.Refusal.{passed, refusals}
 use Rattle.message.specs.Encode.{Field, Fields, encode, among, valueAmong}
 use Rattle.message.specs.Rules.{Row, messageCode, message}
 use Rattle.message.specs.Sentences.{Holds, HoldsMessage}
-use Rattle.message.specs.Tags.{VER, DELE, TYPE, SREP, CERT}
+use Rattle.message.specs.Tags.{VER, DELE, TYPE, SREP, VERS, CERT}
 use Rattle.message.specs.Values.{valueOf}
 use Rattle.message.proofs.Edges.{value-bytes}
 use Rattle.message.proofs.Encoded.{value-encoded}
 use Rattle.message.proofs.FieldRows.{AllHeld, all-passes}
 use Rattle.wire.specs.Good.{GoodResponse}
 use Rattle.wire.specs.Packet.{body}
-use Rattle.wire.specs.Response.{srep, cert, dele, typeIn, verIn, shapeCode, responseMessageCode, responseCode}
+use Rattle.wire.specs.Response.{srep, cert, dele, typeIn, verIn, shapeCode, versionUnlisted, responseMessageCode}
+use Rattle.wire.specs.Response.{responseCode}
 use Rattle.wire.specs.Tables.{rootTable, srepTable, certTable, deleTable}
+use Rattle.wire.specs.Versions.{lacksVersion}
 use Rattle.wire.proofs.PacketFields.{fields-value, fields-pass, fields-of, encoded, encoded-held}
+use Rattle.wire.proofs.Versions.{version-test}
 
 -- the value of a tag that is a message, as it is read
 inner-value : (fs : List Field) → Fields fs → (tag : ℕ) (h : HoldsMessage fs tag)
@@ -78,29 +82,32 @@ module _ (p : List ℕ) where
       (says-0 refusals _ _ refl (none-quiet refusals certified) (is-last refusals (sym delegated)))))
 
   response-encoded : (g : GoodResponse p) → responseMessageCode (encode (g .fields)) ≡ passed
-  unfolding responseMessageCode
+  unfolding responseMessageCode versionUnlisted
   response-encoded g =
       let fs = g .fields in
       let ok = g .packet .kept in
+      let within = value-encoded (g .srep .fields) (g .srep .kept) in
+      let signed = inner-value fs ok SREP (g .srep) in
       sym
       (says-0 refusals _ _ refl (none-quiet refusals (shape-encoded g))
       (equal refusals (typeIn (encode fs)) 1 _ _ (rw (value-encoded fs ok TYPE) (g .type-is))
-      (equal refusals (verIn (encode fs)) 1 _ _
-      (rw (inner-value fs ok SREP (g .srep), value-encoded (g .srep .fields) (g .srep .kept) VER) (g .version))
-      (is-empty refusals refl))))
+      (equal refusals (verIn (encode fs)) 1 _ _ (rw (signed, within VER) (g .version))
+      (test-false refusals _ _ refl (rw (signed, within VERS, within VER) (version-test _ _ .1 (g .listed)))
+      (is-empty refusals refl)))))
 
   pub good-response : GoodResponse p → responseCode p .code ≡ 0
   unfolding responseCode
   good-response g = none-quiet refusals (fields-pass responseMessageCode p (g .fields) (g .packet) (response-encoded g))
 
   pub response-good : Bytes p → responseCode p .code ≡ 0 → GoodResponse p
-  unfolding responseCode responseMessageCode shapeCode
+  unfolding responseCode responseMessageCode shapeCode versionUnlisted
   response-good bytes e =
       let m = body p in
       let a = row-quiet refusals _ _ e in
       let b = row-quiet refusals _ _ (row-quiet refusals _ _ (a .1) .0) in
       let t = row-quiet refusals _ _ (b .1) in
       let v = row-quiet refusals _ _ (t .1) in
+      let l = row-quiet refusals _ _ (v .1) in
       let root = row-quiet refusals _ _ (b .0) in
       let signed = row-quiet refusals _ _ (root .1) in
       let certified = row-quiet refusals _ _ (signed .1) in
@@ -120,6 +127,9 @@ module _ (p : List ℕ) where
       let kind : le 4 (valueOf m TYPE) 0 ≡ 1 = eqb-true _ _ (not-false _ (test-quiet refusals _ _ tt (t .0))) in
       let version : le 4 (valueOf (valueOf m SREP) VER) 0 ≡ 1 =
       eqb-true _ _ (not-false _ (test-quiet refusals _ _ tt (v .0))) in
+      let listed : lacksVersion (valueOf (valueOf m SREP) VERS) (le 4 (valueOf (valueOf m SREP) VER) 0) ≡ false =
+      test-quiet refusals _ _ tt (l .0) in
+      let within = value-encoded (answer .holds .fields) (answer .holds .kept) in
       record {
         fields = outer .fields;
         packet = packet;
@@ -141,7 +151,8 @@ module _ (p : List ℕ) where
         mint = key .held .1 .0;
         maxt = key .held .1 .1 .0;
         type-is = rw (fields-value p (outer .fields) packet TYPE) at kind;
-        version = rw (answer .read, value-encoded (answer .holds .fields) (answer .holds .kept) VER) at version;
+        version = rw (answer .read, within VER) at version;
+        listed = version-test _ _ .0 (rw (answer .read, within VERS, within VER) at listed);
       }
 
   -- a response of bytes has none of the codes 1 to 8 exactly where it is good

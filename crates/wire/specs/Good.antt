@@ -1,5 +1,5 @@
--- A good request and a good response, as document 01 says them ("Bytes of a message"; draft 19, sections 4 and 5), over
--- the fields that a packet is made of: no code stands in these sentences. proofs/GoodRequest and proofs/GoodResponse
+-- A good request and a good response, as document 01 and request P4 say them ("Bytes of a message"; draft 19, sections 4
+-- and 5), over the fields that a packet is made of: no code stands in these sentences. proofs/GoodRequest and proofs/GoodResponse
 -- show that, of packets of bytes, they hold exactly where none of the codes 1 to 8 is given.
 use Prim.Native.Nat.{ℕ, _≤_}
 use mathlib.Core.Path.{_≡_}
@@ -7,7 +7,7 @@ use mathlib.Core.List.{List}
 use lib.ListN.{length}
 use Rattle.laws.specs.Numbers.{le}
 use Rattle.message.specs.Encode.{Field, Fields, encode, valueAmong}
-use Rattle.message.specs.Rules.{bytes, versions, siblings}
+use Rattle.message.specs.Rules.{bytes, nonzero, versions, siblings}
 use Rattle.message.specs.Sentences.{Holds, MayHold, HoldsMessage}
 use Rattle.message.specs.Tags.{SIG, VER, SRV, NONC, DELE, TYPE, PATH, RADI, PUBK, MIDP, SREP, VERS, MINT, ROOT, CERT}
 use Rattle.message.specs.Tags.{MAXT, INDX}
@@ -44,10 +44,11 @@ pub record GoodResponse (p : List ℕ) : Type 0 where
   pub type : Holds fields TYPE (bytes 4)
   pub path : Holds fields PATH siblings
   pub indx : Holds fields INDX (bytes 4)
-  -- SREP is a message: VER has 4 bytes, RADI 4, MIDP 8, VERS is a list as VER in a request, and ROOT has 32
+  -- SREP is a message: VER has 4 bytes, RADI is a u32 that is not 0, MIDP has 8, VERS is a list as VER in a request, and
+  -- ROOT has 32
   pub srep : HoldsMessage fields SREP
   pub ver : Holds (srep .fields) VER (bytes 4)
-  pub radi : Holds (srep .fields) RADI (bytes 4)
+  pub radi : Holds (srep .fields) RADI nonzero
   pub midp : Holds (srep .fields) MIDP (bytes 8)
   pub vers : Holds (srep .fields) VERS versions
   pub root : Holds (srep .fields) ROOT (bytes 32)
@@ -59,6 +60,7 @@ pub record GoodResponse (p : List ℕ) : Type 0 where
   pub pubk : Holds (dele .fields) PUBK (bytes 32)
   pub mint : Holds (dele .fields) MINT (bytes 8)
   pub maxt : Holds (dele .fields) MAXT (bytes 8)
-  -- TYPE is 1, and so is SREP's VER
+  -- TYPE is 1, and so is SREP's VER; VERS holds it
   pub type-is : le 4 (valueAmong TYPE fields) 0 ≡ 1
   pub version : le 4 (valueAmong VER (srep .fields)) 0 ≡ 1
+  pub listed : HoldsVersion (valueAmong VERS (srep .fields)) (le 4 (valueAmong VER (srep .fields)) 0)

@@ -1,17 +1,18 @@
--- Reading a response (draft 19, 5.2): codes 1 to 8 in order, and what a good one says.
+-- Reading a response (draft 19, 5.2; request P4): codes 1 to 8 in order, and what a good one says.
 use Prim.Native.Nat.{ℕ}
 use mathlib.Core.List.{List, [], _∷_}
-use mathlib.Core.Bool.{not, cond}
+use mathlib.Core.Bool.{Bool, not, cond}
 use lib.Dec.{eqb}
 use Rattle.laws.specs.Numbers.{le}
 use Rattle.refusal.specs.Refusal.{passed, first, when}
 use Rattle.refusal.specs.declared.Refusal.{Refusal}
 use Rattle.message.specs.Rules.{messageCode}
-use Rattle.message.specs.Tags.{VER, NONC, DELE, TYPE, RADI, MIDP, SREP, MINT, ROOT, CERT, MAXT, INDX}
+use Rattle.message.specs.Tags.{VER, NONC, DELE, TYPE, RADI, MIDP, SREP, VERS, MINT, ROOT, CERT, MAXT, INDX}
 use Rattle.message.specs.Values.{valueOf}
 use Rattle.wire.specs.Packet.{packetCode, body}
 use Rattle.wire.specs.Blank.{zeros32}
 use Rattle.wire.specs.Tables.{rootTable, srepTable, certTable, deleTable}
+use Rattle.wire.specs.Versions.{lacksVersion}
 use Rattle.wire.specs.declared.Response.{Response}
 
 -- the messages within a response's
@@ -24,7 +25,7 @@ cert m = valueOf m CERT
 abbrev pub dele : List ℕ → List ℕ
 dele m = valueOf (cert m) DELE
 
--- what they say in numbers (5.2.3, 5.2.5, 5.2.6, 5.2.7)
+-- what they say in numbers, VERS in a list of them (5.2.3, 5.2.5, 5.2.6, 5.2.7)
 abbrev pub typeIn : List ℕ → ℕ
 typeIn m = le 4 (valueOf m TYPE) 0
 
@@ -33,6 +34,9 @@ indxIn m = le 4 (valueOf m INDX) 0
 
 abbrev pub verIn : List ℕ → ℕ
 verIn m = le 4 (valueOf (srep m) VER) 0
+
+abbrev pub versIn : List ℕ → List ℕ
+versIn m = valueOf (srep m) VERS
 
 abbrev pub radiIn : List ℕ → ℕ
 radiIn m = le 4 (valueOf (srep m) RADI) 0
@@ -60,13 +64,18 @@ shapeCode m =
 unfoldable pub signedCode : List ℕ → Refusal
 signedCode p = first (packetCode p ∷ shapeCode (body p) ∷ [])
 
--- codes 4 to 8: the shape, then that TYPE is 1 and SREP's VER is 1
+-- VERS does not hold SREP's VER (5.2.5)
+unfoldable pub versionUnlisted : List ℕ → Bool
+versionUnlisted m = lacksVersion (versIn m) (verIn m)
+
+-- codes 4 to 8: the shape, then that TYPE is 1, SREP's VER is 1, and VERS holds it
 unfoldable pub responseMessageCode : List ℕ → Refusal
 responseMessageCode m =
     first
     (shapeCode m
     ∷ when (not (eqb (typeIn m) 1)) 8
     ∷ when (not (eqb (verIn m) 1)) 8
+    ∷ when (versionUnlisted m) 8
     ∷ [])
 
 -- codes 1 to 8 of a response packet

@@ -4,9 +4,10 @@ ghost use Rattle.laws.specs.Numbers.{le};
 ghost use Rattle.message.specs.Tags.{VER};
 ghost use Rattle.message.specs.Values.{valueOf};
 ghost use Rattle.wire.specs.Facts.{Shaped};
-ghost use Rattle.wire.specs.Response.{srep, signedCode, responseMessageCode, responseCode, noResponse};
-ghost use Rattle.wire.specs.Response.{responseIn, responseOf};
+ghost use Rattle.wire.specs.Response.{srep, signedCode, versionUnlisted, responseMessageCode, responseCode};
+ghost use Rattle.wire.specs.Response.{noResponse, responseIn, responseOf};
 use super::Response;
+use super::fields::lacks_version;
 use super::fields::number32;
 use super::fields::number64;
 use super::fields::value32;
@@ -21,6 +22,7 @@ use message::tags::ROOT;
 use message::tags::SREP;
 use message::tags::TYPE;
 use message::tags::VER;
+use message::tags::VERS;
 use message::value_of;
 use refusal::PASSED;
 use refusal::Refusal;
@@ -74,7 +76,18 @@ fn response_message_code(m: &[u8]) -> Refusal
     if srep_version(m) != 1 {
         return refuse(codes::TYPE_OR_VERSION);
     }
+    if version_unlisted(m) {
+        return refuse(codes::TYPE_OR_VERSION);
+    }
     PASSED
+}
+
+// VERS does not hold SREP's version.
+fn version_unlisted(m: &[u8]) -> bool
+    requires { ⌜ Shaped (now m) ⌝ }
+    ensures { λ r. ⌜ r ≡ versionUnlisted (now (m .entry)) ⌝ }
+{
+    lacks_version(value_of(m, SREP), VERS, srep_version(m))
 }
 
 // SREP's version.

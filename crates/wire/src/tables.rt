@@ -3,6 +3,7 @@
 use message::MAY;
 use message::MESSAGE;
 use message::MUST;
+use message::NONZERO;
 use message::SIBLINGS;
 use message::VERSIONS;
 use message::tags::CERT;
@@ -69,7 +70,7 @@ pub const SREP_TABLE: [u32; 15] = [
     4,
     RADI,
     MUST,
-    4,
+    NONZERO,
     MIDP,
     MUST,
     8,

@@ -23,9 +23,9 @@ pub enum Refusal {
     TagOrder,
     /// a needed tag is absent
     TagAbsent,
-    /// a value's length is wrong, or a version list does not rise
+    /// a value's length is wrong, a version list does not rise, or RADI is 0
     Value,
-    /// TYPE or the version is wrong
+    /// TYPE or the version is wrong, VERS lacks it, or both sides know a higher one
     TypeOrVersion,
     /// NONC is not the request's
     Nonce,
@@ -101,8 +101,12 @@ impl Refusal {
             Refusal::Frame => "a message's length, number of tags, header or offset is wrong",
             Refusal::TagOrder => "the tags of a message do not rise",
             Refusal::TagAbsent => "a needed tag is absent",
-            Refusal::Value => "a value's length is wrong, or a version list does not rise",
-            Refusal::TypeOrVersion => "TYPE or the version is wrong",
+            Refusal::Value => {
+                "a value's length is wrong, a version list does not rise, or RADI is 0"
+            }
+            Refusal::TypeOrVersion => {
+                "TYPE or the version is wrong, VERS lacks it, or both sides know a higher one"
+            }
             Refusal::Nonce => "NONC is not the request's",
             Refusal::Path => "INDX is too large, or the path does not lead to ROOT",
             Refusal::Time => "MIDP is outside MINT to MAXT",

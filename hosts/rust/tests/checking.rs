@@ -9,7 +9,7 @@ mod support;
 use independent::packet;
 use support::answers::Both;
 use support::damage::{self, set_word};
-use support::packets::{number, ResponseFields};
+use support::packets::{number, radius, versions_near, ResponseFields};
 use support::pairs::{Pair, Question, RULES};
 use support::tally::Tally;
 use support::{hex, Xorshift};
@@ -88,7 +88,7 @@ fn every_depth(seen: &mut Comparison) {
         for _ in 0..50 {
             let pair = Pair::random(&mut seen.random, depth);
             seen.four_ways(&pair, 0);
-            for rule in [9, 10, 10, 10, 11] {
+            for rule in [8, 9, 10, 10, 10, 11] {
                 let mut broken = pair.clone();
                 broken.break_rule(&mut seen.random, rule);
                 seen.four_ways(&broken, rule);
@@ -126,7 +126,7 @@ fn ends(seen: &mut Comparison) {
             .into_iter()
             .chain([last - radius + 1, last - 6, last - 5, last - 4, last - 1, last]);
     for midp in midps {
-        for radi in [0, 1, 5, 1 << 31, u32::MAX - 1, u32::MAX] {
+        for radi in [0, 1, 2, 5, 1 << 31, u32::MAX - 1, u32::MAX] {
             let mut pair = seen.any_pair();
             pair.response.midp = midp;
             pair.response.radi = radi;
@@ -134,7 +134,11 @@ fn ends(seen: &mut Comparison) {
             for mint in [0, before, midp, after, last] {
                 for maxt in [0, before, midp, after, last] {
                     (pair.response.mint, pair.response.maxt) = (mint, maxt);
-                    let due = if mint <= midp && midp <= maxt { 0 } else { 11 };
+                    let due = match radi {
+                        0 => 7,
+                        _ if mint <= midp && midp <= maxt => 0,
+                        _ => 11,
+                    };
                     seen.four_ways(&pair, due);
                 }
             }
@@ -143,15 +147,37 @@ fn ends(seen: &mut Comparison) {
 }
 
 /// What a check has no rule for: the signatures' bytes, the delegated key, the server's versions
-/// and the radius.
+/// that the client does not know, and the radius but for 0.
 fn free_fields(seen: &mut Comparison) {
     for _ in 0..1_500 {
         let mut pair = seen.any_pair();
         let other = ResponseFields::random(&mut seen.random);
         let ResponseFields { sig, cert_sig, pubk, versions, radi, .. } = other;
         pair.response = ResponseFields { sig, cert_sig, pubk, versions, radi, ..pair.response };
+        pair.know_no_better();
         pair.response.trim();
         seen.four_ways(&pair, 0);
+    }
+}
+
+/// Versions on both sides around the one that is right, and radii at their ends.
+fn near_versions(seen: &mut Comparison) {
+    for _ in 0..6_000 {
+        let mut pair = seen.any_pair();
+        pair.request.versions = versions_near(&mut seen.random);
+        pair.response.versions = versions_near(&mut seen.random);
+        pair.response.radi = seen.random.pick(&[0, 1, 1, 1, u32::MAX]);
+        pair.request.trim();
+        pair.response.trim();
+        pair.tie();
+        let due = match &pair {
+            Pair { request, .. } if !request.versions.contains(&1) => 14,
+            Pair { response, .. } if response.radi == 0 => 7,
+            Pair { response, .. } if !response.versions.contains(&1) => 8,
+            _ if pair.talked_down() => 8,
+            _ => 0,
+        };
+        seen.four_ways(&pair, due);
     }
 }
 
@@ -199,10 +225,13 @@ fn changed_requests(seen: &mut Comparison) {
 /// anything by.
 fn crossed(seen: &mut Comparison) {
     for _ in 0..1_000 {
-        let (one, other) = (seen.any_pair().question(), seen.any_pair().question());
+        let (one, other) = (seen.any_pair(), seen.any_pair());
+        let to_another = Pair { response: other.response.clone(), ..one.clone() };
+        let due = if to_another.talked_down() { 8 } else { 9 };
+        seen.ask(&to_another.question(), Some(due));
+        let (one, other) = (one.question(), other.question());
         let size = seen.random.below(packet::MOST + 20);
         let noise = seen.random.bytes(size);
-        seen.ask(&Question { response: other.response.clone(), ..one.clone() }, Some(9));
         seen.ask(&Question { response: one.request.clone(), ..one.clone() }, Some(6));
         seen.ask(&Question { request: one.response.clone(), ..one.clone() }, Some(14));
         seen.ask(
@@ -303,11 +332,12 @@ fn unaligned(seen: &mut Comparison) {
 
 type Group = (&'static str, fn(&mut Comparison));
 
-const GROUPS: [Group; 11] = [
+const GROUPS: [Group; 12] = [
     ("valid at every depth, and each with one rule broken", every_depth),
     ("with a number of too many bits", long_numbers),
     ("with times and radii at their ends", ends),
     ("with other signatures, keys, server's versions and radii", free_fields),
+    ("with versions around the right one, and radii of 0, 1 and 2^32 - 1", near_versions),
     ("with several rules broken and either packet damaged", several_rules),
     ("with another good request", changed_requests),
     ("crossed, or of random bytes", crossed),
@@ -351,8 +381,7 @@ fn windows_are_what_their_numbers_say() {
     let mut pair = Pair::random(&mut random, 0);
     (pair.response.mint, pair.response.maxt) = (0, u64::MAX);
     for _ in 0..2_000 {
-        (pair.response.midp, pair.response.radi) =
-            (number(&mut random), number(&mut random) as u32);
+        (pair.response.midp, pair.response.radi) = (number(&mut random), radius(&mut random));
         let both = pair.question().ask();
         assert_eq!((both.ours, both.independent), (Ok(pair.window()), Ok(pair.window())));
     }

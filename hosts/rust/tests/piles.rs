@@ -10,7 +10,7 @@ use independent::making::{self, pile_of, Made};
 use independent::pile::{MOST_RECORDS, RECORD};
 use independent::report;
 use support::answers::{Answer, Both, Written};
-use support::packets::number;
+use support::packets::{number, radius, versions_near};
 use support::pile_answers::{Asked, Reported};
 use support::piles::{self, Tie, Truth, Wish, BROKEN};
 use support::tally::Tally;
@@ -281,7 +281,7 @@ impl Comparison {
 
 /// A window, so close to others of its kind that some contradict each other and most do not.
 fn close(random: &mut Xorshift) -> (u64, u32) {
-    (1_000 + random.below(60) as u64, random.below(30) as u32)
+    (1_000 + random.below(60) as u64, 1 + random.below(29) as u32)
 }
 
 fn wishes(random: &mut Xorshift, rich: bool, window: fn(&mut Xorshift) -> (u64, u32)) -> Vec<Wish> {
@@ -352,10 +352,10 @@ fn mixed(random: &mut Xorshift) -> Subject {
 /// Times that fall so slowly that it takes `apart` steps for two records to contradict each other,
 /// and then several runs are equally long. Now and then a radius is larger, or a link is broken.
 fn far_apart(random: &mut Xorshift) -> Subject {
-    let (step, apart) = (2 + random.below(20) as u64, 1 + random.below(MOST_RECORDS - 1));
+    let (step, apart) = (3 + random.below(20) as u64, 1 + random.below(MOST_RECORDS - 1));
     let count = apart + 1 + random.below(MOST_RECORDS - apart);
-    // Two radii are as much as one step less takes, or a second more.
-    let radi = (step as usize * (apart - 1) + 1) / 2;
+    // Two radii are as much as one step less takes, or a second more, or two where that is nothing.
+    let radi = 1.max((step as usize * (apart - 1) + 1) / 2);
     let mut wish = |place| {
         let radi = radi as u32 + u32::from(random.once_in(30));
         let tie = if random.once_in(60) { random.pick(&BROKEN) } else { Tie::Linked };
@@ -378,10 +378,26 @@ fn ends_of_time(random: &mut Xorshift) -> Subject {
         ];
         let far = [u64::MAX - 2 * radius - little, 1 << 63, number(random)];
         let midp = if random.once_in(4) { random.pick(&far) } else { random.pick(&midps) };
-        let radii =
-            [0, 1, little as u32, 5, u32::MAX - little as u32, u32::MAX, number(random) as u32];
+        let little = little as u32;
+        let radii = [1, 2, little.max(1), 5, u32::MAX - little, u32::MAX, radius(random)];
         (midp, random.pick(&radii))
     });
+    subject(random, &wishes)
+}
+
+/// Versions around the one that is right in some records, and radii at their ends in some.
+fn near_versions(random: &mut Xorshift) -> Subject {
+    let rich = random.once_in(2);
+    let mut wishes = wishes(random, rich, close);
+    let seldom = random.pick(&[2, 6, 12]);
+    for wish in &mut wishes {
+        if random.once_in(seldom) {
+            wish.versions = Some((versions_near(random), versions_near(random)));
+        }
+        if random.once_in(seldom) {
+            wish.radi = random.pick(&[0, 1, 1, u32::MAX]);
+        }
+    }
     subject(random, &wishes)
 }
 
@@ -446,14 +462,15 @@ fn noise(random: &mut Xorshift) -> Subject {
 
 type Group = (&'static str, usize, fn(&mut Xorshift) -> Subject);
 
-const GROUPS: [Group; 10] = [
+const GROUPS: [Group; 11] = [
     ("valid and linked, in every shape", 4_000, valid),
-    ("with one fault in a record or two", 6_000, one_fault),
-    ("with several faults in some records", 3_000, several_faults),
+    ("with one fault in a record or two", 7_200, one_fault),
+    ("with several faults in some records", 3_600, several_faults),
     ("with links broken in every way", 5_000, broken_links),
-    ("with bad records and broken links anywhere", 10_000, mixed),
+    ("with bad records and broken links anywhere", 12_000, mixed),
     ("with contradictions some places apart", 3_000, far_apart),
     ("with windows at the ends of time", 4_000, ends_of_time),
+    ("with versions around the right one, and radii of 0, 1 and 2^32 - 1", 3_000, near_versions),
     ("that are none, or whose answers are none", 2_000, refused),
     ("with bits turned anywhere", 3_000, flipped),
     ("of random bytes, or in another order", 1_000, noise),
@@ -521,7 +538,7 @@ fn run_of(Made { pile, answers }: &Made) -> Result<(usize, usize), u32> {
 fn the_examples_of_the_document() {
     assert_eq!(run_of(&pile_of(&[(1000, 5), (990, 5)])), Err(18));
     assert_eq!(run_of(&pile_of(&[(1000, 5), (990, 4)])), Ok((0, 1)));
-    assert_eq!(run_of(&pile_of(&[(3, 10), (0, 0)])), Err(18));
+    assert_eq!(run_of(&pile_of(&[(3, 10), (0, 1)])), Err(18));
     assert_eq!(run_of(&pile_of(&[(1000, 10), (1500, 10), (1495, 1), (1400, 10)])), Ok((2, 3)));
     assert_eq!(run_of(&pile_of(&[(100, 1), (90, 1), (80, 1)])), Ok((0, 1)));
     let mut apart = pile_of(&[(100, 1), (95, 20), (80, 1)]);

@@ -11,7 +11,8 @@ use independent::packet;
 use independent::tag::{CERT, DELE, PATH, SREP};
 use std::collections::BTreeSet;
 use support::damage::{self, set_word, Damaged};
-use support::packets::{samples, Kind, Level, Plan, RequestFields, ResponseFields, LEVELS};
+use support::packets::LEVELS;
+use support::packets::{samples, versions_near, Kind, Level, Plan, RequestFields, ResponseFields};
 use support::tally::Tally;
 use support::{answers, hex, Xorshift};
 
@@ -137,6 +138,28 @@ fn good_packets(seen: &mut Comparison) {
     good_requests(seen, &mut shapes);
     good_responses(seen, &mut shapes);
     shapes.check();
+}
+
+/// Versions around the one that is right, and radii at their ends.
+fn near_versions(seen: &mut Comparison) {
+    let mut random = Xorshift::new(0x5eed_0110);
+    for _ in 0..6_000 {
+        let mut request = RequestFields::random(&mut random);
+        request.versions = versions_near(&mut random);
+        request.trim();
+        let due = if request.versions.contains(&1) { 0 } else { 8 };
+        seen.packet(&request.packet(), Some(Kind::Request), Some(due));
+        let mut response = ResponseFields::random(&mut random);
+        response.versions = versions_near(&mut random);
+        response.radi = random.pick(&[0, 1, u32::MAX]);
+        response.trim();
+        let due = match &response {
+            ResponseFields { radi: 0, .. } => 7,
+            ResponseFields { versions, .. } if !versions.contains(&1) => 8,
+            _ => 0,
+        };
+        seen.packet(&response.packet(), Some(Kind::Response), Some(due));
+    }
 }
 
 /// Up to six damages to a packet. Returns how often each code was due to each message.
@@ -452,8 +475,9 @@ type Group = (&'static str, fn(&mut Comparison));
 fn both_sides_read_alike() {
     let tally = Tally::new(&[REQUESTS, RESPONSES, DELEGATIONS, TEXTS, PARTS, CROSSED]);
     let mut seen = Comparison { tally, packets: 0 };
-    let groups: [Group; 13] = [
+    let groups: [Group; 14] = [
         ("good, with every number of pairs, of versions and of siblings", good_packets),
+        ("with versions around the right one, and radii of 0, 1 and 2^32 - 1", near_versions),
         ("with fewer pairs, down to none", fewer_pairs),
         ("with around 32 pairs, and more", more_pairs),
         ("with each field in turn absent, or of every length", each_field),

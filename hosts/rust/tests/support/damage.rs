@@ -74,7 +74,7 @@ pub fn bad_request(random: &mut Xorshift, request: &RequestFields) -> Vec<u8> {
 }
 
 /// The response with damage of any kind. What is seldom met where any value is damaged is done by
-/// itself here: to the packet around the messages, and to TYPE and the version.
+/// itself here: to the packet around the messages, and to TYPE and the versions.
 pub fn bad_response(random: &mut Xorshift, response: &ResponseFields) -> Damaged {
     let mut plan = response.plan();
     match random.below(4) {
@@ -84,7 +84,8 @@ pub fn bad_response(random: &mut Xorshift, response: &ResponseFields) -> Damaged
             Damaged { packet, done: vec![(Level::Outer, code)] }
         }
         1 => {
-            let (level, tag) = random.pick(&[(Level::Outer, TYPE), (Level::Srep, VER)]);
+            let (level, tag) =
+                random.pick(&[(Level::Outer, TYPE), (Level::Srep, VER), (Level::Srep, VERS)]);
             let (value, code) =
                 wrong_value(random, plan.kind, level, tag).expect("it holds no message");
             plan.set(level, tag, &value);
@@ -128,6 +129,9 @@ pub fn wrong_value(
         (Kind::Response, Level::Outer, TYPE) | (Kind::Response, Level::Srep, VER) => {
             Some(another_number(random, 1))
         }
+        (Kind::Response, Level::Srep, VERS) => {
+            Some(list(random.pick(&[&[0][..], &[2], &[0, 2, 9], &[0x0100_0000]])))
+        }
         _ => None,
     };
     match meaning {
@@ -143,7 +147,7 @@ fn another_number(random: &mut Xorshift, right: u32) -> Vec<u8> {
     random.pick(&wrong).to_le_bytes().to_vec()
 }
 
-/// A value of whole words that no message may have at `tag`.
+/// A value of whole words that no message may have at `tag`: most are of a wrong length.
 fn wrong_shape(random: &mut Xorshift, kind: Kind, tag: Tag) -> Vec<u8> {
     match (kind, tag) {
         (_, VERS) | (Kind::Request, VER) => wrong_list(random),
@@ -153,6 +157,7 @@ fn wrong_shape(random: &mut Xorshift, kind: Kind, tag: Tag) -> Vec<u8> {
         }
         (_, SIG) => another_length(random, 64),
         (_, MIDP | MINT | MAXT) => another_length(random, 8),
+        (_, RADI) if random.once_in(2) => vec![0; 4],
         (_, TYPE | VER | RADI | INDX) => another_length(random, 4),
         _ => another_length(random, 32),
     }

@@ -142,15 +142,13 @@ pub struct RequestFields {
 impl RequestFields {
     /// A good request.
     pub fn random(random: &mut Xorshift) -> Self {
-        let versions = client_versions(random);
+        let versions = versions(random);
         let srv = (!random.once_in(3)).then(|| random.array());
         let nonc = random.array();
         let room = if random.once_in(2) { 4 } else { 28 };
         let others = others(random, Kind::Request.known(Level::Outer), room);
         let mut request = RequestFields { versions, srv, nonc, type_number: 0, others };
-        while request.packet().len() > packet::MOST {
-            request.others.pop();
-        }
+        request.trim();
         if random.once_in(2) {
             let size = 4 * random.below(500);
             request.pad(random.pick(&[1036, packet::MOST, size]));
@@ -165,6 +163,13 @@ impl RequestFields {
         let padded = plan.packet().len() + 8;
         if padded <= size && plan.messages[0].len() < 32 && !plan.has(Level::Outer, ZZZZ) {
             self.others.push((ZZZZ, vec![0; size - padded]));
+        }
+    }
+
+    /// Drops other tags until the packet is no longer than it may be.
+    pub fn trim(&mut self) {
+        while self.packet().len() > packet::MOST {
+            self.others.pop();
         }
     }
 
@@ -217,9 +222,9 @@ impl ResponseFields {
             path: (0..random.below(33)).map(|_| random.array()).collect(),
             indx: number(random) as u32,
             version: 1,
-            radi: number(random) as u32,
+            radi: radius(random),
             midp: number(random),
-            versions: server_versions(random),
+            versions: versions(random),
             root: random.array(),
             cert_sig: random.bytes(64),
             pubk: random.array(),
@@ -288,8 +293,13 @@ pub fn number(random: &mut Xorshift) -> u64 {
     random.next().checked_shr(bits).unwrap_or(0)
 }
 
-/// The versions that a client knows: 1 is among them.
-fn client_versions(random: &mut Xorshift) -> Vec<u32> {
+/// A radius of any size but 0.
+pub fn radius(random: &mut Xorshift) -> u32 {
+    1.max(number(random) as u32)
+}
+
+/// The versions that a client or a server knows: 1 is among them.
+fn versions(random: &mut Xorshift) -> Vec<u32> {
     let mut versions = rising(random);
     versions[0] = 1;
     if versions.len() < 32 && random.once_in(4) {
@@ -298,14 +308,21 @@ fn client_versions(random: &mut Xorshift) -> Vec<u32> {
     versions
 }
 
-/// The versions that a server knows. A reader does not ask for 1 to be among them, and now and then
-/// it is not.
-fn server_versions(random: &mut Xorshift) -> Vec<u32> {
-    if random.once_in(4) {
-        rising(random)
+/// Versions around the one that is right, few or as many as there may be; 1 need not be among them.
+pub fn versions_near(random: &mut Xorshift) -> Vec<u32> {
+    let few: [&[u32]; 5] = [&[1], &[1, 2], &[2], &[0, 1], &[1, 0x8000_000c]];
+    if random.once_in(6) {
+        let least = random.below(3) as u32;
+        (least..least + 32).collect()
     } else {
-        client_versions(random)
+        random.pick(&few).to_vec()
     }
+}
+
+/// Whether a client and a server both know a version that is larger than 1, which is the one that
+/// every good response chose.
+pub fn know_better(client: &[u32], server: &[u32]) -> bool {
+    server.iter().any(|version| *version > 1 && client.contains(version))
 }
 
 /// 1 to 32 versions, rising, and all above 1.

@@ -1,10 +1,11 @@
 //! Requests with the responses to them: valid ones, and such as break one of the rules or several.
 //!
-//! A rule is named by the code that it leads to. No breach touches what another is about, so that
-//! the first of all rules that were broken is the one that is due.
+//! A rule is named by the code that it leads to. No breach touches what another is about, where they
+//! are made in the order of the codes, so that the first of all rules that were broken is the one
+//! that is due.
 
 use super::answers::{Both, Said};
-use super::packets::{number, RequestFields, ResponseFields};
+use super::packets::{know_better, number, RequestFields, ResponseFields};
 use super::trees::Walk;
 use super::{hex, Xorshift};
 use independent::hash::{self, Hash};
@@ -12,8 +13,8 @@ use independent::refusal::Refusal;
 use independent::{check, packet};
 use trawlbeacon::{raw, Window};
 
-/// The rules that come after a response's own shape.
-pub const RULES: [u32; 5] = [9, 10, 11, 12, 13];
+/// The rules that come after a response's own shape. Of 8 it is the one that asks for a request.
+pub const RULES: [u32; 6] = [8, 9, 10, 11, 12, 13];
 
 /// Numbers that are not 1, as a library may answer to say that it failed, or that are 1 in some of
 /// their bits.
@@ -49,8 +50,20 @@ impl Pair {
         times.sort_unstable();
         [response.mint, response.midp, response.maxt] = times;
         let mut pair = Pair { request, response, delegation: true, signature: true };
+        pair.know_no_better();
         pair.tie();
         pair
+    }
+
+    /// Makes the server forget each version above 1 that the client knows too.
+    pub fn know_no_better(&mut self) {
+        let known = &self.request.versions;
+        self.response.versions.retain(|version| *version <= 1 || !known.contains(version));
+    }
+
+    /// Whether the server answered with a lower version than both know.
+    pub fn talked_down(&self) -> bool {
+        know_better(&self.request.versions, &self.response.versions)
     }
 
     /// Makes the response tell this window, within the time of its delegation.
@@ -90,6 +103,7 @@ impl Pair {
     /// Breaks one of [`RULES`].
     pub fn break_rule(&mut self, random: &mut Xorshift, rule: u32) {
         match rule {
+            8 => self.break_versions(random),
             9 => self.break_nonce(random),
             10 => self.break_path(random),
             11 => self.break_times(random),
@@ -97,6 +111,24 @@ impl Pair {
             13 => self.signature = false,
             _ => panic!("there is no rule {rule} here"),
         }
+    }
+
+    /// Makes both sides know a version above the one that was chosen. The request is part of the
+    /// leaf, so that the path is led anew: no other rule may be broken yet.
+    fn break_versions(&mut self, random: &mut Xorshift) {
+        if self.request.versions.iter().all(|version| *version <= 1) {
+            let any = random.next() as u32 | 2;
+            self.request.versions.push(random.pick(&[2, any, 0x8000_000c]));
+            self.request.trim();
+        }
+        let above: Vec<u32> =
+            self.request.versions.iter().copied().filter(|version| *version > 1).collect();
+        let versions = &mut self.response.versions;
+        versions.truncate(31);
+        versions.push(random.pick(&above));
+        versions.sort_unstable();
+        self.response.trim();
+        self.tie();
     }
 
     fn break_nonce(&mut self, random: &mut Xorshift) {

@@ -45,7 +45,11 @@ pub const BROKEN: [Tie; 6] = [
 #[derive(Clone, Debug)]
 pub struct Wish {
     pub midp: u64,
+    /// Where it is 0, the response is not damaged as well.
     pub radi: u32,
+    /// The client's versions and the server's, where they are to be other than usual. No rule of
+    /// the response check is broken then, and neither packet damaged.
+    pub versions: Option<(Vec<u32>, Vec<u32>)>,
     /// Whether the packets have every shape that the rules allow, or the plainest.
     pub rich: bool,
     pub tie: Tie,
@@ -62,6 +66,7 @@ impl Wish {
         Wish {
             midp,
             radi,
+            versions: None,
             rich: false,
             tie: Tie::Linked,
             rules: vec![],
@@ -172,7 +177,7 @@ impl Builder {
         let tie = if first { Tie::OtherNonce } else { wish.tie };
         let nonce = nonce(random, tie, self.before.as_deref().unwrap_or(&[]), &mut rand);
         let pair = pair(random, wish, nonce);
-        let mut due = wish.rules.first().copied();
+        let mut due = wrong_versions(&pair).or(wish.rules.first().copied());
         let Question { mut request, mut response, delegation, signature } = pair.question();
         if wish.bad_response {
             let damaged = damage::bad_response(random, &pair.response);
@@ -191,7 +196,8 @@ impl Builder {
             due = Some(16);
         }
         let asked = packet_in(&record, REQUEST).map_or(false, |packet| packet == request)
-            && !wish.bad_request;
+            && !wish.bad_request
+            && pair.request.versions.contains(&1);
         let linked =
             tie == Tie::Linked && self.before.is_some() && asked && pair.request.nonc == nonce;
         self.before = packet_in(&record, RESPONSE);
@@ -231,12 +237,28 @@ fn pair(random: &mut Xorshift, wish: &Wish, nonce: Hash) -> Pair {
     let depth = if wish.rich && random.once_in(3) { random.below(33) } else { random.below(4) };
     let mut pair = if wish.rich { Pair::random(random, depth) } else { plain(random, depth) };
     pair.request.nonc = nonce;
+    if let Some((asked, listed)) = &wish.versions {
+        (pair.request.versions, pair.response.versions) = (asked.clone(), listed.clone());
+        pair.request.trim();
+        pair.response.trim();
+    }
     pair.tell(wish.midp, wish.radi);
     pair.tie();
     for rule in &wish.rules {
         pair.break_rule(random, *rule);
     }
     pair
+}
+
+/// What is due to a pair for its versions or its radius, if anything is.
+fn wrong_versions(pair: &Pair) -> Option<u32> {
+    let Pair { request, response, .. } = pair;
+    match response.radi {
+        _ if !request.versions.contains(&1) => Some(14),
+        0 => Some(7),
+        _ if !response.versions.contains(&1) || pair.talked_down() => Some(8),
+        _ => None,
+    }
 }
 
 /// A pair with no tag that is not needed.
@@ -255,7 +277,7 @@ fn plain(random: &mut Xorshift, depth: usize) -> Pair {
         path: (0..depth).map(|_| random.array()).collect(),
         indx: random.below(1 << depth) as u32,
         version: 1,
-        radi: 0,
+        radi: 1,
         midp: 0,
         versions: vec![1],
         root: [0; 32],

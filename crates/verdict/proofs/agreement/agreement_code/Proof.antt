@@ -1,5 +1,5 @@
 -- `verdict::agreement::agreement_code` meets its contract. Each return is the first refusal of the row.
-use Rattle.laws.proofs.First.{chain, is-last}
+use Rattle.laws.proofs.First.{chain}
 use Rattle.verdict.specs.Check.{agreementCode}
 use borrow.Author.Needs.{needs}
 use Rattle.verdict.proofs.agreement.agreement_code.Statement.{statement}
@@ -25,6 +25,10 @@ returns-5 : tie.Need-returns-5
 unfolding agreementCode
 returns-5 c = search chain depth 9
 
+returns-6 : tie.Need-returns-6
+unfolding agreementCode
+returns-6 c = search chain depth 9
+
 pub agreement-code-spec : {M : Type 1} → statement M
 agreement-code-spec =
     tie.close
@@ -42,4 +46,7 @@ agreement-code-spec =
     (λ c κs. search needs)
     returns-4
     (λ c κs. search needs)
-    returns-5)
+    (λ c κs. search needs)
+    returns-5
+    (λ c κs. search needs)
+    returns-6)

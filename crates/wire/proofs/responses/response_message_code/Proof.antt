@@ -16,6 +16,9 @@ number32-requires c κs =
 srep-version-requires : tie.Need-srep-version-requires
 srep-version-requires c κs = search (shaped, needs)
 
+version-unlisted-requires : tie.Need-version-unlisted-requires
+version-unlisted-requires c κs = search (shaped, needs)
+
 returns : tie.Need-returns
 unfolding responseMessageCode
 returns c = search chain depth 9
@@ -32,6 +35,10 @@ returns-4 : tie.Need-returns-4
 unfolding responseMessageCode
 returns-4 c = search chain depth 9
 
+returns-5 : tie.Need-returns-5
+unfolding responseMessageCode
+returns-5 c = search chain depth 9
+
 pub response-message-code-spec : {M : Type 1} → statement M
 response-message-code-spec =
     tie.close
@@ -44,4 +51,7 @@ response-message-code-spec =
     srep-version-requires
     (λ c κs. search needs)
     returns-3
-    returns-4)
+    version-unlisted-requires
+    (λ c κs. search needs)
+    returns-4
+    returns-5)
