@@ -25,7 +25,8 @@ enum { RESPONSE_LENGTH = sizeof RESPONSE };
 /* Where things stand in that response. In another one they may stand elsewhere: a host that reads
  * them at these places can be deceived. */
 enum { SIG_AT = 68, NONC_AT = 132, TYPE_AT = 164 };
-enum { SREP_AT = 168, SREP_LENGTH = 92, RADI_AT = 212, MIDP_AT = 216, ROOT_AT = 228 };
+enum { SREP_AT = 168, SREP_LENGTH = 92, RADI_AT = 212, MIDP_AT = 216, VERS_AT = 224 };
+enum { ROOT_AT = 228 };
 enum { CERT_SIG_AT = 276, DELE_AT = 340, DELE_LENGTH = 72 };
 enum { PUBK_AT = 364, MINT_AT = 396, MAXT_AT = 404 };
 
@@ -410,6 +411,67 @@ static void expect_noes(const uint8_t *request, size_t n, const uint8_t *respons
     }
 }
 
+/* A response that every call refuses with 7, those too that ask neither for TYPE nor for the
+ * version. */
+static void expect_no_radius(const uint8_t *packet) {
+    uint8_t other[RESPONSE_LENGTH], request[TB_REQUEST_LENGTH] = {0}, out[200];
+    size_t n = sizeof request, m = sizeof other;
+    struct tb_verdict value = {.code = 7};
+    memcpy(other, packet, m);
+    memset(other + RADI_AT, 0, 4);
+    memset(out, 0xee, sizeof out);
+    tb_write_request(KEY, packet + NONC_AT, request, n);
+    expect_refused_response(other, m, 7);
+    expect_refused_parts(other, m, 7);
+    expect_number("delegation text without a radius",
+                  tb_delegation_text(other, m, out, sizeof out).code, 7);
+    expect_number("response text without a radius",
+                  tb_response_text(other, m, out, sizeof out).code, 7);
+    expect_all("the buffer of a text without a radius", out, 0xee, sizeof out);
+    expect_verdict("no radius", tb_check_response(request, n, other, m, 1, 1), value);
+    memset(other + RADI_AT, 0xff, 4);
+    expect_number("the largest radius", tb_read_response(other, m).radi, UINT32_MAX);
+}
+
+/* Puts version 2 into a packet of n bytes, and counts its 4 bytes in the length field and in the
+ * offsets that stand at these places. */
+static size_t add_version(uint8_t *packet, size_t n, size_t at, const size_t *offsets,
+                          size_t count) {
+    memmove(packet + at + 4, packet + at, n - at);
+    memcpy(packet + at, "\2\0\0", 4);
+    packet[8] += 4;
+    for (size_t i = 0; i < count; i++) packet[offsets[i]] += 4;
+    return n + 4;
+}
+
+/* A VERS that lacks the version of the response, and then a second version that the client knows,
+ * the server, or both: only the last is a downgrade. */
+static void expect_versions(const uint8_t *packet) {
+    static const size_t in_request[] = {16, 20, 24, 28}, in_response[] = {32, 36, 184};
+    uint8_t other[RESPONSE_LENGTH + 4], request[TB_REQUEST_LENGTH + 4] = {0};
+    size_t n = TB_REQUEST_LENGTH, m = RESPONSE_LENGTH;
+    struct tb_verdict valid = {0, 3, 1773685571, 1773685568, 1773685574}, version = {.code = 8};
+    memcpy(other, packet, m);
+    tb_write_request(KEY, packet + NONC_AT, request, n);
+    other[VERS_AT] = 2;
+    expect_refused_response(other, m, 8);
+    expect_number("parts without the version in VERS", tb_signed_parts(other, m).code, 0);
+    expect_verdict("no version in VERS", tb_check_response(request, n, other, m, 1, 1), version);
+    other[VERS_AT] = 1;
+    m = add_version(other, m, ROOT_AT, in_response, 3);
+    expect_verdict("a version of the server's",
+                   tb_check_response(request, n, other, m, 1, 1), valid);
+    n = add_version(request, n, 56, in_request, 4);
+    tb_leaf(request, n, other + ROOT_AT + 4);
+    expect_number("the longer request", tb_read_request(request, n).code, 0);
+    expect_number("the longer response", tb_read_response(other, m).code, 0);
+    expect_verdict("a downgrade", tb_check_response(request, n, other, m, 1, 1), version);
+    memcpy(other, packet, RESPONSE_LENGTH);
+    tb_leaf(request, n, other + ROOT_AT);
+    expect_verdict("a version of the client's",
+                   tb_check_response(request, n, other, RESPONSE_LENGTH, 1, 1), valid);
+}
+
 /* The request that the response answers is the one that we write with its nonce. */
 static void expect_checks(const uint8_t *packet) {
     uint8_t request[TB_REQUEST_LENGTH] = {0};
@@ -560,7 +622,7 @@ static void expect_records(const uint8_t *pile) {
                   tb_first_rand_zero(pile + TB_RECORD_LENGTH, TB_RECORD_LENGTH), 0);
     expect_number("tb_contradicts, just not", tb_contradicts(1000, 5, 990, 5), 0);
     expect_number("tb_contradicts, just", tb_contradicts(1000, 5, 990, 4), 1);
-    expect_number("tb_contradicts below 0", tb_contradicts(3, 10, 0, 0), 0);
+    expect_number("tb_contradicts below 0", tb_contradicts(3, 10, 0, 1), 0);
     expect_number("tb_contradicts above 2^64 - 1", tb_contradicts(UINT64_MAX, 0, UINT64_MAX - 1, 1),
                   0);
 }
@@ -657,6 +719,8 @@ int main(void) {
     expect_tree();
     expect_largest_tree();
     expect_checks(packet);
+    expect_no_radius(packet);
+    expect_versions(packet);
     expect_lookups();
     expect_piles();
     expect_all_words();

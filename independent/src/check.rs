@@ -69,6 +69,7 @@ mod tests {
     use super::*;
     use crate::pieces::{put, Pieces};
     use crate::tag::{INDX, MAXT, MIDP, MINT, NONC, PATH, RADI, ROOT, TYPE, VERS};
+    use crate::value::list;
     use crate::{packet, write};
 
     /// A request, and the response that it is the only leaf of.
@@ -136,8 +137,7 @@ mod tests {
     fn versions(asked: &[u32], listed: &[u32]) -> u32 {
         let request = write::request_of(asked, &[1; 32], &[2; 32], 912);
         let (_, mut response) = pair();
-        let listed: Vec<u8> = listed.iter().flat_map(|version| version.to_le_bytes()).collect();
-        put(&mut response.srep, VERS, &listed);
+        put(&mut response.srep, VERS, &list(listed));
         put(&mut response.srep, ROOT, &hash::leaf(&request));
         code(&request, &response, (true, true))
     }
@@ -173,7 +173,7 @@ mod tests {
         let request = write::request_of(&[1, 2], &[1; 32], &[3; 32], 912);
         let (_, mut response) = pair();
         assert_eq!(code(&request, &response, (false, false)), 9);
-        put(&mut response.srep, VERS, &[1, 0, 0, 0, 2, 0, 0, 0]);
+        put(&mut response.srep, VERS, &list(&[1, 2]));
         assert_eq!(code(&request, &response, (false, false)), 8);
     }
 

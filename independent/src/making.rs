@@ -7,8 +7,9 @@
 use crate::hash::{self, Hash};
 use crate::pieces::{put, Pieces};
 use crate::pile::{at, RECORD};
-use crate::tag::{INDX, MIDP, NONC, PATH, RADI, ROOT, ZZZZ};
-use crate::{packet, tree, write};
+use crate::tag::{INDX, MIDP, NONC, PATH, RADI, ROOT, VERS, ZZZZ};
+use crate::value::list;
+use crate::{packet, tree, write, VERSION};
 
 /// A pile and the answers beside it.
 #[derive(Clone, Debug, PartialEq, Eq)]
@@ -33,16 +34,21 @@ pub struct Link {
     pub midp: u64,
     /// RADI.
     pub radi: u32,
+    /// VER of the request: the versions that the client knows.
+    pub asked: Vec<u32>,
+    /// VERS: those that the server knows.
+    pub listed: Vec<u32>,
     /// How many siblings PATH has, 0 to 32.
     pub siblings: usize,
-    /// Bytes of the request, a multiple of 4 from [`LEAST_REQUEST`] to 2,000.
+    /// Bytes of the request, a multiple of 4 from [`LEAST_REQUEST`], and 4 for each version more than
+    /// one, to 2,000.
     pub request_size: usize,
     /// Bytes of the response, a multiple of 4 up to 2,000, or as many as it needs where that is
     /// more.
     pub response_size: usize,
 }
 
-/// Bytes of a request without padding.
+/// Bytes of a request without padding, from a client that knows one version.
 pub const LEAST_REQUEST: usize = 124;
 
 impl Link {
@@ -55,6 +61,8 @@ impl Link {
             nonce: None,
             midp,
             radi,
+            asked: vec![VERSION],
+            listed: vec![VERSION],
             siblings: 0,
             request_size: 1036,
             response_size: 0,
@@ -69,11 +77,9 @@ impl Link {
 
     /// The request that comes after the response `before`.
     pub fn request(&self, before: &[u8]) -> Vec<u8> {
-        write::padded_request(
-            &self.key,
-            &self.nonce_after(before),
-            self.request_size - LEAST_REQUEST,
-        )
+        let more = list(&self.asked).len() - list(&[VERSION]).len();
+        let padding = self.request_size - LEAST_REQUEST - more;
+        write::request_of(&self.asked, &self.key, &self.nonce_after(before), padding)
     }
 
     /// The response to that request, in pieces. The siblings and INDX are without a pattern, and
@@ -91,6 +97,7 @@ impl Link {
         put(&mut pieces.outer, INDX, &indx.to_le_bytes());
         put(&mut pieces.srep, MIDP, &self.midp.to_le_bytes());
         put(&mut pieces.srep, RADI, &self.radi.to_le_bytes());
+        put(&mut pieces.srep, VERS, &list(&self.listed));
         put(&mut pieces.srep, ROOT, &root);
         pad(&mut pieces, self.response_size);
         pieces

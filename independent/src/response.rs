@@ -167,6 +167,7 @@ mod tests {
     use crate::message;
     use crate::pieces::{put, Pairs, Pieces};
     use crate::tag::Tag;
+    use crate::value::list;
 
     fn good() -> Pieces {
         Pieces::good()
@@ -274,11 +275,6 @@ mod tests {
             pieces.lists()[level].extend((0..30).map(|_| (Tag::MAX, vec![])));
             assert_eq!(pieces.clone().code(), Some(4), "message {level}");
         }
-    }
-
-    /// The bytes of a list of versions.
-    fn list(versions: &[u32]) -> Vec<u8> {
-        versions.iter().flat_map(|version| version.to_le_bytes()).collect()
     }
 
     #[test]

@@ -48,6 +48,11 @@ pub fn versions(value: &[u8]) -> Result<Vec<u32>, Refusal> {
     }
 }
 
+/// The value that a list of versions is.
+pub fn list(versions: &[u32]) -> Vec<u8> {
+    versions.iter().flat_map(|version| version.to_le_bytes()).collect()
+}
+
 /// A path of 0 to 32 siblings.
 pub fn path(value: &[u8]) -> Result<Vec<Hash>, Refusal> {
     let path = parts(value)?;
@@ -61,10 +66,6 @@ pub fn path(value: &[u8]) -> Result<Vec<Hash>, Refusal> {
 #[cfg(test)]
 mod tests {
     use super::*;
-
-    fn list(versions: &[u32]) -> Vec<u8> {
-        versions.iter().flat_map(|version| version.to_le_bytes()).collect()
-    }
 
     #[test]
     fn numbers_have_their_lowest_byte_first() {

@@ -5,7 +5,7 @@ use crate::packet;
 use crate::refusal::Refusal;
 use crate::request::TYPE_OF_REQUEST;
 use crate::tag::{NONC, SRV, TYPE, VER, ZZZZ};
-use crate::{hash, VERSION};
+use crate::{hash, value, VERSION};
 
 /// Zeros that bring the message to 1,024 bytes, below which a server need not answer (draft 19,
 /// section 5.1).
@@ -24,9 +24,8 @@ pub fn padded_request(key: &[u8; 32], nonce: &[u8; 32], padding: usize) -> Vec<u
 
 /// The same from a client that knows these versions.
 pub fn request_of(versions: &[u32], key: &[u8; 32], nonce: &[u8; 32], padding: usize) -> Vec<u8> {
-    let versions: Vec<u8> = versions.iter().flat_map(|version| version.to_le_bytes()).collect();
     let pairs: [(_, &[u8]); 5] = [
-        (VER, &versions),
+        (VER, &value::list(versions)),
         (SRV, &hash::srv_value(key)),
         (NONC, nonce),
         (TYPE, &TYPE_OF_REQUEST.to_le_bytes()),

@@ -9,7 +9,7 @@ mod support;
 use independent::packet;
 use support::answers::Both;
 use support::damage::{self, set_word};
-use support::packets::{number, radius, versions_near, ResponseFields};
+use support::packets::{number, radius, versions_near, Kind, Level, ResponseFields};
 use support::pairs::{Pair, Question, RULES};
 use support::tally::Tally;
 use support::{hex, Xorshift};
@@ -183,7 +183,7 @@ fn near_versions(seen: &mut Comparison) {
 
 /// Any rules at once, with damage to the response, to the request, to both or to none.
 fn several_rules(seen: &mut Comparison) {
-    for _ in 0..40_000 {
+    for _ in 0..65_000 {
         let mut pair = seen.any_pair();
         let broken: Vec<u32> = RULES.into_iter().filter(|_| seen.random.once_in(3)).collect();
         for rule in &broken {
@@ -229,10 +229,13 @@ fn crossed(seen: &mut Comparison) {
         let to_another = Pair { response: other.response.clone(), ..one.clone() };
         let due = if to_another.talked_down() { 8 } else { 9 };
         seen.ask(&to_another.question(), Some(due));
+        // A request may have by chance all tags that a response needs.
+        let (plan, needed) = (one.request.plan(), Kind::Response.needed(Level::Outer));
+        let due = needed.iter().any(|tag| !plan.has(Level::Outer, *tag)).then_some(6);
         let (one, other) = (one.question(), other.question());
         let size = seen.random.below(packet::MOST + 20);
         let noise = seen.random.bytes(size);
-        seen.ask(&Question { response: one.request.clone(), ..one.clone() }, Some(6));
+        seen.ask(&Question { response: one.request.clone(), ..one.clone() }, due);
         seen.ask(&Question { request: one.response.clone(), ..one.clone() }, Some(14));
         seen.ask(
             &Question { request: one.response.clone(), response: one.request.clone(), ..one },

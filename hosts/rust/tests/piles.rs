@@ -368,15 +368,15 @@ fn far_apart(random: &mut Xorshift) -> Subject {
 /// Windows at both ends of time, and radii at theirs.
 fn ends_of_time(random: &mut Xorshift) -> Subject {
     let wishes = wishes(random, false, |random| {
-        let (little, radius) = (random.below(12) as u64, u64::from(u32::MAX));
+        let (little, largest) = (random.below(12) as u64, u64::from(u32::MAX));
         let midps = [
             little,
-            radius - little,
-            radius + little,
+            largest - little,
+            largest + little,
             u64::MAX - little,
-            u64::MAX - radius + little,
+            u64::MAX - largest + little,
         ];
-        let far = [u64::MAX - 2 * radius - little, 1 << 63, number(random)];
+        let far = [u64::MAX - 2 * largest - little, 1 << 63, number(random)];
         let midp = if random.once_in(4) { random.pick(&far) } else { random.pick(&midps) };
         let little = little as u32;
         let radii = [1, 2, little.max(1), 5, u32::MAX - little, u32::MAX, radius(random)];
@@ -464,11 +464,11 @@ type Group = (&'static str, usize, fn(&mut Xorshift) -> Subject);
 
 const GROUPS: [Group; 11] = [
     ("valid and linked, in every shape", 4_000, valid),
-    ("with one fault in a record or two", 7_200, one_fault),
+    ("with one fault in a record or two", 8_000, one_fault),
     ("with several faults in some records", 3_600, several_faults),
     ("with links broken in every way", 5_000, broken_links),
     ("with bad records and broken links anywhere", 12_000, mixed),
-    ("with contradictions some places apart", 3_000, far_apart),
+    ("with contradictions some places apart", 4_000, far_apart),
     ("with windows at the ends of time", 4_000, ends_of_time),
     ("with versions around the right one, and radii of 0, 1 and 2^32 - 1", 3_000, near_versions),
     ("that are none, or whose answers are none", 2_000, refused),

@@ -166,7 +166,7 @@ fn near_versions(seen: &mut Comparison) {
 fn damaged_packets(seen: &mut Comparison) -> Tally {
     let mut random = Xorshift::new(0x5eed_0103);
     let mut places = Tally::new(&PLACES);
-    for i in 0..120_000 {
+    for i in 0..135_000 {
         let plan = match i % 3 {
             0 => RequestFields::random(&mut random).plan(),
             _ => ResponseFields::random(&mut random).plan(),

@@ -70,6 +70,28 @@ fn beyond() -> Made {
     made
 }
 
+/// Linked records of which the first three and the last are refused: both sides know a higher
+/// version, VERS lacks that of the response, the radius is 0, both know 32 versions. The others know
+/// higher versions that the other side does not, and contradict each other.
+fn versions() -> Made {
+    let draft = 0x8000_000c;
+    let many: Vec<u32> = (1..=32).collect();
+    let records: [(&[u32], &[u32], u64, u32); 6] = [
+        (&[1, 2], &[1, 2], 300, 1),
+        (&[1], &[2], 200, 1),
+        (&[1], &[1], 150, 0),
+        (&[1, 2], &[1, draft], 100, 1),
+        (&[1, draft], &[0, 1], 90, 1),
+        (&many, &many, 80, u32::MAX),
+    ];
+    let links = records.iter().enumerate().map(|(i, (asked, listed, midp, radi))| Link {
+        asked: asked.to_vec(),
+        listed: listed.to_vec(),
+        ..Link::new(i as u8, *midp, *radi)
+    });
+    making::chain(&links.collect::<Vec<_>>())
+}
+
 /// Two records that contradict each other, with one between them that was not linked.
 fn unlinked() -> Made {
     let mut made = pile_of(&[(100, 1), (95, 20), (80, 1)]);
@@ -95,6 +117,7 @@ fn samples() -> Vec<(&'static str, Made)> {
         ("appendix", appendix::pile()),
         ("beyond", beyond()),
         ("unlinked", unlinked()),
+        ("versions", versions()),
         ("norun", pile_of(&[(80, 1), (90, 1), (100, 1)])),
     ]
 }

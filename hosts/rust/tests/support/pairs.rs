@@ -127,6 +127,7 @@ impl Pair {
         versions.truncate(31);
         versions.push(random.pick(&above));
         versions.sort_unstable();
+        versions.dedup();
         self.response.trim();
         self.tie();
     }

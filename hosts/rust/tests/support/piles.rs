@@ -78,7 +78,7 @@ impl Wish {
 
     /// Wishes for one fault, each kind of which is as likely as another.
     pub fn spoil(&mut self, random: &mut Xorshift) {
-        match random.below(6) {
+        match random.below(7) {
             0 | 1 => self.bad_response = true,
             2 => self.bad_request = true,
             3 => self.bad_layout = true,

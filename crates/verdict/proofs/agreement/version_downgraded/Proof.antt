@@ -1,4 +1,11 @@
 -- `verdict::agreement::version_downgraded` meets its contract.
+use Prim.Native.Nat.{ℕ}
+use mathlib.Core.Path.{_≡_, ap, _∙_}
+use mathlib.Core.List.{List}
+use denote.Ref.{now}
+use Rattle.message.specs.Tags.{VERS}
+use Rattle.message.specs.Values.{valueOf}
+use Rattle.wire.specs.Response.{versIn}
 use Rattle.verdict.specs.Check.{versionDowngraded}
 use borrow.Author.Needs.{needs}
 use Rattle.verdict.proofs.agreement.version_downgraded.Statement.{statement}
@@ -11,13 +18,10 @@ returns : tie.Need-returns
 unfolding versionDowngraded
 returns c =
     let v = c .before .before in
-    rw (
-      c .downgrades-to .ensures,
-      c .before .srep-version .ensures,
-      v .value-of3 .ensures,
-      v .before .value-of2 .ensures,
-      v .before .before .value-of .ensures,
-    )
+    let s = v .before .before in
+    let vers : now (v .before .value-of2 .result) ≡ versIn (now (s .before .before .before .args .b)) =
+    v .before .value-of2 .ensures ∙ ap (λ (m : List ℕ). valueOf m VERS) (s .value-of .ensures) in
+    rw (c .downgrades-to .ensures, vers, v .value-of3 .ensures, c .before .srep-version .ensures)
 
 pub version-downgraded-spec : {M : Type 1} → statement M
 version-downgraded-spec =
