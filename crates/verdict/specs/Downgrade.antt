@@ -1,4 +1,5 @@
--- A server that talks a client down to an older version than both of them know (draft 19, 5.2.5; request P4).
+-- A server that talks a client down to an older version than both of them know (request P4; the two lists are those of
+-- draft 19, 5.1.1 and 5.2.5).
 use Prim.Native.Nat.{ℕ, _*_, _/_, _<_}
 use mathlib.Core.Bool.{Bool, not, _&&_}
 use mathlib.Core.List.{List}
@@ -8,7 +9,8 @@ use Rattle.laws.specs.Least.{somewhere}
 use Rattle.laws.specs.Numbers.{le}
 use Rattle.wire.specs.Versions.{lacksVersion, HoldsVersion}
 
--- as a sentence: there is a v that stands in VERS, stands in the request's VER, and is above the version that was chosen
+-- as a sentence: there is a v that stands in VERS, stands in the request's VER, and is above the version that was
+-- chosen
 pub record Downgrade (vers ver : List ℕ) (chosen : ℕ) : Type 0 where
   pub v : ℕ
   pub listed : HoldsVersion vers v

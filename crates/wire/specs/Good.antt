@@ -1,6 +1,6 @@
--- A good request and a good response, as document 01 and request P4 say them ("Bytes of a message"; draft 19, sections 4
--- and 5), over the fields that a packet is made of: no code stands in these sentences. proofs/GoodRequest and proofs/GoodResponse
--- show that, of packets of bytes, they hold exactly where none of the codes 1 to 8 is given.
+-- A good request and a good response, as document 01 and request P4 say them ("Bytes of a message"; draft 19, 4 and 5),
+-- over the fields that a packet is made of: no code stands in these sentences. proofs/GoodRequest and
+-- proofs/GoodResponse show that, of packets of bytes, they hold exactly where none of the codes 1 to 8 is given.
 use Prim.Native.Nat.{ℕ, _≤_}
 use mathlib.Core.Path.{_≡_}
 use mathlib.Core.List.{List}
@@ -44,8 +44,8 @@ pub record GoodResponse (p : List ℕ) : Type 0 where
   pub type : Holds fields TYPE (bytes 4)
   pub path : Holds fields PATH siblings
   pub indx : Holds fields INDX (bytes 4)
-  -- SREP is a message: VER has 4 bytes, RADI is a u32 that is not 0, MIDP has 8, VERS is a list as VER in a request, and
-  -- ROOT has 32
+  -- SREP is a message: VER has 4 bytes, RADI is a u32 that is not 0, MIDP has 8 bytes, VERS is a list as VER in a
+  -- request, and ROOT has 32
   pub srep : HoldsMessage fields SREP
   pub ver : Holds (srep .fields) VER (bytes 4)
   pub radi : Holds (srep .fields) RADI nonzero

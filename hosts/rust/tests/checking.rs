@@ -31,6 +31,9 @@ struct Comparison {
     random: Xorshift,
     /// Windows that would have started below 0, and such as would have ended above 2^64 - 1.
     cut: [usize; 2],
+    /// Pairs of known fields whose VERS lacked the version, and such as both sides knew better.
+    unlisted: usize,
+    talked_down: usize,
 }
 
 impl Comparison {
@@ -48,6 +51,11 @@ impl Comparison {
     fn pair(&mut self, pair: &Pair, due: u32) {
         let question = pair.question();
         let told = self.ask(&question, Some(due)).ours;
+        if due == 8 {
+            let listed = pair.response.versions.contains(&1);
+            self.unlisted += usize::from(!listed);
+            self.talked_down += usize::from(listed && pair.talked_down());
+        }
         if due != 0 {
             return;
         }
@@ -353,7 +361,8 @@ const GROUPS: [Group; 12] = [
 #[test]
 fn both_sides_check_alike() {
     let (tally, depths) = (Tally::new(&[CHECKS]), Tally::new(&[VALID]));
-    let mut seen = Comparison { tally, depths, random: Xorshift::new(0x5eed_0401), cut: [0; 2] };
+    let random = Xorshift::new(0x5eed_0401);
+    let mut seen = Comparison { tally, depths, random, cut: [0; 2], unlisted: 0, talked_down: 0 };
     for (name, group) in GROUPS {
         let before = seen.tally.answers();
         group(&mut seen);
@@ -370,11 +379,14 @@ fn both_sides_check_alike() {
     );
     let [low, high] = seen.cut;
     println!("{low} of their windows were cut at 0, and {high} at 2^64 - 1");
+    let Comparison { unlisted, talked_down, .. } = seen;
+    println!("{unlisted} pairs with a VERS that lacks the version, and {talked_down} downgrades");
     seen.tally.no_difference();
     assert!(pairs >= 100_000, "there were {pairs} pairs");
     seen.tally.at_least(100, CHECKS, 0..=14);
     seen.depths.at_least(50, VALID, 0..=DEEPEST as u32);
     assert!(low >= 100 && high >= 100, "too few windows were cut");
+    assert!(unlisted >= 1_000 && talked_down >= 1_000, "too few versions were wrong");
 }
 
 /// Fields of small and of large numbers alike, so that the ends are not all that is looked at.

@@ -69,7 +69,7 @@ fn write_texts(tally: &mut Tally, random: &mut Xorshift, packet: &[u8], code: u3
 
 fn write_all_texts(tally: &mut Tally) {
     let mut random = Xorshift::new(0x5eed_0202);
-    for _ in 0..1_500 {
+    for _ in 0..1_700 {
         let mut response = ResponseFields::random(&mut random);
         write_texts(tally, &mut random, &response.packet(), 0);
         let damaged = damage::damaged(&mut random, response.plan());
