@@ -9,21 +9,22 @@
  *     declared as, says;
  *   - out leads to as many writable bytes as out_len, or the array it is declared as, says, is
  *     initialised memory, and overlaps no input.
- * All memory stays the caller's. The functions only read their inputs, allocate nothing, and keep
- * no pointer and no state of their own; an answer is a value of its own. Inputs may overlap each
- * other.
+ * All memory stays the caller's. The functions only read their inputs, but for the state of a hash
+ * in pieces, which starting and taking write; they allocate nothing, and keep no pointer and no
+ * state of their own; an answer is a value of its own. Inputs may overlap each other, but not such
+ * a state.
  *
- * The functions of hashes write the whole of out and cannot fail, and those that answer with a
- * bool cannot either. Every other one takes any bytes and answers with a code: 0 where it passed,
- * or else the first that applies of those that it names, in the order in which it names them.
- * Of a response, 4 to 7 are judged for its outermost message, then SREP, then CERT, then DELE, and
- * 8 comes after them all. A RADI of 0 is a 7 of SREP. 8 is given where TYPE or SREP's VER is not 1,
- * or VERS lacks SREP's VER; where a request is lent, also where its VER lacks SREP's VER, or some
- * version that is larger than SREP's VER stands in both its VER and VERS.
+ * The functions of hashes write the whole of out, and they and those that answer with a bool cannot
+ * fail, but for tb_sha512_take. That one and every other take any bytes and answer with a code: 0
+ * where it passed, or else the first that applies of those that it names, in the order in which it
+ * names them. Of a response, 4 to 7 are judged for its outermost message, then SREP, then CERT,
+ * then DELE, and 8 comes after them all. A RADI of 0 is a 7 of SREP. 8 is given where TYPE or
+ * SREP's VER is not 1, or VERS lacks SREP's VER; where a request is lent, also where its VER lacks
+ * SREP's VER, or some version that is larger than SREP's VER stands in both its VER and VERS.
  *
- * On a refusal out stays as it was, and every other field of the answer is 0, but for the place of
- * a record where the answer has one. What is written stands at the front of out; what follows it
- * stays.
+ * On a refusal out stays as it was, and so does a state; every other field of the answer is 0, but
+ * for the place of a record where the answer has one. What is written stands at the front of out;
+ * what follows it stays.
  */
 #ifndef TRAWLBEACON_H
 #define TRAWLBEACON_H
@@ -169,10 +170,11 @@ static inline const char *tb_code_text(uint32_t code) {
 #define TB_MOST_LEAVES 1024
 #define TB_MOST_ROWS_LENGTH (32 * (2 * TB_MOST_LEAVES - 1))
 
-/* Bytes of stack that are enough for every tree operation. tb_root, tb_path and tb_rows keep a row
- * of TB_MOST_LEAVES nodes there, whatever the number of leaves: 34,576 bytes at the most, measured
- * on aarch64 (hosts/c/stack.c). tb_path_from takes next to nothing, and tb_leads 1,456. */
-#define TB_TREE_STACK 36864
+/* Bytes of stack that are enough for every tree operation; hosts/c/stack.c sees on the machine at
+ * hand whether they are. tb_root, tb_path and tb_rows have room for a row of TB_MOST_LEAVES nodes
+ * there, also where few leaves are built in a shorter one: 34,576 bytes at the most, measured on
+ * aarch64. tb_path_from takes next to nothing, and tb_leads 1,456. */
+#define TB_TREE_STACK 40960
 
 /* Bytes of a record of a list of servers. */
 #define TB_SERVER_LENGTH 64
@@ -211,7 +213,7 @@ void tb_link(const uint8_t *response, size_t response_len, const uint8_t rand[32
  * they were cut. Finishing only reads the state: it can be done again, and more pieces can follow.
  *
  * The state is the caller's, can be copied and kept, and is initialised memory before it is
- * started (struct tb_running state = {0}). One that no start led to does no harm: each function
+ * started ({0} in C, {} in C++). One that no start led to does no harm: each function
  * ends, stays within it and gives the same answer to the same bytes. */
 
 /* The state: the hash value after the whole blocks so far, the bytes that fill no block yet, and
@@ -225,7 +227,8 @@ struct tb_running {
 /* The bytes of a state. */
 #define TB_RUNNING_SIZE 200
 
-/* What the functions below call, with the fields of a state one by one. */
+/* What the functions below call, with the fields of a state one by one, which must not overlap each
+ * other or the piece: call those instead. */
 void tb_sha512_start_fields(uint64_t h[8], uint8_t rest[128], uint64_t *count);
 void tb_leaf_start_fields(uint64_t h[8], uint8_t rest[128], uint64_t *count);
 uint32_t tb_sha512_take_fields(uint64_t h[8], uint8_t rest[128], uint64_t *count,
@@ -240,26 +243,27 @@ static inline void tb_sha512_start(struct tb_running *state) {
     tb_sha512_start_fields(state->h, state->rest, &state->count);
 }
 
-/* Starts the leaf of a request packet: its pieces are those of the packet, and tb_hash_finish
- * gives what tb_leaf gives of the whole. */
+/* Starts the leaf of a request packet, which is the hash of 0x00 and then the packet: the pieces
+ * are those of the packet, and tb_hash_finish gives what tb_leaf gives of the whole. */
 static inline void tb_leaf_start(struct tb_running *state) {
     tb_leaf_start_fields(state->h, state->rest, &state->count);
 }
 
-/* Takes a piece, which must not overlap the state. The code is 30, where the pieces would come to
- * more than 2^64 - 1 bytes; then the state stays as it was. */
+/* Takes a piece, which must not overlap the state. The code is 30, where all that was taken, the
+ * 0x00 of a leaf too, would come to more than 2^64 - 1 bytes; then the state stays as it was. */
 static inline uint32_t tb_sha512_take(struct tb_running *state, const uint8_t *piece,
                                       size_t piece_len) {
     return tb_sha512_take_fields(state->h, state->rest, &state->count, piece, piece_len);
 }
 
-/* The SHA-512 digest of the pieces so far. */
+/* The SHA-512 digest of what was taken so far. */
 static inline void tb_sha512_finish(const struct tb_running *state, uint8_t out[64]) {
     tb_sha512_finish_fields(state->h, state->rest, state->count, out);
 }
 
-/* H of the pieces so far: of a leaf that was started as one; and where the pieces are those of a
- * response and then its rand, what tb_link gives. */
+/* H of what was taken so far. After tb_leaf_start that is the leaf of the packet, as tb_leaf gives
+ * it; where the pieces are a response and then the rand of the next request, it is what tb_link
+ * gives. */
 static inline void tb_hash_finish(const struct tb_running *state, uint8_t out[32]) {
     tb_hash_finish_fields(state->h, state->rest, state->count, out);
 }

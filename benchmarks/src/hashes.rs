@@ -72,7 +72,7 @@ pub fn in_pieces<'a>(data: &'a [u8], limits: &Limits) -> Vec<Subject<'a>> {
     [1, 64, 1_000, 65_536].map(|length| pieces(&data[..1 << 20], length, limits)).into()
 }
 
-/// All hashes that are timed, over the start of `data`, which must have 64 MiB.
+/// All hashes of whole messages that are timed, over the start of `data`, which must have 64 MiB.
 pub fn subjects<'a>(data: &'a [u8], limits: &Limits) -> Vec<Subject<'a>> {
     let array = |at: usize| data[at..at + 32].try_into().expect("32 bytes");
     vec![

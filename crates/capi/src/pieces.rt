@@ -33,7 +33,7 @@ pub extern "C" fn tb_leaf_start_fields(h: &mut [u64; 8], rest: &mut [u8; 128], c
     *count = r.count;
 }
 
-// One piece more: 0, or 30, and the state as it was.
+// One piece more: 0; or 30, and then the state stays.
 #[no_mangle]
 pub extern "C" fn tb_sha512_take_fields(h: &mut [u64; 8], rest: &mut [u8; 128], count: &mut u64, piece: &[u8]) -> u32
     ensures { λ r. ⌜ (r ≡ fedOf (runningOf (now (h .entry)) (now (rest .entry)) (now (count .entry)))
@@ -58,7 +58,7 @@ pub extern "C" fn tb_sha512_take_fields(h: &mut [u64; 8], rest: &mut [u8; 128], 
     told::number(f.refusal)
 }
 
-// The digest of all the pieces so far.
+// The digest of what was taken so far.
 #[no_mangle]
 pub extern "C" fn tb_sha512_finish_fields(h: &[u64; 8], rest: &[u8; 128], count: u64, out: &mut [u8; 64])
     ensures { λ _. ⌜ now (out .exit) ≡ stateDigest (runningOf (now (h .entry)) (now (rest .entry)) count) ⌝ }
@@ -71,7 +71,7 @@ pub extern "C" fn tb_sha512_finish_fields(h: &[u64; 8], rest: &[u8; 128], count:
     *out = digest;
 }
 
-// H of all the pieces so far: the leaf of a packet, or a link.
+// H of what was taken so far: the leaf of a packet, or a link.
 #[no_mangle]
 pub extern "C" fn tb_hash_finish_fields(h: &[u64; 8], rest: &[u8; 128], count: u64, out: &mut [u8; 32])
     ensures { λ _. ⌜ now (out .exit) ≡ hashOf (runningOf (now (h .entry)) (now (rest .entry)) count) ⌝ }

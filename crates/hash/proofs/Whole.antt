@@ -13,17 +13,18 @@ use Rattle.sha512.proofs.State.{digest-is}
 use Rattle.sha512.proofs.Whole.{after-all, taken-all, pieces-whole}
 use Rattle.hash.specs.Hashes.{H32, leafOf, linkOf, hashOf}
 
--- a leaf: from its start, the pieces of the packet
+-- a leaf: from the start of a leaf, the pieces of the packet
 pub leaf-whole : (ps : List (List ℕ)) → length (flat ps) + 1 < 2 ^ 64
     → hashOf (afterAll (stateOf (0x00 ∷ [])) ps) ≡ leafOf (flat ps)
 unfolding hashOf leafOf H32
 leaf-whole ps l =
     ap (λ (m : List ℕ). take 32 m)
     (ap stateDigest
-    (after-all ps (0x00 ∷ []) (omega arith) ∙ ap (λ (m : List ℕ). stateOf (0x00 ∷ m)) (taken-all ps 1 (omega arith)))
+    (after-all ps (0x00 ∷ []) (omega arith)
+    ∙ ap (λ (m : List ℕ). stateOf (0x00 ∷ m)) (taken-all ps (0x00 ∷ []) (omega arith)))
     ∙ digest-is (0x00 ∷ flat ps) (omega arith))
 
--- a link: from any start, the pieces of the response, and then the rand
+-- a link: from the start of a message, the pieces of the response, and then the rand as one piece
 pub link-whole : (ps : List (List ℕ)) (rand : List ℕ) → length (flat ps) + length rand < 2 ^ 64
     → hashOf (afterAll (stateOf []) (ps ++ (rand ∷ []))) ≡ linkOf (flat ps) rand
 unfolding hashOf linkOf H32 flat

@@ -32,6 +32,6 @@ srvOf key = H32 (0xff ∷ key)
 unfoldable pub linkOf : List ℕ → List ℕ → List ℕ
 linkOf response rand = H32 (response ++ rand)
 
--- the first 32 bytes of the digest of what a state has been fed
+-- the first 32 bytes of what finishing answers
 unfoldable pub hashOf : Running → List ℕ
 hashOf r = take 32 (stateDigest r)

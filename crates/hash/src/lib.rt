@@ -61,7 +61,7 @@ pub fn start_leaf() -> Running
     take_piece(start(), b"\x00").state
 }
 
-// H of the pieces that a state has taken: of a leaf, where it began as one; a link, where the rand was the last piece.
+// H of what a state has taken: the leaf, where it began as one; the link, where the rand was the last piece.
 pub fn finish_hash(r: Running) -> [u8; 32]
     ensures { λ d. ⌜ d ≡ hashOf r ⌝ }
 {

@@ -1,4 +1,4 @@
--- A refusal (document 01, "Refusal codes"): its number, where 0 refuses nothing.
+-- A refusal (document 01, "Refusal codes", and the requests): its number, where 0 refuses nothing.
 use Prim.Native.Nat.{ℕ}
 use mathlib.Core.Path.{refl}
 use mathlib.Core.List.{List}

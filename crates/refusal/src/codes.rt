@@ -1,5 +1,6 @@
-// Document 01's table of refusal codes: the numbers with their names. The comment before each is the words that hosts
-// show for it: the header's and the Rust host's tables are taken from here (tools/codes).
+// The table of refusal codes, 1 to 22 document 01's and 30 request P5's: the numbers with their names. The comment
+// before each is the words that hosts show for it: the header's and the Rust host's tables are taken from here
+// (tools/codes).
 
 // the packet has under 12 or over 2,000 bytes
 pub const PACKET_SIZE: u8 = 1;

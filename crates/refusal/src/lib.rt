@@ -4,7 +4,7 @@ ghost use Rattle.refusal.specs.Refusal.{refusal};
 
 pub mod codes;
 
-// The number of document 01's table; 0 refuses nothing.
+// The number of the table in codes; 0 refuses nothing.
 pub struct Refusal {
     pub code: u8,
 }

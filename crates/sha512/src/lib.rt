@@ -21,7 +21,7 @@ pub use pieces::take_piece;
 pub struct Running {
     // the hash value after the whole blocks so far
     pub h: [u64; 8],
-    // the bytes that fill no block yet, at its front
+    // the bytes that fill no block yet, at the front of a block's room
     pub rest: [u8; 128],
     // how many bytes there were
     pub count: u64,

@@ -1,5 +1,5 @@
-// What C is told: the structs of include/trawlbeacon.h, and each answer of the library as one of them, but for where a
-// server was found, which its export tells. No function has a `requires`.
+// What C is told: the structs of include/trawlbeacon.h that are answers, and each answer of the library as one of them,
+// but for where a server was found, which its export tells. No function has a `requires`.
 // Each struct has the header's name, `tb_request` for `TbRequest`. Its code is document 01's number, 0 where nothing
 // was refused; what stands beside a refusal is zeros, but for the place of a record.
 mod building;

@@ -57,8 +57,9 @@ impl Sha512 {
     ///
     /// # Errors
     ///
-    /// [`Refusal::Pieces`] (30) where the pieces would come to more than 2^64 - 1 bytes. The state
-    /// stays as it was then, so that the digest is that of the pieces before.
+    /// [`Refusal::Pieces`] (30) where all that was taken, the 0x00 of a leaf too, would come to more
+    /// than 2^64 - 1 bytes. The state stays as it was then, so that the digest is that of the pieces
+    /// before.
     pub fn update(&mut self, piece: &[u8]) -> Result<(), Refusal> {
         let state = &mut self.state;
         // SAFETY: see raw.
@@ -73,7 +74,7 @@ impl Sha512 {
         })
     }
 
-    /// The SHA-512 digest of the pieces so far.
+    /// The SHA-512 digest of what was taken so far.
     #[must_use]
     pub fn finish(&self) -> Digest {
         let mut out = [0; 64];
@@ -85,8 +86,9 @@ impl Sha512 {
         out
     }
 
-    /// H of the pieces so far: the leaf, of one that began as [`leaf`](Sha512::leaf); and where the
-    /// pieces are those of a response and then its rand, what [`link`](crate::link) gives.
+    /// H of what was taken so far. Of one that began as [`leaf`](Sha512::leaf) that is the leaf of
+    /// the packet; where the pieces are a response and then the rand of the next request, it is what
+    /// [`link`](crate::link) gives.
     #[must_use]
     pub fn finish_hash(&self) -> Hash {
         let mut out = [0; 32];

@@ -3,12 +3,13 @@
 //!
 //! A slice is passed as a pointer and then a length. The pointer must not be null, whatever the
 //! length. A reference to an array is a plain pointer to C, and says here how many bytes it must
-//! lead to. What is written to must be initialised, and must overlap nothing that is read.
+//! lead to. What is written to must be initialised, and must overlap nothing else that is read or
+//! written.
 //!
 //! Why the safe functions of this package are sound: the library only reads its inputs, only writes
-//! within `out` and a state that it is lent, and keeps no pointer. A Rust slice's pointer is never null, also where the slice
-//! is empty; what it leads to is initialised; and a mutable one, or a new array that is filled with
-//! zeros first, overlaps no other.
+//! within `out` and a state that it is lent, and keeps no pointer. A Rust slice's pointer is never
+//! null, also where the slice is empty; what it leads to is initialised; and a mutable one, or a new
+//! array that is filled with zeros first, overlaps no other.
 
 #![allow(non_camel_case_types)]
 
@@ -18,7 +19,7 @@
 pub struct tb_running {
     /// The hash value after the whole blocks so far.
     pub h: [u64; 8],
-    /// The bytes that fill no block yet, at its front.
+    /// The bytes that fill no block yet, at the front of a block's room.
     pub rest: [u8; 128],
     /// How many bytes there were.
     pub count: u64,
@@ -213,9 +214,9 @@ extern "C" {
         piece: *const u8,
         piece_len: usize,
     ) -> u32;
-    /// The SHA-512 digest of the pieces so far.
+    /// The SHA-512 digest of what was taken so far.
     pub fn tb_sha512_finish_fields(h: &[u64; 8], rest: &[u8; 128], count: u64, out: &mut [u8; 64]);
-    /// H of the pieces so far.
+    /// H of what was taken so far.
     pub fn tb_hash_finish_fields(h: &[u64; 8], rest: &[u8; 128], count: u64, out: &mut [u8; 32]);
 
     /// Reads a request.

@@ -202,13 +202,16 @@ mod tests {
 
     #[test]
     fn each_number_stands_for_one_refusal() {
-        let all: Vec<Refusal> = (0..=1_000).filter_map(Refusal::from_code).collect();
-        assert!(!all.is_empty());
-        for refusal in &all {
-            assert_eq!(Refusal::from_code(refusal.code()), Some(*refusal));
-            assert_eq!(refusal.to_string(), refusal.words());
-            assert_eq!(Refusal::check(refusal.code()), Err(*refusal));
+        let mut known = 0;
+        for number in 0..=1_000 {
+            if let Some(refusal) = Refusal::from_code(number) {
+                assert_eq!(refusal.code(), number);
+                assert_eq!(refusal.to_string(), refusal.words());
+                assert_eq!(Refusal::check(number), Err(refusal));
+                known += 1;
+            }
         }
+        assert!(known > 0);
         assert_eq!(Refusal::check(0), Ok(()));
         assert_eq!(Refusal::from_code(u32::MAX), None);
     }

@@ -1,5 +1,5 @@
-//! A message in pieces: however it is cut, its digest must be that of the whole, which the
-//! independent implementation says.
+//! A message in pieces: however it is cut, its digest must be that of the whole, which NIST's file or
+//! the independent implementation says.
 
 mod support;
 
@@ -125,8 +125,8 @@ fn more_than_the_count_can_say() {
     println!("around 2^64 - 1 bytes: {refused} pieces refused with 30, {taken} taken");
 }
 
-/// What becomes of a state that no start led to, by the words of the header: what waits is what the
-/// count says, of any bytes; the rest is FIPS 180-4's.
+/// A state that no start led to: the same answer to the same bytes, and the same digest where the
+/// piece is cut in two. What that answer is, is proved and not tried here.
 #[test]
 fn made_up_states_do_no_harm() {
     let mut random = Xorshift::new(0x5eed_0504);
@@ -140,7 +140,7 @@ fn made_up_states_do_no_harm() {
         assert_eq!(one.update(&piece), other.update(&piece), "state {i}");
         assert_eq!(one.state(), other.state(), "state {i}");
         assert_eq!(one.finish(), other.finish(), "state {i}");
-        // In two pieces it comes to the same hash value and the same bytes that wait.
+        // In two pieces it has the same digest.
         let mut cut = Sha512::from(state);
         let (first, second) = piece.split_at(random.below(length + 1));
         let both = cut.update(first).and_then(|()| cut.update(second));

@@ -1,11 +1,7 @@
 -- `hash::start_leaf` meets its contract.
-use mathlib.Core.Path.{refl, ap, _∙_}
 use mathlib.Core.List.{[], _∷_}
 use native.Mathlib.Omega.{arith}
-use Rattle.sha512.specs.State.{fedOf}
-use Rattle.sha512.specs.declared.Fed.{Fed}
-use Rattle.sha512.specs.declared.Running.{Running}
-use Rattle.sha512.proofs.Whole.{piece-taken}
+use Rattle.sha512.proofs.Whole.{then}
 use borrow.Author.Needs.{needs}
 use Rattle.hash.proofs.start_leaf.Statement.{statement}
 use Rattle.hash.proofs.start_leaf.Tie as tie
@@ -14,9 +10,8 @@ returns : tie.Need-returns
 returns c =
     let at-take = c .before in
     let at-start = at-take .before .before in
-    ap (λ (f : Fed). f .state)
-    (at-take .take-piece .ensures ∙ ap (λ (r : Running). fedOf r (0x00 ∷ [])) (at-start .start .ensures))
-    ∙ piece-taken [] (0x00 ∷ []) (omega arith) refl
+    then [] (0x00 ∷ []) (omega arith) (at-start .start .result) (at-take .take-piece .result) (omega arith)
+    (at-start .start .ensures) (at-take .take-piece .ensures)
 
 pub start-leaf-spec : {M : Type 1} → statement M
 start-leaf-spec =
