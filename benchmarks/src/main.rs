@@ -42,6 +42,7 @@ const PIECES: Table = Table {
     width: 22,
     unit: "MB/s",
     sides: &[Side::Ours, Side::Whole],
+    digits: 1,
     show: |length, seconds| length as f64 / seconds / 1e6,
 };
 

@@ -113,10 +113,10 @@ int main(void) {
     }
     /* What a call of nothing takes is not the library's, but stands on the same stack. */
     size_t pages = (most + PAGE - 1) / PAGE * PAGE;
-    int fits = most - before <= TB_TREE_STACK, enough = all_end_on(pages);
+    int fits = most - before <= TB_TREE_STACK, enough = all_end_on(TB_TREE_STACK);
     int needed = !all_end_on(pages - PAGE);
-    printf("the most is %zu bytes, of %d that the header says; all end on %zu bytes: %s, on a page "
-           "less: %s\n",
-           most - before, TB_TREE_STACK, pages, enough ? "yes" : "NO", needed ? "no" : "YES");
+    printf("the most is %zu bytes; all end on the %d that the header says: %s, on %zu: %s\n",
+           most - before, TB_TREE_STACK, enough ? "yes" : "NO", pages - PAGE,
+           needed ? "no" : "YES");
     return fits && enough && needed ? 0 : 1;
 }

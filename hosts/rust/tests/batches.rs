@@ -23,7 +23,7 @@ const CHANGED: &str = "sibling changed";
 const SWAPPED: &str = "siblings swapped";
 const DRAFT_13: &str = "draft 13's ROOT";
 
-/// How many requests the batches have: 1 to 64, and then numbers around the next powers of two, up
+/// How many requests the batches have: 1 to 65, and then numbers around the next powers of two, up
 /// to the most, and what a class on a Saturday brings.
 fn sizes() -> impl Iterator<Item = usize> {
     (1..=65).chain([511, 512, 513, 900, MOST_LEAVES - 1, MOST_LEAVES])
@@ -225,8 +225,14 @@ fn responses_of_a_draft_19_server_are_taken() {
     let tally = Tally::new(&[SENT, TURNED, LONG, CHANGED, SWAPPED, DRAFT_13]);
     let mut seen = Comparison { tally, random: Xorshift::new(0x5eed_0b01), built: 0 };
     let groups: [Group; 2] = [
-        ("batches of 1 to 1,024 different requests, every leaf", different_requests),
-        ("batches of 1 to 1,024 equal requests, every leaf", equal_requests),
+        (
+            "batches of 1 to 65, 511 to 513, 900, 1,023 and 1,024 different requests, every leaf",
+            different_requests,
+        ),
+        (
+            "batches of 1 to 65, 511 to 513, 900, 1,023 and 1,024 equal requests, every leaf",
+            equal_requests,
+        ),
     ];
     for (name, group) in groups {
         let before = seen.tally.answers();

@@ -17,8 +17,8 @@ const PATHS: &str = "paths";
 const ROWS: &str = "rows";
 const PATHS_FROM: &str = "paths from rows";
 
-/// Numbers of leaves at which something ends or begins: the row that is built in, a level, and what
-/// a class on a Saturday brings.
+/// Numbers of leaves at which something ends or begins: a level, or what a class on a Saturday
+/// brings. Where the short row ends (32) is among the small ones.
 const CHOSEN: [usize; 12] = [1, 2, 3, 63, 64, 65, 511, 512, 513, 900, 1023, MOST_LEAVES];
 
 /// Some numbers of leaves: all of the small ones, and the chosen ones.
