@@ -10,11 +10,12 @@ use lib.ListN.{length}
 use Rattle.laws.specs.Any.{any}
 use Rattle.laws.specs.First.{firstOf, whenOf}
 use Rattle.laws.proofs.Any.{any-not, any-none, any-parts}
-use Rattle.laws.proofs.First.{quiet-of}
-use Rattle.refusal.specs.Refusal.{refusals, first, when}
+use Rattle.laws.proofs.First.{quiet-of, first-keeps, when-keeps, end-keeps}
+use Rattle.refusal.specs.Refusal.{refusals, first, whenAt, passed}
 use Rattle.refusal.specs.declared.Refusal.{Refusal}
-use Rattle.message.specs.Frame.{lengthBad, countBad, offsetsBad, tagsBad, frameCode}
-use Rattle.message.specs.Rules.{Row, row, someAbsent, someBroken, messageCode}
+use Rattle.message.specs.Frame.{lengthBad, countBad, offsetsBad, tagsBad, badOffsetPlace, lowTagPlace}
+use Rattle.message.specs.Frame.{frameCode}
+use Rattle.message.specs.Rules.{Row, row, someAbsent, someBroken, brokenPlace, messageCode}
 use Rattle.message.specs.Sentences.{Good, TagsRise, TagsThere, KeepsRule, ValuesRight}
 use Rattle.message.specs.Values.{has, valueOf}
 use Rattle.message.proofs.Tests.{length-test, count-test, offsets-test, tags-test, absent-test, broken-test}
@@ -121,29 +122,41 @@ frame-test m = (
 )
 
 -- the row of its checks gives the code that the tests tell
-frame-row : (a b c d : Bool)
-    → first (when a 4 ∷ when b 4 ∷ when c 4 ∷ when d 5 ∷ []) .code ≡ told (any (a ∷ b ∷ c ∷ [])) d false false
+frame-row : (a b c d : Bool) (x y : ℕ)
+    → first (whenAt a 4 0 ∷ whenAt b 4 0 ∷ whenAt c 4 x ∷ whenAt d 5 y ∷ []) .code
+    ≡ told (any (a ∷ b ∷ c ∷ [])) d false false
 unfolding told any firstOf whenOf
-frame-row true b c d = refl
-frame-row false true c d = refl
-frame-row false false true d = refl
-frame-row false false false true = refl
-frame-row false false false false = refl
+frame-row true b c d x y = refl
+frame-row false true c d x y = refl
+frame-row false false true d x y = refl
+frame-row false false false true x y = refl
+frame-row false false false false x y = refl
 
 -- a code of the frame comes before those of the table
-table-row : (x : Refusal) (a b c d : Bool) → x .code ≡ told a b false false
-    → first (x ∷ when c 6 ∷ when d 7 ∷ []) .code ≡ told a b c d
+table-row : (x : Refusal) (a b c d : Bool) (y : ℕ) → x .code ≡ told a b false false
+    → first (x ∷ whenAt c 6 0 ∷ whenAt d 7 y ∷ []) .code ≡ told a b c d
 unfolding told firstOf whenOf
-table-row x true b c d e = rw e
-table-row x false true c d e = rw e
-table-row x false false true d e = rw e
-table-row x false false false true e = rw e
-table-row x false false false false e = rw e
+table-row x true b c d y e = rw e
+table-row x false true c d y e = rw e
+table-row x false false true d y e = rw e
+table-row x false false false true y e = rw e
+table-row x false false false false y e = rw e
+
+-- a refusal whose number is 0 has no place
+abbrev Honest : Refusal → Type 0
+Honest r = r .code ≡ 0 → r ≡ passed
+
+-- that holds of a row which begins with a test, where it holds of the rest
+at-honest : (b : Bool) (n place : ℕ) (row : List Refusal) → (n ≡ 0 → ⊥) → Honest (first row)
+    → Honest (first (whenAt b n place ∷ row))
+at-honest b n place row p h =
+    first-keeps refusals Honest _ _ (when-keeps refusals Honest b _ (λ t e. absurd (p e)) (λ e. refl)) (λ a. h)
 
 module _ (m : List ℕ) where
   frame-told : frameCode m .code ≡ told (frameBad m) (tagsBad m) false false
   unfolding frameCode
-  frame-told = frame-row (lengthBad m) (countBad m) (offsetsBad m) (tagsBad m)
+  frame-told =
+      frame-row (lengthBad m) (countBad m) (offsetsBad m) (tagsBad m) (badOffsetPlace m) (lowTagPlace m)
 
   -- neither 4 nor 5
   pub frame-0 : frameCode m .code ≡ 0 ↔ (Good m × TagsRise m)
@@ -155,6 +168,15 @@ module _ (m : List ℕ) where
       nothing : false ≡ false ↔ record {}
       nothing = (λ e. record {}, λ g. refl)
 
+  -- where the number is 0 there is no place either: nothing is refused
+  pub frame-passed : frameCode m .code ≡ 0 → frameCode m ≡ passed
+  unfolding frameCode
+  frame-passed =
+      at-honest (lengthBad m) _ _ _ (λ z. omega arith)
+      (at-honest (countBad m) _ _ _ (λ z. omega arith)
+      (at-honest (offsetsBad m) _ _ _ (λ z. omega arith)
+      (at-honest (tagsBad m) _ _ _ (λ z. omega arith) (end-keeps refusals Honest (λ e. refl)))))
+
   -- the same of a code that a check gave
   pub frame-good : (x : Refusal) → x ≡ frameCode m → x .code ≡ 0 → Good m
   frame-good x e z = frame-0 .0 (quiet-of refusals e z) .0
@@ -162,7 +184,9 @@ module _ (m : List ℕ) where
 module _ (m : List ℕ) (rows : List Row) where
   code-told : messageCode m rows .code ≡ told (frameBad m) (tagsBad m) (someAbsent m rows) (someBroken m rows)
   unfolding messageCode
-  code-told = table-row (frameCode m) (frameBad m) (tagsBad m) (someAbsent m rows) (someBroken m rows) (frame-told m)
+  code-told =
+      table-row (frameCode m) (frameBad m) (tagsBad m) (someAbsent m rows) (someBroken m rows) (brokenPlace m rows)
+      (frame-told m)
 
   pub code-4 : messageCode m rows .code ≡ 4 ↔ (Good m → ⊥)
   code-4 = rw code-told (told-4 _ _ _ _ (frame-test m) (tags-test m) (absent-test m rows) (broken-test m rows))
@@ -178,6 +202,14 @@ module _ (m : List ℕ) (rows : List Row) where
 
   pub code-0 : messageCode m rows .code ≡ 0 ↔ (Good m × TagsRise m × TagsThere m rows × ValuesRight m rows)
   code-0 = rw code-told (told-0 _ _ _ _ (frame-test m) (tags-test m) (absent-test m rows) (broken-test m rows))
+
+  -- where the number is 0 there is no place either: nothing is refused
+  pub code-passed : messageCode m rows .code ≡ 0 → messageCode m rows ≡ passed
+  unfolding messageCode
+  code-passed =
+      first-keeps refusals Honest _ _ (frame-passed m)
+      (λ a. at-honest (someAbsent m rows) _ _ _ (λ z. omega arith)
+      (at-honest (someBroken m rows) _ _ _ (λ z. omega arith) (end-keeps refusals Honest (λ e. refl))))
 
   -- the same of a code that a check gave
   pub message-good : (x : Refusal) → x ≡ messageCode m rows → x .code ≡ 0 → Good m

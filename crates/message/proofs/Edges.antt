@@ -8,13 +8,14 @@ use native.Mathlib.Omega.{arith}
 use borrow.Author.Tests.{lt-ltb, le-ltb, ne-eqb}
 use mathlib.Core.List.{List, []}
 use mathlib.Core.Bool.{Bool, true, false, cond}
-use lib.ListN.{take, drop}
+use lib.ListN.{length, take, drop}
 use lib.Dec.{ltb}
 use Rattle.laws.specs.Bytes.{Bytes}
 use Rattle.laws.proofs.Bytes.{bytes-drop, bytes-take}
+use Rattle.laws.proofs.Least.{least-le}
 use Rattle.message.specs.Frame.{count, offset, section, edge}
 use Rattle.message.specs.Sentences.{Good}
-use Rattle.message.specs.Values.{indexOf, has, valueAt, valueOf}
+use Rattle.message.specs.Values.{isTag, indexOf, has, valueAt, valueOf, valueStart}
 
 module _ (m : List ℕ) where
   pub edge-first : edge m 0 ≡ 0
@@ -32,6 +33,11 @@ module _ (m : List ℕ) where
 -- value k stands in the value section
 abbrev pub Inside : List ℕ → ℕ → Type 0
 Inside m k = (edge m k ≤ edge m (k + 1)) × (edge m (k + 1) ≤ section m)
+
+-- the place of a tag is at most the number of tags
+pub index-in : (m : List ℕ) (tag : ℕ) → indexOf m tag ≤ count m
+unfolding indexOf
+index-in m tag = least-le (isTag m tag) (count m)
 
 module _ (m : List ℕ) (g : Good m) where
   -- each edge before the last is within the value section
@@ -56,6 +62,18 @@ module _ (m : List ℕ) (g : Good m) where
       inner l =
           rw (edge-inner m (k + 1) (omega arith) (omega arith))
           (edge-order k (omega arith), g .offsets .inside (k + 1) (omega arith) (omega arith))
+
+  -- so does each start, the end of the last one too,
+  pub edge-within : (k : ℕ) → k ≤ count m → edge m k ≤ section m
+  edge-within k h = ⊎-elim at-last (edge-in k) (eq-or-lt-of-le h)
+    where
+      at-last : k ≡ count m → edge m k ≤ section m
+      at-last e = rw (e, edge-last m (g .head .one)) (le-refl (section m))
+
+  -- and so the value of a tag starts in the message, or at its end
+  pub start-in : (tag : ℕ) → valueStart m tag ≤ length m
+  unfolding valueStart
+  start-in tag = omega (arith, edge-within (indexOf m tag) (index-in m tag), g .head .fits)
 
 -- the value of a tag that is there, as code finds it: there are n tags, the tag's place is k, and the value runs from x
 -- to y

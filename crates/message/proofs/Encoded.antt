@@ -14,12 +14,12 @@ use lib.Seq.{getD-append-add, drop-append-add}
 use Rattle.laws.specs.Least.{least}
 use Rattle.laws.specs.Numbers.{le}
 use Rattle.laws.proofs.Least.{least-same, least-front}
-use Rattle.refusal.specs.Refusal.{refusal, passed}
+use Rattle.refusal.specs.Refusal.{passed}
 use Rattle.message.specs.Encode.{Field, Fields, words, offsets, tags, values, encode, field, among, valueAmong}
 use Rattle.message.specs.Frame.{count, tagAt, section, edge, offset, frameCode}
 use Rattle.message.specs.Sentences.{Good}
 use Rattle.message.specs.Values.{isTag, indexOf, has, valueAt, valueOf}
-use Rattle.message.proofs.Codes.{frame-0}
+use Rattle.message.proofs.Codes.{frame-0, frame-passed}
 use Rattle.message.proofs.Edges.{edge-first, edge-inner, edge-last}
 use Rattle.message.proofs.Positions.{blank, reach, length-words, word-at, length-tags, tag-of, length-offsets}
 use Rattle.message.proofs.Positions.{offset-of, reach-next, reach-in, reach-all, value-of-field}
@@ -116,7 +116,7 @@ module _ (fs : List Field) (ok : Fields fs) where
           inside = λ k o h. inside k o (rw c at h);
         };
       } in
-      ap refusal (frame-0 (encode fs) .1 (g, λ k h. rise k (rw c at h)))
+      frame-passed (encode fs) (frame-0 (encode fs) .1 (g, λ k h. rise k (rw c at h)))
     where
       four : (k : ℕ) → 1 ≤ k → k < length fs → offset (encode fs) k % 4 ≡ 0
       four k o h = rw (offset-encoded k o h) (reach-four k (omega arith))

@@ -1,6 +1,6 @@
 -- Fields and a table: the message of fields has none of the codes 4 to 7 exactly where the fields keep each row.
 use Prim.Native.Nat.{ℕ, zero, suc, suc-le-suc, _<_}
-use mathlib.Core.Path.{_≡_, refl, sym, ap, _∙_}
+use mathlib.Core.Path.{_≡_, refl, sym, _∙_}
 use mathlib.Core.Bool.{Bool, true, false, not, _&&_, true≢false}
 use mathlib.Core.List.{List, [], _∷_}
 use native.Mathlib.Nat.{le-of-suc-le-suc, not-suc-le-zero}
@@ -8,11 +8,11 @@ use native.Mathlib.Omega.{arith}
 use borrow.Author.Tests.{not-false}
 use lib.ListN.{length}
 use Rattle.laws.proofs.First.{none-quiet}
-use Rattle.refusal.specs.Refusal.{refusal, passed, refusals}
+use Rattle.refusal.specs.Refusal.{passed, refusals}
 use Rattle.message.specs.Encode.{Field, Fields, encode, among, valueAmong}
 use Rattle.message.specs.Rules.{Rule, Row, row, valueBad, messageCode}
 use Rattle.message.specs.Sentences.{Holds, MayHold, KeepsRule, TagsThere, ValuesRight}
-use Rattle.message.proofs.Codes.{frame-0, code-0}
+use Rattle.message.proofs.Codes.{frame-0, code-0, code-passed}
 use Rattle.message.proofs.Encoded.{encode-good, has-encoded, value-encoded}
 use Rattle.message.proofs.Tests.{and-test, value-test}
 
@@ -59,7 +59,7 @@ module _ (fs : List Field) (ok : Fields fs) (rows : List Row) where
   held-passes : ((k : ℕ) → k < length rows → RowHeld fs (row rows k)) → messageCode (encode fs) rows ≡ passed
   held-passes h =
       let f = frame-0 (encode fs) .0 (none-quiet refusals (encode-good fs ok)) in
-      ap refusal (code-0 (encode fs) rows .1 (f .0, f .1, there, right))
+      code-passed (encode fs) rows (code-0 (encode fs) rows .1 (f .0, f .1, there, right))
     where
       there : TagsThere (encode fs) rows
       there k l n = has-encoded fs ok (row rows k .tag) ∙ held-there fs _ _ (row rows k .needed) (h k l) n

@@ -3,6 +3,7 @@
 pub mod Edges
 pub mod Tests
 pub mod Codes
+pub mod Places
 pub mod Numbered
 pub mod Positions
 pub mod Encoded

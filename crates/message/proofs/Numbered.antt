@@ -26,3 +26,7 @@ module _ (t : List ℕ) where
   pub broken-at : (m : List ℕ) (k : ℕ) (x : Bool) → k < length t / 3
       → x ≡ broken m (getD t (3 * k) 0) (ruleIn (getD t (3 * k + 2) 0)) → x ≡ rowBroken m (rowsIn t) k
   broken-at m k x h e = e ∙ ap (λ (r : Row). broken m (r .tag) (r .rule)) (sym (row-at k h))
+
+  -- the tag of row k
+  pub tag-at : (k : ℕ) → k < length t / 3 → row (rowsIn t) k .tag ≡ getD t (3 * k) 0
+  tag-at k h = ap (λ (r : Row). r .tag) (row-at k h)

@@ -14,6 +14,7 @@ use Rattle.laws.proofs.Any.{any-not, any-none, any-parts}
 use Rattle.laws.proofs.Least.{nowhere, nowhere-at}
 use Rattle.message.specs.Frame.{word, notAbove, count, offset, section, edge, lengthBad, countBad, offsetBad}
 use Rattle.message.specs.Frame.{offsetsBad, tagsBad}
+use Rattle.message.specs.Places.{OffsetRight}
 use Rattle.message.specs.Rules.{Rule, bytes, nonzero, versions, siblings, message, Row, nonzeroBad, versionsBad}
 use Rattle.message.specs.Rules.{siblingsBad, valueBad, absent, broken, rowAbsent, rowBroken, someAbsent}
 use Rattle.message.specs.Rules.{someBroken}
@@ -73,40 +74,36 @@ module _ (m : List ℕ) where
   pub tags-test : tagsBad m ≡ false ↔ TagsRise m
   tags-test = words-rise m (4 * count m) (count m)
 
-  -- what the test of one offset asks: its order is told from the edge before it
-  Placed : ℕ → Type 0
-  Placed k = (offset m (k + 1) % 4 ≡ 0) × (edge m k ≤ offset m (k + 1)) × (offset m (k + 1) ≤ section m)
-
-  offset-test : (k : ℕ) → offsetBad m k ≡ false ↔ Placed k
-  unfolding Placed
+  -- the test of one offset: its order is told from the edge before it
+  pub offset-test : (k : ℕ) → offsetBad m k ≡ false ↔ OffsetRight m k
   offset-test k = (
     λ e.
         let a = any-parts _ _ e in
         let b = any-parts _ _ (a .1) in
         let c = any-parts _ _ (b .1) in
-        (eqb-true _ _ (not-false _ (a .0)), ltb-false _ _ (b .0), ltb-false _ _ (c .0)),
+        record { four = eqb-true _ _ (not-false _ (a .0)); order = ltb-false _ _ (b .0); inside = ltb-false _ _ (c .0) },
     λ p.
-        any-not _ (ap not (eq-eqb _ _ (p .0))) (any-not _ (le-ltb _ _ (p .1)) (any-not _ (le-ltb _ _ (p .2)) any-none)),
+        any-not _ (ap not (eq-eqb _ _ (p .four)))
+        (any-not _ (le-ltb _ _ (p .order)) (any-not _ (le-ltb _ _ (p .inside)) any-none)),
   )
 
-  placed-good : ((k : ℕ) → k + 1 < count m → Placed k) → OffsetsGood m
-  unfolding Placed
+  placed-good : ((k : ℕ) → k + 1 < count m → OffsetRight m k) → OffsetsGood m
   placed-good p = record { four = four; order = order; inside = inside }
     where
       four : (k : ℕ) → 1 ≤ k → k < count m → offset m k % 4 ≡ 0
-      four (suc k) o h = rw (← add-one k) (p k (omega arith) .0)
+      four (suc k) o h = rw (← add-one k) (p k (omega arith) .four)
       four zero o h = absurd (omega arith)
 
       order : (k : ℕ) → 1 ≤ k → k + 1 < count m → offset m k ≤ offset m (k + 1)
-      order k o h = rw (← edge-inner m k o (omega arith)) (p k h .1)
+      order k o h = rw (← edge-inner m k o (omega arith)) (p k h .order)
 
       inside : (k : ℕ) → 1 ≤ k → k < count m → offset m k ≤ section m
-      inside (suc k) o h = rw (← add-one k) (p k (omega arith) .2)
+      inside (suc k) o h = rw (← add-one k) (p k (omega arith) .inside)
       inside zero o h = absurd (omega arith)
 
-  good-placed : OffsetsGood m → (k : ℕ) → k + 1 < count m → Placed k
-  unfolding Placed
-  good-placed g k h = (g .four (k + 1) (omega arith) h, order k h, g .inside (k + 1) (omega arith) h)
+  good-placed : OffsetsGood m → (k : ℕ) → k + 1 < count m → OffsetRight m k
+  good-placed g k h =
+      record { four = g .four (k + 1) (omega arith) h; order = order k h; inside = g .inside (k + 1) (omega arith) h }
     where
       order : (k : ℕ) → k + 1 < count m → edge m k ≤ offset m (k + 1)
       order zero h = rw (edge-first m) zero-le

@@ -1,14 +1,15 @@
 -- Reading a message (draft 19, section 4; document 01, "Bytes of a message"): codes 4 and 5. All of its header is words
--- of four bytes.
+-- of four bytes. The place of a refusal (request P8) is counted from the message's first byte here; wire counts on from
+-- the packet's.
 use Prim.Native.Nat.{ℕ, _+_, _-_, _*_, _%_}
 use mathlib.Core.List.{List, [], _∷_}
 use mathlib.Core.Bool.{Bool, not, cond}
 use lib.ListN.{length}
 use lib.Dec.{ltb, leb, eqb}
 use Rattle.laws.specs.Any.{any}
-use Rattle.laws.specs.Least.{somewhere}
+use Rattle.laws.specs.Least.{least, somewhere}
 use Rattle.laws.specs.Numbers.{le}
-use Rattle.refusal.specs.Refusal.{first, when}
+use Rattle.refusal.specs.Refusal.{first, whenAt}
 use Rattle.refusal.specs.declared.Refusal.{Refusal}
 
 -- word k of those that stand from `at`
@@ -65,6 +66,38 @@ offsetsBad m = somewhere (offsetBad m) (count m - 1)
 abbrev pub tagsBad : List ℕ → Bool
 tagsBad m = somewhere (notAbove m (4 * count m)) (count m - 1)
 
--- codes 4 and 5 of the message m
+-- ---- the places of codes 4 and 5 (request P8)
+
+-- the start of the message, at which N's word stands
+abbrev pub messageStart : ℕ
+messageStart = 0
+
+abbrev pub countPlace : ℕ
+countPlace = 0
+
+-- the first k at which offset k + 1 is no multiple of 4, falls, or leaves the value section; N - 1 where there is none
+abbrev pub firstBadOffset : List ℕ → ℕ
+firstBadOffset m = least (offsetBad m) (count m - 1)
+
+-- the first k at which tag k + 1 is not above tag k; N - 1 where there is none
+abbrev pub firstLowTag : List ℕ → ℕ
+firstLowTag m = least (notAbove m (4 * count m)) (count m - 1)
+
+-- the word of the first wrong offset: N stands before the offsets
+abbrev pub badOffsetPlace : List ℕ → ℕ
+badOffsetPlace m = 4 * (firstBadOffset m + 1)
+
+-- the word of the first tag that is not above the one before it: N words stand before the tags
+abbrev pub lowTagPlace : List ℕ → ℕ
+lowTagPlace m = 4 * count m + 4 * (firstLowTag m + 1)
+
+-- codes 4 and 5 of the message m: by its length at its start, by N or a header that is too long at N's word, by an
+-- offset or a tag at the word of the first wrong one
 unfoldable pub frameCode : List ℕ → Refusal
-frameCode m = first (when (lengthBad m) 4 ∷ when (countBad m) 4 ∷ when (offsetsBad m) 4 ∷ when (tagsBad m) 5 ∷ [])
+frameCode m =
+    first
+    (whenAt (lengthBad m) 4 messageStart
+    ∷ whenAt (countBad m) 4 countPlace
+    ∷ whenAt (offsetsBad m) 4 (badOffsetPlace m)
+    ∷ whenAt (tagsBad m) 5 (lowTagPlace m)
+    ∷ [])

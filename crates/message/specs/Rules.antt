@@ -5,12 +5,12 @@ use mathlib.Core.Bool.{Bool, true, false, not, _&&_}
 use lib.ListN.{length, getD}
 use lib.Dec.{ltb, eqb}
 use Rattle.laws.specs.Any.{any}
-use Rattle.laws.specs.Least.{somewhere}
+use Rattle.laws.specs.Least.{least, somewhere}
 use Rattle.laws.specs.Numbers.{le}
-use Rattle.refusal.specs.Refusal.{first, when}
+use Rattle.refusal.specs.Refusal.{first, whenAt}
 use Rattle.refusal.specs.declared.Refusal.{Refusal}
-use Rattle.message.specs.Frame.{notAbove, frameCode}
-use Rattle.message.specs.Values.{has, valueOf}
+use Rattle.message.specs.Frame.{notAbove, messageStart, frameCode}
+use Rattle.message.specs.Values.{has, valueOf, valueStart}
 
 -- the rule of a value: that it has so many bytes, is a number that is not 0, is a list of versions, is a list of
 -- siblings, or is a message
@@ -87,6 +87,21 @@ someAbsent m rows = somewhere (rowAbsent m rows) (length rows)
 abbrev pub someBroken : List ℕ → List Row → Bool
 someBroken m rows = somewhere (rowBroken m rows) (length rows)
 
--- codes 4 to 7 of the message m by a table
+-- the first row whose value breaks its rule; the number of rows where there is none. Rows stand in the order of their
+-- tags, so that of several wrong values this is the one with the smallest tag (request P8).
+abbrev pub firstBroken : List ℕ → List Row → ℕ
+firstBroken m rows = least (rowBroken m rows) (length rows)
+
+-- the start of the value that breaks its rule and has the smallest tag
+abbrev pub brokenPlace : List ℕ → List Row → ℕ
+brokenPlace m rows = valueStart m (row rows (firstBroken m rows) .tag)
+
+-- codes 4 to 7 of the message m by a table: 6 at the start of the message that lacks the tag, 7 at the start of that
+-- value
 unfoldable pub messageCode : List ℕ → List Row → Refusal
-messageCode m rows = first (frameCode m ∷ when (someAbsent m rows) 6 ∷ when (someBroken m rows) 7 ∷ [])
+messageCode m rows =
+    first
+    (frameCode m
+    ∷ whenAt (someAbsent m rows) 6 messageStart
+    ∷ whenAt (someBroken m rows) 7 (brokenPlace m rows)
+    ∷ [])

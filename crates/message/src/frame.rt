@@ -2,32 +2,32 @@
 ghost use mathlib.Core.Path.{_≡_};
 ghost use Prim.Native.Nat.{_+_, _*_, _-_, _<_, _≤_};
 ghost use lib.ListN.{length};
-ghost use Rattle.message.specs.Frame.{count, lengthBad, countBad, offsetsBad, tagsBad, frameCode};
-ghost use Rattle.message.specs.Scans.{firstFall, firstBadOffset};
+ghost use Rattle.message.specs.Frame.{count, lengthBad, countBad, offsetsBad, tagsBad, firstBadOffset};
+ghost use Rattle.message.specs.Frame.{badOffsetPlace, lowTagPlace, frameCode};
+ghost use Rattle.message.specs.Scans.{firstFall};
 ghost use Rattle.message.specs.Sentences.{LengthGood, CountGood};
+ghost use Rattle.refusal.specs.Refusal.{whenAt};
 use octets::le32;
 use refusal::PASSED;
 use refusal::Refusal;
 use refusal::codes;
-use refusal::refuse;
+use refusal::refuse_at;
 
-// Codes 4 and 5 of a message.
+// Codes 4 and 5 of a message, with the place of the first wrong word of its header.
 pub fn frame_code(m: &[u8]) -> Refusal
     ensures { λ r. ⌜ r ≡ frameCode (now (m .entry)) ⌝ }
 {
     if length_bad(m) {
-        return refuse(codes::FRAME);
+        return refuse_at(codes::FRAME, 0);
     }
     if count_bad(m) {
-        return refuse(codes::FRAME);
+        return refuse_at(codes::FRAME, 0);
     }
-    if offsets_bad(m) {
-        return refuse(codes::FRAME);
+    let c = offsets_code(m);
+    if c.code != 0 {
+        return c;
     }
-    if tags_bad(m) {
-        return refuse(codes::TAG_ORDER);
-    }
-    PASSED
+    tags_code(m)
 }
 
 // The length is under 4 bytes or no multiple of 4.
@@ -55,22 +55,30 @@ fn count_bad(m: &[u8]) -> bool
     m.len() < 8 * n
 }
 
-// Some offset is wrong.
-fn offsets_bad(m: &[u8]) -> bool
+// Code 4 at the first wrong offset.
+fn offsets_code(m: &[u8]) -> Refusal
     requires { ⌜ LengthGood (now m) × CountGood (now m) ⌝ }
-    ensures { λ r. ⌜ r ≡ offsetsBad (now (m .entry)) ⌝ }
+    ensures { λ r. ⌜ r ≡ whenAt (offsetsBad (now (m .entry))) 4 (badOffsetPlace (now (m .entry))) ⌝ }
 {
     let n = le32(m, 0) as usize;
-    first_bad_offset(m, n) < n - 1
+    let k = first_bad_offset(m, n);
+    if k < n - 1 {
+        return refuse_at(codes::FRAME, 4 * (k + 1));
+    }
+    PASSED
 }
 
-// Some tag isn't above the one before it.
-fn tags_bad(m: &[u8]) -> bool
+// Code 5 at the first tag that isn't above the one before it.
+fn tags_code(m: &[u8]) -> Refusal
     requires { ⌜ LengthGood (now m) × CountGood (now m) ⌝ }
-    ensures { λ r. ⌜ r ≡ tagsBad (now (m .entry)) ⌝ }
+    ensures { λ r. ⌜ r ≡ whenAt (tagsBad (now (m .entry))) 5 (lowTagPlace (now (m .entry))) ⌝ }
 {
     let n = le32(m, 0) as usize;
-    first_fall(m, 4 * n, n) < n - 1
+    let k = first_fall(m, 4 * n, n);
+    if k < n - 1 {
+        return refuse_at(codes::TAG_ORDER, 4 * n + 4 * (k + 1));
+    }
+    PASSED
 }
 
 // The first k below n - 1 at which offset k + 1 is wrong; n - 1 where there is none.

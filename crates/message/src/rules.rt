@@ -5,18 +5,20 @@ ghost use Prim.Native.Nat.{_+_, _*_, _-_, _<_};
 ghost use lib.Dec.{eqb};
 ghost use Rattle.message.specs.Numbered.{ruleIn, rowsIn};
 ghost use Rattle.message.specs.Rules.{nonzeroBad, versionsBad, siblingsBad, valueBad, absent, broken};
-ghost use Rattle.message.specs.Rules.{someAbsent, someBroken, messageCode};
-ghost use Rattle.message.specs.Scans.{firstAbsent, firstBroken};
+ghost use Rattle.message.specs.Rules.{someAbsent, someBroken, firstBroken, brokenPlace, messageCode};
+ghost use Rattle.message.specs.Scans.{firstAbsent};
 ghost use Rattle.message.specs.Sentences.{Good};
+ghost use Rattle.refusal.specs.Refusal.{whenAt};
 use super::frame::first_fall;
 use super::frame::frame_code;
 use super::values::has_tag;
 use super::values::value_of;
+use super::values::value_start;
 use octets::le32;
 use refusal::PASSED;
 use refusal::Refusal;
 use refusal::codes;
-use refusal::refuse;
+use refusal::refuse_at;
 
 // Whether a tag must be there, or may be.
 pub const MUST: u32 = 1;
@@ -33,7 +35,8 @@ pub const MESSAGE: u32 = 3;
 
 pub const NONZERO: u32 = 5;
 
-// Codes 4 to 7 of a message by a table: of each row three numbers, its tag, MUST or MAY, and the rule of its value.
+// Codes 4 to 7 of a message, with their places, by a table: of each row three numbers, its tag, MUST or MAY, and the
+// rule of its value.
 pub fn message_code(m: &[u8], t: &[u32]) -> Refusal
     ensures { λ r. ⌜ r ≡ messageCode (now (m .entry)) (rowsIn (now (t .entry))) ⌝ }
 {
@@ -42,12 +45,9 @@ pub fn message_code(m: &[u8], t: &[u32]) -> Refusal
         return c;
     }
     if some_absent(m, t) {
-        return refuse(codes::TAG_ABSENT);
+        return refuse_at(codes::TAG_ABSENT, 0);
     }
-    if some_broken(m, t) {
-        return refuse(codes::VALUE);
-    }
-    PASSED
+    values_code(m, t)
 }
 
 // Some tag of a table is needed and absent.
@@ -58,12 +58,19 @@ fn some_absent(m: &[u8], t: &[u32]) -> bool
     first_absent(m, t) < t.len() / 3
 }
 
-// Some tag of a table is there with a value that breaks its rule.
-fn some_broken(m: &[u8], t: &[u32]) -> bool
+// Code 7 at the start of the first value, in the table's order, that breaks its rule.
+fn values_code(m: &[u8], t: &[u32]) -> Refusal
     requires { ⌜ Good (now m) ⌝ }
-    ensures { λ r. ⌜ r ≡ someBroken (now (m .entry)) (rowsIn (now (t .entry))) ⌝ }
+    ensures {
+        λ r. ⌜ r ≡ whenAt (someBroken (now (m .entry)) (rowsIn (now (t .entry)))) 7
+        (brokenPlace (now (m .entry)) (rowsIn (now (t .entry)))) ⌝
+    }
 {
-    first_broken(m, t) < t.len() / 3
+    let k = first_broken(m, t);
+    if k < t.len() / 3 {
+        return refuse_at(codes::VALUE, value_start(m, t[3 * k]));
+    }
+    PASSED
 }
 
 // The first row of a table whose tag is needed and absent; the number of rows where there is none.

@@ -17,23 +17,19 @@ returns-2 : tie.Need-returns-2
 unfolding frameCode
 returns-2 c = search chain depth 9
 
-offsets-bad-requires : tie.Need-offsets-bad-requires
-offsets-bad-requires c κs = (search (length-good, needs), search (count-good, needs))
+offsets-code-requires : tie.Need-offsets-code-requires
+offsets-code-requires c κs = (search (length-good, needs), search (count-good, needs))
 
 returns-3 : tie.Need-returns-3
 unfolding frameCode
 returns-3 c = search chain depth 9
 
-tags-bad-requires : tie.Need-tags-bad-requires
-tags-bad-requires c κs = (search (length-good, needs), search (count-good, needs))
+tags-code-requires : tie.Need-tags-code-requires
+tags-code-requires c κs = (search (length-good, needs), search (count-good, needs))
 
 returns-4 : tie.Need-returns-4
 unfolding frameCode
 returns-4 c = search chain depth 9
-
-returns-5 : tie.Need-returns-5
-unfolding frameCode
-returns-5 c = search chain depth 9
 
 pub frame-code-spec : {M : Type 1} → statement M
 frame-code-spec =
@@ -45,10 +41,7 @@ frame-code-spec =
     count-bad-requires
     (λ c κs. search needs)
     returns-2
-    offsets-bad-requires
-    (λ c κs. search needs)
+    offsets-code-requires
     returns-3
-    tags-bad-requires
-    (λ c κs. search needs)
-    returns-4
-    returns-5)
+    tags-code-requires
+    returns-4)

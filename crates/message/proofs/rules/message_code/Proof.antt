@@ -17,16 +17,12 @@ returns-2 : tie.Need-returns-2
 unfolding messageCode
 returns-2 c = search chain depth 9
 
-some-broken-requires : tie.Need-some-broken-requires
-some-broken-requires c κs = search (frame-good, needs)
+values-code-requires : tie.Need-values-code-requires
+values-code-requires c κs = search (frame-good, needs)
 
 returns-3 : tie.Need-returns-3
 unfolding messageCode
 returns-3 c = search chain depth 9
-
-returns-4 : tie.Need-returns-4
-unfolding messageCode
-returns-4 c = search chain depth 9
 
 pub message-code-spec : {M : Type 1} → statement M
 message-code-spec =
@@ -37,7 +33,5 @@ message-code-spec =
     some-absent-requires
     (λ c κs. search needs)
     returns-2
-    some-broken-requires
-    (λ c κs. search needs)
-    returns-3
-    returns-4)
+    values-code-requires
+    returns-3)
