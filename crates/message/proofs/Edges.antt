@@ -1,14 +1,14 @@
 -- Where the values of a message begin and end, and that each value of a good one stands in the value section.
-use Prim.Native.Nat.{ℕ, zero, suc, zero-le, _+_, _-_, _*_, _≤_, _<_}
+use Prim.Native.Nat.{ℕ, zero, suc, zero-le, suc-le-suc, _+_, _-_, _*_, _≤_, _<_}
 use mathlib.Core.Path.{_≡_, refl}
 use native.Mathlib.Nat.{le-refl, eq-or-lt-of-le}
 use native.Mathlib.Numerals.{add-one}
 use mathlib.Core.Logic.{⊎-elim}
 use native.Mathlib.Omega.{arith}
 use borrow.Author.Tests.{lt-ltb, le-ltb, ne-eqb}
-use mathlib.Core.List.{List, []}
+use mathlib.Core.List.{List, [], _∷_}
 use mathlib.Core.Bool.{Bool, true, false, cond}
-use lib.ListN.{length, take, drop}
+use lib.ListN.{length, take, drop, length-drop}
 use lib.Dec.{ltb}
 use Rattle.laws.specs.Bytes.{Bytes}
 use Rattle.laws.proofs.Bytes.{bytes-drop, bytes-take}
@@ -74,6 +74,26 @@ module _ (m : List ℕ) (g : Good m) where
   pub start-in : (tag : ℕ) → valueStart m tag ≤ length m
   unfolding valueStart
   start-in tag = omega (arith, edge-within (indexOf m tag) (index-in m tag), g .head .fits)
+
+-- what is taken of bytes is no longer than they are
+pub take-in : (n : ℕ) (xs : List ℕ) → length (take n xs) ≤ length xs
+take-in zero xs = zero-le
+take-in (suc n) [] = zero-le
+take-in (suc n) (x ∷ xs) = suc-le-suc (take-in n xs)
+
+-- the value of a tag ends in the message
+pub value-ends : (m : List ℕ) → Good m → (tag : ℕ) → valueStart m tag + length (valueOf m tag) ≤ length m
+unfolding valueAt valueOf valueStart
+value-ends m g tag = by (has m tag)
+  where
+    at : ℕ
+    at = 8 * count m + edge m (indexOf m tag)
+
+    by : (t : Bool) → at + length (cond t (valueAt m (indexOf m tag)) []) ≤ length m
+    by true =
+        let k : ℕ = indexOf m tag in
+        omega (arith, start-in m g tag, take-in (edge m (k + 1) - edge m k) (drop at m), length-drop at m)
+    by false = omega (arith, start-in m g tag)
 
 -- the value of a tag that is there, as code finds it: there are n tags, the tag's place is k, and the value runs from x
 -- to y

@@ -1,7 +1,7 @@
 -- A good request is one that has none of the codes 1 to 8: document 01's sentences hold exactly where the reader takes
 -- the packet. The direction from the sentences to the code asks nothing of the packet.
 use Prim.Native.Nat.{ℕ}
-use mathlib.Core.Path.{_≡_, refl, sym}
+use mathlib.Core.Path.{_≡_, refl, sym, ap}
 use mathlib.Core.Bool.{false}
 use mathlib.Core.List.{List}
 use mathlib.Core.Logic.{_↔_}
@@ -10,14 +10,14 @@ use Rattle.laws.specs.Bytes.{Bytes}
 use Rattle.laws.specs.Numbers.{le}
 use Rattle.laws.proofs.Bytes.{bytes-drop}
 use Rattle.laws.proofs.First.{says-0, test-false, equal, is-empty, none-quiet, row-quiet, test-quiet}
-use Rattle.refusal.specs.Refusal.{passed, refusals}
+use Rattle.refusal.specs.Refusal.{passed, moved, refusals}
 use Rattle.message.specs.Encode.{encode, valueAmong}
 use Rattle.message.specs.Tags.{VER, TYPE}
 use Rattle.message.specs.Values.{valueOf}
 use Rattle.message.proofs.Encoded.{value-encoded}
 use Rattle.message.proofs.FieldRows.{AllHeld, all-passes}
 use Rattle.wire.specs.Good.{GoodRequest}
-use Rattle.wire.specs.Packet.{body}
+use Rattle.wire.specs.Packet.{bodyStart, body}
 use Rattle.wire.specs.Request.{requestMessageCode, requestCode}
 use Rattle.wire.specs.Tables.{requestTable}
 use Rattle.wire.specs.Versions.{lacksVersion}
@@ -39,7 +39,9 @@ module _ (p : List ℕ) where
 
   pub good-request : GoodRequest p → requestCode p .code ≡ 0
   unfolding requestCode
-  good-request g = none-quiet refusals (fields-pass requestMessageCode p (g .fields) (g .packet) (request-encoded g))
+  good-request g = none-quiet refusals 
+      (fields-pass (λ m. moved bodyStart (requestMessageCode m)) p (g .fields) (g .packet)
+      (ap (moved bodyStart) (request-encoded g)))
 
   pub request-good : Bytes p → requestCode p .code ≡ 0 → GoodRequest p
   unfolding requestCode requestMessageCode

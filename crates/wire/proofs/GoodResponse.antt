@@ -11,7 +11,7 @@ use Rattle.laws.specs.Numbers.{le}
 use Rattle.laws.proofs.Bytes.{bytes-drop}
 use Rattle.laws.proofs.First.{says-0, is-last, test-false, equal, is-empty, none-quiet, row-quiet}
 use Rattle.laws.proofs.First.{test-quiet}
-use Rattle.refusal.specs.Refusal.{passed, refusals}
+use Rattle.refusal.specs.Refusal.{passed, moved, refusals}
 use Rattle.message.specs.Encode.{Field, Fields, encode, among, valueAmong}
 use Rattle.message.specs.Rules.{Row, messageCode, message}
 use Rattle.message.specs.Sentences.{Holds, HoldsMessage}
@@ -21,9 +21,9 @@ use Rattle.message.proofs.Edges.{value-bytes}
 use Rattle.message.proofs.Encoded.{value-encoded}
 use Rattle.message.proofs.FieldRows.{AllHeld, all-passes}
 use Rattle.wire.specs.Good.{GoodResponse}
-use Rattle.wire.specs.Packet.{body}
+use Rattle.wire.specs.Packet.{bodyStart, body}
 use Rattle.wire.specs.Response.{srep, cert, dele, typeIn, verIn, shapeCode, versionUnlisted, responseMessageCode}
-use Rattle.wire.specs.Response.{responseCode}
+use Rattle.wire.specs.Response.{responseCode, srepStart, certStart, deleStart}
 use Rattle.wire.specs.Tables.{rootTable, srepTable, certTable, deleTable}
 use Rattle.wire.specs.Versions.{lacksVersion}
 use Rattle.wire.proofs.PacketFields.{fields-value, fields-pass, fields-of, encoded, encoded-held}
@@ -78,8 +78,9 @@ module _ (p : List ℕ) where
       (g .pubk, (g .mint, (g .maxt, record {})))) in
       sym
       (says-0 refusals _ _ refl (none-quiet refusals root)
-      (says-0 refusals _ _ refl (none-quiet refusals signed)
-      (says-0 refusals _ _ refl (none-quiet refusals certified) (is-last refusals (sym delegated)))))
+      (says-0 refusals _ _ refl (none-quiet refusals (ap (moved (srepStart (encode fs))) signed))
+      (says-0 refusals _ _ refl (none-quiet refusals (ap (moved (certStart (encode fs))) certified))
+      (is-last refusals (sym (ap (moved (deleStart (encode fs))) delegated))))))
 
   response-encoded : (g : GoodResponse p) → responseMessageCode (encode (g .fields)) ≡ passed
   unfolding responseMessageCode versionUnlisted
@@ -97,7 +98,10 @@ module _ (p : List ℕ) where
 
   pub good-response : GoodResponse p → responseCode p .code ≡ 0
   unfolding responseCode
-  good-response g = none-quiet refusals (fields-pass responseMessageCode p (g .fields) (g .packet) (response-encoded g))
+  good-response g = 
+      none-quiet refusals
+      (fields-pass (λ m. moved bodyStart (responseMessageCode m)) p (g .fields) (g .packet)
+      (ap (moved bodyStart) (response-encoded g)))
 
   pub response-good : Bytes p → responseCode p .code ≡ 0 → GoodResponse p
   unfolding responseCode responseMessageCode shapeCode versionUnlisted

@@ -36,6 +36,10 @@ packetCode p =
 unfoldable pub packetOf : List ℕ → List ℕ
 packetOf m = mark ++ (leBytes 4 (length m) ++ m)
 
+-- where the message of a packet starts: behind the eight bytes and the length
+abbrev pub bodyStart : ℕ
+bodyStart = 12
+
 -- the message of a packet
 abbrev pub body : List ℕ → List ℕ
-body p = drop 12 p
+body p = drop bodyStart p

@@ -4,12 +4,12 @@ use mathlib.Core.List.{List, [], _∷_}
 use mathlib.Core.Bool.{Bool, false, not, cond}
 use lib.Dec.{eqb}
 use Rattle.laws.specs.Numbers.{le}
-use Rattle.refusal.specs.Refusal.{passed, first, when}
+use Rattle.refusal.specs.Refusal.{passed, moved, first, when}
 use Rattle.refusal.specs.declared.Refusal.{Refusal}
 use Rattle.message.specs.Rules.{messageCode}
 use Rattle.message.specs.Tags.{VER, SRV, NONC, TYPE}
 use Rattle.message.specs.Values.{has, valueOf}
-use Rattle.wire.specs.Packet.{packetCode, body}
+use Rattle.wire.specs.Packet.{packetCode, bodyStart, body}
 use Rattle.wire.specs.Blank.{zeros32}
 use Rattle.wire.specs.Tables.{requestTable}
 use Rattle.wire.specs.Versions.{lacksVersion}
@@ -24,9 +24,9 @@ requestMessageCode m =
     ∷ when (lacksVersion (valueOf m VER) 1) 8
     ∷ [])
 
--- codes 1 to 8 of a request packet: the packet's, then its message's
+-- codes 1 to 8 of a request packet: the packet's, then its message's, with their place in the packet
 unfoldable pub requestCode : List ℕ → Refusal
-requestCode p = first (packetCode p ∷ requestMessageCode (body p) ∷ [])
+requestCode p = first (packetCode p ∷ moved bodyStart (requestMessageCode (body p)) ∷ [])
 
 -- the request is refused
 unfoldable pub requestBad : List ℕ → Bool

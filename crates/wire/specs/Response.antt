@@ -1,15 +1,15 @@
 -- Reading a response (draft 19, 5.2; request P4): codes 1 to 8 in order, and what a good one says.
-use Prim.Native.Nat.{ℕ}
+use Prim.Native.Nat.{ℕ, _+_}
 use mathlib.Core.List.{List, [], _∷_}
 use mathlib.Core.Bool.{Bool, not, cond}
 use lib.Dec.{eqb}
 use Rattle.laws.specs.Numbers.{le}
-use Rattle.refusal.specs.Refusal.{passed, first, when}
+use Rattle.refusal.specs.Refusal.{passed, moved, first, when}
 use Rattle.refusal.specs.declared.Refusal.{Refusal}
 use Rattle.message.specs.Rules.{messageCode}
 use Rattle.message.specs.Tags.{VER, NONC, DELE, TYPE, RADI, MIDP, SREP, VERS, MINT, ROOT, CERT, MAXT, INDX}
-use Rattle.message.specs.Values.{valueOf}
-use Rattle.wire.specs.Packet.{packetCode, body}
+use Rattle.message.specs.Values.{valueOf, valueStart}
+use Rattle.wire.specs.Packet.{packetCode, bodyStart, body}
 use Rattle.wire.specs.Blank.{zeros32}
 use Rattle.wire.specs.Tables.{rootTable, srepTable, certTable, deleTable}
 use Rattle.wire.specs.Versions.{lacksVersion}
@@ -50,19 +50,29 @@ mintIn m = le 8 (valueOf (dele m) MINT) 0
 abbrev pub maxtIn : List ℕ → ℕ
 maxtIn m = le 8 (valueOf (dele m) MAXT) 0
 
--- codes 4 to 7 of the message m: the root's, then SREP's, CERT's, DELE's
+-- where they start in it (request P8)
+abbrev pub srepStart : List ℕ → ℕ
+srepStart m = valueStart m SREP
+
+abbrev pub certStart : List ℕ → ℕ
+certStart m = valueStart m CERT
+
+abbrev pub deleStart : List ℕ → ℕ
+deleStart m = certStart m + valueStart (cert m) DELE
+
+-- codes 4 to 7 of the message m: the root's, then SREP's, CERT's, DELE's, with their place in m
 unfoldable pub shapeCode : List ℕ → Refusal
 shapeCode m =
     first
     (messageCode m rootTable
-    ∷ messageCode (srep m) srepTable
-    ∷ messageCode (cert m) certTable
-    ∷ messageCode (dele m) deleTable
+    ∷ moved (srepStart m) (messageCode (srep m) srepTable)
+    ∷ moved (certStart m) (messageCode (cert m) certTable)
+    ∷ moved (deleStart m) (messageCode (dele m) deleTable)
     ∷ [])
 
--- codes 1 to 7 of a response packet: what the signed texts ask
+-- codes 1 to 7 of a response packet, with their place in it: what the signed texts ask
 unfoldable pub signedCode : List ℕ → Refusal
-signedCode p = first (packetCode p ∷ shapeCode (body p) ∷ [])
+signedCode p = first (packetCode p ∷ moved bodyStart (shapeCode (body p)) ∷ [])
 
 -- VERS does not hold SREP's VER (5.2.5)
 unfoldable pub versionUnlisted : List ℕ → Bool
@@ -78,9 +88,9 @@ responseMessageCode m =
     ∷ when (versionUnlisted m) 8
     ∷ [])
 
--- codes 1 to 8 of a response packet
+-- codes 1 to 8 of a response packet, with their place in it
 unfoldable pub responseCode : List ℕ → Refusal
-responseCode p = first (packetCode p ∷ responseMessageCode (body p) ∷ [])
+responseCode p = first (packetCode p ∷ moved bodyStart (responseMessageCode (body p)) ∷ [])
 
 -- the answer to a refused response
 abbrev pub noResponse : Refusal → Response

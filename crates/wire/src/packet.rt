@@ -10,6 +10,9 @@ use refusal::Refusal;
 use refusal::codes;
 use refusal::refuse;
 
+// Where the message of a packet starts.
+pub const BODY_START: usize = 12;
+
 // The eight bytes that every packet begins with.
 pub const MARK: [u8; 8] = *b"ROUGHTIM";
 

@@ -9,6 +9,7 @@ use super::Request;
 use super::fields::lacks_version;
 use super::fields::number32;
 use super::fields::value32;
+use super::packet::BODY_START;
 use super::packet::body_of;
 use super::packet::packet_code;
 use super::tables::REQUEST_TABLE;
@@ -21,6 +22,7 @@ use message::tags::VER;
 use refusal::PASSED;
 use refusal::Refusal;
 use refusal::codes;
+use refusal::moved;
 use refusal::refuse;
 
 // Reads a request packet.
@@ -34,7 +36,7 @@ pub fn read_request(p: &[u8]) -> Request
     good_request(body_of(p))
 }
 
-// Codes 1 to 8 of a request packet, PASSED where none applies.
+// Codes 1 to 8 of a request packet, with their place in it; PASSED where none applies.
 pub fn request_code(p: &[u8]) -> Refusal
     ensures { λ r. ⌜ r ≡ requestCode (now (p .entry)) ⌝ }
 {
@@ -42,7 +44,8 @@ pub fn request_code(p: &[u8]) -> Refusal
     if c.code != 0 {
         return c;
     }
-    request_message_code(body_of(p))
+    let r = request_message_code(body_of(p));
+    moved(r, BODY_START)
 }
 
 // The request is refused.

@@ -11,6 +11,7 @@ use super::fields::lacks_version;
 use super::fields::number32;
 use super::fields::number64;
 use super::fields::value32;
+use super::packet::BODY_START;
 use super::packet::body_of;
 use super::packet::packet_code;
 use super::shape::shape_code;
@@ -27,6 +28,7 @@ use message::value_of;
 use refusal::PASSED;
 use refusal::Refusal;
 use refusal::codes;
+use refusal::moved;
 use refusal::refuse;
 
 // Reads a response packet.
@@ -40,7 +42,7 @@ pub fn read_response(p: &[u8]) -> Response
     good_response(body_of(p))
 }
 
-// Codes 1 to 8 of a response packet.
+// Codes 1 to 8 of a response packet, with their place in it.
 pub fn response_code(p: &[u8]) -> Refusal
     ensures { λ r. ⌜ r ≡ responseCode (now (p .entry)) ⌝ }
 {
@@ -48,10 +50,11 @@ pub fn response_code(p: &[u8]) -> Refusal
     if c.code != 0 {
         return c;
     }
-    response_message_code(body_of(p))
+    let r = response_message_code(body_of(p));
+    moved(r, BODY_START)
 }
 
-// Codes 1 to 7 of a response packet, PASSED where none applies: what the signed texts ask.
+// Codes 1 to 7 of a response packet, with their place in it, PASSED where none applies: what the signed texts ask.
 pub fn signed_code(p: &[u8]) -> Refusal
     ensures { λ r. ⌜ r ≡ signedCode (now (p .entry)) ⌝ }
 {
@@ -59,7 +62,8 @@ pub fn signed_code(p: &[u8]) -> Refusal
     if c.code != 0 {
         return c;
     }
-    shape_code(body_of(p))
+    let r = shape_code(body_of(p));
+    moved(r, BODY_START)
 }
 
 // Codes 4 to 8 of a response's message.

@@ -2,7 +2,8 @@
 ghost use mathlib.Core.Path.{_≡_};
 ghost use Rattle.message.specs.Rules.{messageCode};
 ghost use Rattle.message.specs.Sentences.{Good};
-ghost use Rattle.wire.specs.Response.{srep, cert, dele, shapeCode};
+ghost use Rattle.refusal.specs.Refusal.{moved};
+ghost use Rattle.wire.specs.Response.{srep, cert, dele, srepStart, certStart, deleStart, shapeCode};
 ghost use Rattle.wire.specs.Tables.{rootTable, srepTable, certTable, deleTable};
 use super::tables::CERT_TABLE;
 use super::tables::DELE_TABLE;
@@ -13,9 +14,11 @@ use message::tags::CERT;
 use message::tags::DELE;
 use message::tags::SREP;
 use message::value_of;
+use message::value_start;
 use refusal::Refusal;
+use refusal::moved;
 
-// Codes 4 to 7 of a response's message and of those in it.
+// Codes 4 to 7 of a response's message and of those in it, with their place in the message.
 pub fn shape_code(m: &[u8]) -> Refusal
     ensures { λ r. ⌜ r ≡ shapeCode (now (m .entry)) ⌝ }
 {
@@ -44,25 +47,36 @@ fn root_code(m: &[u8]) -> Refusal
 // Codes 4 to 7 of SREP.
 fn srep_code(m: &[u8]) -> Refusal
     requires { ⌜ Good (now m) ⌝ }
-    ensures { λ r. ⌜ r ≡ messageCode (srep (now (m .entry))) srepTable ⌝ }
+    ensures { λ r. ⌜ r ≡ moved (srepStart (now (m .entry))) (messageCode (srep (now (m .entry))) srepTable) ⌝ }
 {
-    message_code(value_of(m, SREP), &SREP_TABLE)
+    let r = message_code(value_of(m, SREP), &SREP_TABLE);
+    moved(r, value_start(m, SREP))
 }
 
 // Codes 4 to 7 of CERT.
 fn cert_code(m: &[u8]) -> Refusal
     requires { ⌜ Good (now m) ⌝ }
-    ensures { λ r. ⌜ r ≡ messageCode (cert (now (m .entry))) certTable ⌝ }
+    ensures { λ r. ⌜ r ≡ moved (certStart (now (m .entry))) (messageCode (cert (now (m .entry))) certTable) ⌝ }
 {
-    message_code(value_of(m, CERT), &CERT_TABLE)
+    let r = message_code(value_of(m, CERT), &CERT_TABLE);
+    moved(r, value_start(m, CERT))
 }
 
 // Codes 4 to 7 of DELE, which stands in CERT.
 fn dele_code(m: &[u8]) -> Refusal
     requires { ⌜ Good (now m) × Good (cert (now m)) ⌝ }
-    ensures { λ r. ⌜ r ≡ messageCode (dele (now (m .entry))) deleTable ⌝ }
+    ensures { λ r. ⌜ r ≡ moved (deleStart (now (m .entry))) (messageCode (dele (now (m .entry))) deleTable) ⌝ }
 {
-    message_code(dele_of(m), &DELE_TABLE)
+    let r = message_code(dele_of(m), &DELE_TABLE);
+    moved(r, dele_start(m))
+}
+
+// Where DELE, which stands in CERT, starts in the message.
+fn dele_start(m: &[u8]) -> usize
+    requires { ⌜ Good (now m) × Good (cert (now m)) ⌝ }
+    ensures { λ r. ⌜ r ≡ deleStart (now (m .entry)) ⌝ }
+{
+    value_start(m, CERT) + value_start(value_of(m, CERT), DELE)
 }
 
 // The value of DELE, which stands in CERT.

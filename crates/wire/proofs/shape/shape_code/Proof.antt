@@ -1,5 +1,7 @@
 -- `wire::shape::shape_code` meets its contract. Each return is the first refusal of the row.
-use Rattle.laws.proofs.First.{chain}
+use mathlib.Core.Path.{refl}
+use Rattle.laws.proofs.First.{chain, quiet-of}
+use Rattle.refusal.specs.Refusal.{refusals}
 use Rattle.message.proofs.Codes.{message-good}
 use Rattle.wire.specs.Response.{shapeCode}
 use Rattle.wire.specs.Tables.{certTable}
@@ -15,7 +17,8 @@ cert-code-requires c κs = search (message-good, needs)
 
 dele-code-requires : tie.Need-dele-code-requires
 dele-code-requires c κs =
-    (search (message-good, needs), message-good _ certTable _ (c .before .before .cert-code .ensures) (c .if3 .left))
+    let certified = quiet-of refusals (c .before .before .cert-code .ensures) (c .if3 .left) in
+    (search (message-good, needs), message-good _ certTable _ refl certified)
 
 returns : tie.Need-returns
 unfolding shapeCode

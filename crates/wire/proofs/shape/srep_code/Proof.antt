@@ -1,19 +1,37 @@
 -- `wire::shape::srep_code` meets its contract. The numbers that the code hands over are the rows of the table.
 use Prim.Native.Nat.{ℕ}
-use mathlib.Core.Path.{ap, _∙_}
+use mathlib.Core.Path.{_≡_, ap, ap₂, _∙_}
+use native.Mathlib.Omega.{arith}
+use denote.Ref.{now}
 use mathlib.Core.List.{List}
 use Rattle.laws.specs.Upto.{upto}
 use Rattle.message.specs.Numbered.{ruleIn, rowsIn}
 use Rattle.message.specs.Rules.{messageCode}
+use Rattle.message.specs.Tags.{SREP}
+use Rattle.refusal.specs.Refusal.{moved}
+use Rattle.refusal.specs.declared.Refusal.{Refusal}
+use Rattle.wire.specs.Response.{srep}
+use Rattle.wire.proofs.PlacesIn.{value-fits}
 use Rattle.wire.specs.Tables.{srepTable}
 use borrow.Author.Needs.{needs}
 use Rattle.wire.proofs.shape.srep_code.Statement.{statement}
 use Rattle.wire.proofs.shape.srep_code.Tie as tie
 
-returns : tie.Need-returns
+-- what the message check ensures, of the value
+told : (c : tie.After-message-code) → c .message-code .result
+    ≡ messageCode (srep (now (c .before .before .before .before .args .m))) srepTable
 unfolding upto ruleIn rowsIn
-returns c =
+told c =
     c .message-code .ensures ∙ ap (λ (s : List ℕ). messageCode s srepTable) (c .before .before .value-of .ensures)
+
+moved-requires : tie.Need-moved-requires
+moved-requires c κs =
+    let start = c .before .before .before .before .before in
+    omega (arith, value-fits (now (start .args .m)) (start .pre) SREP srepTable (told (c .before)) (c .value-start .ensures))
+
+returns : tie.Need-returns
+returns c =
+    c .moved .ensures ∙ ap₂ (λ (s : ℕ) (r : Refusal). moved s r) (c .before .value-start .ensures) (told (c .before .before))
 
 pub srep-code-spec : {M : Type 1} → statement M
 srep-code-spec =
@@ -22,4 +40,6 @@ srep-code-spec =
     (λ c κs. search needs)
     (λ c. search needs)
     (λ c κs. search needs)
+    (λ c κs. search needs)
+    moved-requires
     returns)
