@@ -3,12 +3,12 @@ use mathlib.Core.Path.{_≡_, refl}
 use mathlib.Core.List.{_++_}
 use Prim.Native.Nat.{ℕ, zero, suc}
 use Rattle.laws.specs.Ascii.{ascii}
-use Rattle.refusal.specs.Refusal.{refusal}
+use Rattle.refusal.specs.Refusal.{refusal, refusalAt}
 use Rattle.verdict.specs.Window.{windowOf}
 use Rattle.verdict.specs.declared.Verdict.{Verdict}
 use Rattle.verdict.specs.declared.Verdict.the-variants.{Valid, Refused}
-use Rattle.console.specs.Text.{decimalIn, spaced, labelled, windowLine, refusalLine, recordLine, recordLines}
-use Rattle.console.specs.Text.{runLine, countLine}
+use Rattle.console.specs.Text.{decimalIn, spaced, labelled, windowLine, placeText, refusalLine}
+use Rattle.console.specs.Text.{recordLine, recordLines, runLine, countLine}
 
 -- 1000±10, 1500±10, 1495±1, 1400±10
 abbrev pub four : ℕ → Verdict
@@ -24,5 +24,10 @@ example5 = refl
 
 -- a bad record's line
 pub bad-record : recordLine 1 (Refused (refusal 13)) ≡ ascii "1 refused 13\n"
-unfolding decimalIn spaced labelled refusalLine
+unfolding decimalIn spaced placeText refusalLine
 bad-record = refl
+
+-- and one whose code carries a place
+pub placed-record : recordLine 1 (Refused (refusalAt 4 40)) ≡ ascii "1 refused 4 40\n"
+unfolding decimalIn spaced placeText refusalLine
+placed-record = refl

@@ -4,6 +4,7 @@ use mathlib.Core.List.{List, [], _∷_, _++_}
 use Prim.Native.Nat.{ℕ, zero, suc, _+_, _/_, _%_}
 use lib.Dec.{ltb}
 use Rattle.laws.specs.Ascii.{ascii}
+use Rattle.refusal.specs.Refusal.{carries}
 use Rattle.verdict.specs.declared.Verdict.{Verdict}
 use Rattle.verdict.specs.declared.Verdict.the-variants.{Valid, Refused}
 use Rattle.pile.specs.Pile.{recordsIn}
@@ -41,14 +42,19 @@ refusedLine code = labelled (ascii "refused") code
 unfoldable pub windowLine : ℕ → ℕ → ℕ → List ℕ
 windowLine k low high = decimal k ++ ascii " ok" ++ spaced low ++ spaced high ++ ascii "\n"
 
--- `1 refused 13`
-unfoldable pub refusalLine : ℕ → ℕ → List ℕ
-refusalLine k code = decimal k ++ ascii " " ++ refusedLine code
+-- the place that a code carries, behind a space; of a code that carries none nothing (request P8)
+unfoldable pub placeText : ℕ → ℕ → List ℕ
+placeText code place = cond (carries code) (spaced place) []
+
+-- `1 refused 13`, and of a code with a place `1 refused 4 40`
+unfoldable pub refusalLine : ℕ → ℕ → ℕ → List ℕ
+refusalLine k code place =
+    decimal k ++ ascii " refused" ++ spaced code ++ placeText code place ++ ascii "\n"
 
 -- record k: its window, or its refusal
 abbrev pub recordLine : ℕ → Verdict → List ℕ
 recordLine k (Valid w) = windowLine k (w .low) (w .high)
-recordLine k (Refused why) = refusalLine k (why .code)
+recordLine k (Refused why) = refusalLine k (why .code) (why .at)
 
 -- the first n records, which have the verdicts v
 unfoldable pub recordLines : (ℕ → Verdict) → ℕ → List ℕ

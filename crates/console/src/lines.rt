@@ -2,10 +2,11 @@
 ghost use Prim.Native.Nat.{_+_, _≤_};
 ghost use lib.ListN.{length};
 ghost use Rattle.laws.specs.Written.{Puts};
-ghost use Rattle.console.specs.Text.{labelled, windowLine, refusalLine, recordLine, runLine};
+ghost use Rattle.console.specs.Text.{labelled, windowLine, placeText, refusalLine, recordLine, runLine};
 use super::pieces::put_number;
 use super::pieces::put_spaced;
 use super::pieces::put_word;
+use refusal::codes;
 use verdict::Verdict;
 
 // A word and a number.
@@ -21,9 +22,9 @@ pub fn put_labelled(out: &mut [u8], at: usize, word: &[u8], x: u64) -> usize
 
 // Record k with the ends of its window.
 fn put_window(out: &mut [u8], at: usize, k: usize, low: u64, high: u64) -> usize
-    requires { ⌜ at + 66 ≤ length (now out) ⌝ }
+    requires { ⌜ at + 71 ≤ length (now out) ⌝ }
     ensures { λ r. ⌜ Puts (now (out .entry)) at (windowLine k low high) (now (out .exit)) r ⌝ }
-    ensures { λ r. ⌜ r ≤ at + 66 ⌝ }
+    ensures { λ r. ⌜ r ≤ at + 71 ⌝ }
 {
     let a = put_number(out, at, k as u64);
     let b = put_word(out, a, b" ok");
@@ -33,25 +34,42 @@ fn put_window(out: &mut [u8], at: usize, k: usize, low: u64, high: u64) -> usize
 }
 
 // Record k with its refusal.
-fn put_refusal(out: &mut [u8], at: usize, k: usize, code: u8) -> usize
-    requires { ⌜ at + 66 ≤ length (now out) ⌝ }
-    ensures { λ r. ⌜ Puts (now (out .entry)) at (refusalLine k code) (now (out .exit)) r ⌝ }
-    ensures { λ r. ⌜ r ≤ at + 66 ⌝ }
+fn put_refusal(out: &mut [u8], at: usize, k: usize, code: u8, place: usize) -> usize
+    requires { ⌜ at + 71 ≤ length (now out) ⌝ }
+    ensures { λ r. ⌜ Puts (now (out .entry)) at (refusalLine k code place) (now (out .exit)) r ⌝ }
+    ensures { λ r. ⌜ r ≤ at + 71 ⌝ }
 {
     let a = put_number(out, at, k as u64);
-    let b = put_word(out, a, b" ");
-    put_labelled(out, b, b"refused", code as u64)
+    let b = put_word(out, a, b" refused");
+    let c = put_spaced(out, b, code as u64);
+    let d = put_place(out, c, code, place);
+    put_word(out, d, b"\n")
+}
+
+// The place that a code carries; of a code that carries none nothing.
+fn put_place(out: &mut [u8], at: usize, code: u8, place: usize) -> usize
+    requires { ⌜ at + 21 ≤ length (now out) ⌝ }
+    ensures { λ r. ⌜ Puts (now (out .entry)) at (placeText code place) (now (out .exit)) r ⌝ }
+    ensures { λ r. ⌜ r ≤ at + 21 ⌝ }
+{
+    if code < codes::FRAME {
+        return at;
+    }
+    if codes::VALUE < code {
+        return at;
+    }
+    put_spaced(out, at, place as u64)
 }
 
 // Record k with its verdict.
 pub fn put_record(out: &mut [u8], at: usize, k: usize, v: Verdict) -> usize
-    requires { ⌜ at + 66 ≤ length (now out) ⌝ }
+    requires { ⌜ at + 71 ≤ length (now out) ⌝ }
     ensures { λ r. ⌜ Puts (now (out .entry)) at (recordLine k v) (now (out .exit)) r ⌝ }
-    ensures { λ r. ⌜ r ≤ at + 66 ⌝ }
+    ensures { λ r. ⌜ r ≤ at + 71 ⌝ }
 {
     match v {
         Verdict::Valid(w) => put_window(out, at, k, w.low, w.high),
-        Verdict::Refused(why) => put_refusal(out, at, k, why.code),
+        Verdict::Refused(why) => put_refusal(out, at, k, why.code, why.at),
     }
 }
 

@@ -64,6 +64,14 @@ reportNumber (Record why k) = why .code
 reportNumber (Unlinked k) = 17
 reportNumber Clear = 18
 
+-- the byte place of each answer, 0 where it carries none (request P8): that of the record's own refusal
+abbrev pub reportAt : Report → ℕ
+reportAt (Pair i j) = 0
+reportAt Bad = 0
+reportAt (Record why k) = why .at
+reportAt (Unlinked k) = 0
+reportAt Clear = 0
+
 -- the order of the numbers: 15; each record in order, with the number of its own refusal; 17 in order; 18
 pub record ReportNumbered (pile answers : List ℕ) (number : ℕ) : Type 0 where
   pub bad : (GoodPile pile answers → ⊥) → number ≡ 15

@@ -1,5 +1,5 @@
 -- What the answers of the library are at the C boundary: each struct, from the answer that it tells. Beside a refusal
--- stand zeros, but for the place of a record.
+-- stand zeros, but for the byte place that it carries and the place of a record.
 pub mod Building
 pub mod Finding
 pub mod Judging

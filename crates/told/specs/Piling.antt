@@ -1,7 +1,7 @@
 -- What is said of a pile, as structs for C.
 use Prim.Native.Nat.{ℕ}
 use Rattle.pile.specs.declared.Judgement.{Judgement}
-use Rattle.report.specs.Report.{reportNumber}
+use Rattle.report.specs.Report.{reportNumber, reportAt}
 use Rattle.report.specs.Taking.{takenNumber}
 use Rattle.report.specs.declared.Report.{Report}
 use Rattle.report.specs.declared.Report.the-variants.{Pair, Bad, Record, Unlinked, Clear}
@@ -15,22 +15,23 @@ use Rattle.told.specs.declared.TbCut.{TbCut}
 
 -- what is said of one record: its verdict, and its place beside it
 abbrev pub placed : ℕ → TbVerdict → TbJudged
-placed k v = record { code = v .code; radi = v .radi; place = k; midp = v .midp; low = v .low; high = v .high }
+placed k v =
+    record { code = v .code; radi = v .radi; place = k; at = v .at; midp = v .midp; low = v .low; high = v .high }
 
 abbrev pub tbJudged : Judgement → TbJudged
 tbJudged j = placed (j .place) (tbVerdict (j .verdict))
 
--- a refusal of a report, with the place that it carries, and 0 where it carries none
-abbrev pub refusedAt : ℕ → ℕ → TbReported
-refusedAt code k = record { code = code; place = k; first = 0; second = 0 }
+-- a refusal of a report, with the record and the byte that it carries, and 0 where it carries none
+abbrev pub refusedAt : ℕ → ℕ → ℕ → TbReported
+refusedAt code k at = record { code = code; place = k; at = at; first = 0; second = 0 }
 
 -- the answer of the check of a report
 abbrev pub tbReported : Report → TbReported
-tbReported (Pair i j) = record { code = 0; place = 0; first = i; second = j }
-tbReported Bad = refusedAt (reportNumber Bad) 0
-tbReported (Record why k) = refusedAt (reportNumber (Record why k)) k
-tbReported (Unlinked k) = refusedAt (reportNumber (Unlinked k)) k
-tbReported Clear = refusedAt (reportNumber Clear) 0
+tbReported (Pair i j) = record { code = 0; place = 0; at = reportAt (Pair i j); first = i; second = j }
+tbReported Bad = refusedAt (reportNumber Bad) 0 (reportAt Bad)
+tbReported (Record why k) = refusedAt (reportNumber (Record why k)) k (reportAt (Record why k))
+tbReported (Unlinked k) = refusedAt (reportNumber (Unlinked k)) k (reportAt (Unlinked k))
+tbReported Clear = refusedAt (reportNumber Clear) 0 (reportAt Clear)
 
 -- a refusal of the cutter
 abbrev pub notCut : ℕ → TbCut

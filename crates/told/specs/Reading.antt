@@ -14,12 +14,33 @@ flagOf true = 1
 flagOf false = 0
 
 abbrev pub tbRequest : Request → TbRequest
-tbRequest q = record { code = q .answer .code; «with_srv» = flagOf (q .«with_srv»); nonc = q .nonc; srv = q .srv }
+tbRequest q =
+    record {
+      code = q .answer .code;
+      «with_srv» = flagOf (q .«with_srv»);
+      at = q .answer .at;
+      nonc = q .nonc;
+      srv = q .srv;
+    }
 
 abbrev pub tbResponse : Response → TbResponse
 tbResponse q =
-    record { code = q .answer .code; indx = q .indx; midp = q .midp; radi = q .radi; nonc = q .nonc; root = q .root }
+    record {
+      code = q .answer .code;
+      indx = q .indx;
+      at = q .answer .at;
+      midp = q .midp;
+      radi = q .radi;
+      nonc = q .nonc;
+      root = q .root;
+    }
 
 abbrev pub tbParts : SignedParts → TbParts
 tbParts q =
-    record { code = q .answer .code; signature = q .signature; delegation = q .delegation; pubk = q .pubk }
+    record {
+      code = q .answer .code;
+      at = q .answer .at;
+      signature = q .signature;
+      delegation = q .delegation;
+      pubk = q .pubk;
+    }

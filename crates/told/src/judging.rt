@@ -2,10 +2,9 @@
 ghost use mathlib.Core.Path.{_≡_};
 ghost use Rattle.told.specs.Judging.{tbVerdict};
 use super::TbVerdict;
-use super::numbers::number;
 use verdict::Verdict;
 
-// A response that passes has code 0 and its window, and one that is refused its code and zeros.
+// A response that passes has code 0 and its window, and one that is refused its code, its place and zeros.
 pub fn verdict_told(v: Verdict) -> TbVerdict
     ensures { λ r. ⌜ r ≡ tbVerdict v ⌝ }
 {
@@ -13,13 +12,15 @@ pub fn verdict_told(v: Verdict) -> TbVerdict
         Verdict::Valid(w) => TbVerdict {
             code: 0,
             radi: w.radi,
+            at: 0,
             midp: w.midp,
             low: w.low,
             high: w.high,
         },
         Verdict::Refused(why) => TbVerdict {
-            code: number(why),
+            code: why.code as u32,
             radi: 0,
+            at: why.at as u64,
             midp: 0,
             low: 0,
             high: 0,

@@ -1,7 +1,8 @@
 // What C is told: the structs of include/trawlbeacon.h that are answers, and each answer of the library as one of them,
 // but for where a server was found, which its export tells. No function has a `requires`.
 // Each struct has the header's name, `tb_request` for `TbRequest`. Its code is document 01's number, 0 where nothing
-// was refused; what stands beside a refusal is zeros, but for the place of a record.
+// was refused, and `at` the byte place that it carries, 0 where it carries none; what else stands beside a refusal is
+// zeros, but for the place of a record.
 mod building;
 mod judging;
 mod numbers;
@@ -28,6 +29,7 @@ pub use writing::wrote_told;
 pub struct TbRequest {
     pub code: u32,
     pub with_srv: u32,
+    pub at: u64,
     pub nonc: [u8; 32],
     pub srv: [u8; 32],
 }
@@ -37,6 +39,7 @@ pub struct TbRequest {
 pub struct TbResponse {
     pub code: u32,
     pub indx: u32,
+    pub at: u64,
     pub midp: u64,
     pub radi: u32,
     pub nonc: [u8; 32],
@@ -47,6 +50,7 @@ pub struct TbResponse {
 #[repr(C)]
 pub struct TbParts {
     pub code: u32,
+    pub at: u64,
     pub signature: [u8; 64],
     pub delegation: [u8; 64],
     pub pubk: [u8; 32],
@@ -56,6 +60,7 @@ pub struct TbParts {
 #[repr(C)]
 pub struct TbWrote {
     pub code: u32,
+    pub at: u64,
     pub length: u64,
 }
 
@@ -64,6 +69,7 @@ pub struct TbWrote {
 pub struct TbVerdict {
     pub code: u32,
     pub radi: u32,
+    pub at: u64,
     pub midp: u64,
     pub low: u64,
     pub high: u64,
@@ -106,6 +112,7 @@ pub struct TbJudged {
     pub code: u32,
     pub radi: u32,
     pub place: u64,
+    pub at: u64,
     pub midp: u64,
     pub low: u64,
     pub high: u64,
@@ -117,6 +124,7 @@ pub struct TbJudged {
 pub struct TbReported {
     pub code: u32,
     pub place: u64,
+    pub at: u64,
     pub first: u64,
     pub second: u64,
 }

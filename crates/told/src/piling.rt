@@ -5,7 +5,6 @@ use super::TbCut;
 use super::TbJudged;
 use super::TbReported;
 use super::judging::verdict_told;
-use super::numbers::number;
 use pile::Judgement;
 use report::Report;
 use report::Taken;
@@ -20,6 +19,7 @@ pub fn judgement_told(j: Judgement) -> TbJudged
         code: told.code,
         radi: told.radi,
         place: j.place as u64,
+        at: told.at,
         midp: told.midp,
         low: told.low,
         high: told.high,
@@ -34,23 +34,25 @@ pub fn report_told(a: Report) -> TbReported
         Report::Pair(i, j) => TbReported {
             code: 0,
             place: 0,
+            at: 0,
             first: i as u64,
             second: j as u64,
         },
-        Report::Bad => refused_at(15, 0),
-        Report::Record(why, k) => refused_at(number(why), k),
-        Report::Unlinked(k) => refused_at(17, k),
-        Report::Clear => refused_at(18, 0),
+        Report::Bad => refused_at(15, 0, 0),
+        Report::Record(why, k) => refused_at(why.code as u32, k, why.at),
+        Report::Unlinked(k) => refused_at(17, k, 0),
+        Report::Clear => refused_at(18, 0, 0),
     }
 }
 
-// A refusal of a report, with the place that it carries.
-fn refused_at(code: u32, place: usize) -> TbReported
-    ensures { λ r. ⌜ r ≡ refusedAt code place ⌝ }
+// A refusal of a report, with the record and the byte that it carries.
+fn refused_at(code: u32, place: usize, at: usize) -> TbReported
+    ensures { λ r. ⌜ r ≡ refusedAt code place at ⌝ }
 {
     TbReported {
         code: code,
         place: place as u64,
+        at: at as u64,
         first: 0,
         second: 0,
     }

@@ -5,7 +5,6 @@ use super::TbParts;
 use super::TbRequest;
 use super::TbResponse;
 use super::numbers::flag;
-use super::numbers::number;
 use wire::Request;
 use wire::Response;
 use wire::SignedParts;
@@ -18,8 +17,9 @@ pub fn request_told(q: Request) -> TbRequest
     let nonc = q.nonc;
     let srv = q.srv;
     TbRequest {
-        code: number(answer),
+        code: answer.code as u32,
         with_srv: flag(q.with_srv),
+        at: answer.at as u64,
         nonc: nonc,
         srv: srv,
     }
@@ -33,8 +33,9 @@ pub fn response_told(q: Response) -> TbResponse
     let nonc = q.nonc;
     let root = q.root;
     TbResponse {
-        code: number(answer),
+        code: answer.code as u32,
         indx: q.indx,
+        at: answer.at as u64,
         midp: q.midp,
         radi: q.radi,
         nonc: nonc,
@@ -51,7 +52,8 @@ pub fn parts_told(q: SignedParts) -> TbParts
     let delegation = q.delegation;
     let pubk = q.pubk;
     TbParts {
-        code: number(answer),
+        code: answer.code as u32,
+        at: answer.at as u64,
         signature: signature,
         delegation: delegation,
         pubk: pubk,

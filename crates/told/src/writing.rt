@@ -2,7 +2,6 @@
 ghost use mathlib.Core.Path.{_≡_};
 ghost use Rattle.told.specs.Writing.{tbWrote};
 use super::TbWrote;
-use super::numbers::number;
 use writer::Wrote;
 
 // How many bytes were written, or why none were.
@@ -12,10 +11,12 @@ pub fn wrote_told(w: Wrote) -> TbWrote
     match w {
         Wrote::Done(n) => TbWrote {
             code: 0,
+            at: 0,
             length: n as u64,
         },
         Wrote::Refused(why) => TbWrote {
-            code: number(why),
+            code: why.code as u32,
+            at: why.at as u64,
             length: 0,
         },
     }

@@ -85,3 +85,8 @@ verdictOf q p d s = verdictBy (checkCode q p d s) (windowIn (body p))
 abbrev pub verdictNumber : Verdict → ℕ
 verdictNumber (Valid w) = 0
 verdictNumber (Refused why) = why .code
+
+-- the byte place of an answer, 0 where it carries none (request P8)
+abbrev pub verdictAt : Verdict → ℕ
+verdictAt (Valid w) = 0
+verdictAt (Refused why) = why .at

@@ -18,11 +18,12 @@ use Rattle.message.specs.Tags.{VER, SRV, NONC, TYPE}
 use Rattle.message.specs.Values.{valueOf}
 use Rattle.message.proofs.Encoded.{has-encoded, value-encoded}
 use Rattle.message.proofs.FieldRows.{Keeps, encode-kept}
-use Rattle.refusal.specs.Refusal.{passed, refusals}
+use Rattle.refusal.specs.Refusal.{passed, moved, refusals}
 use Rattle.wire.specs.Request.{requestMessageCode, requestCode, requestIn, requestOf}
 use Rattle.wire.specs.declared.Request.{Request}
 use Rattle.wire.specs.Tables.{requestTable}
 use Rattle.wire.specs.Versions.{lacksVersion}
+use Rattle.wire.specs.Packet.{bodyStart}
 use Rattle.wire.proofs.Packets.{body-packed, packet-packed}
 use Rattle.writer.specs.Request.{requestFields, requestBytes}
 use Rattle.writer.specs.declared.Wrote.{Wrote}
@@ -112,7 +113,7 @@ module _ (key nonce : List ℕ) (n32 : length nonce ≡ 32) where
   unfolding requestBytes requestCode
   request-good =
       says-0 refusals _ _ (packet-packed (encode fs) (omega (arith, length-message key nonce n32))) refl
-      (is-last refusals (message-good ∙ ap requestMessageCode (sym (body-packed (encode fs)))))
+      (is-last refusals (ap (moved bodyStart) (message-good ∙ ap requestMessageCode (sym (body-packed (encode fs))))))
 
   -- what is written is read back
   pub read-back : requestOf (requestBytes key nonce) ≡ asked key nonce

@@ -14,6 +14,11 @@ abbrev pub wroteNumber : Wrote → ℕ
 wroteNumber (Done n) = 0
 wroteNumber (Refused why) = why .code
 
+-- the byte place of an answer, 0 where it carries none (request P8)
+abbrev pub wroteAt : Wrote → ℕ
+wroteAt (Done n) = 0
+wroteAt (Refused why) = why .at
+
 -- the value of an answer: how many bytes stand at the front of the buffer, none where it is refused
 abbrev pub wroteLength : Wrote → ℕ
 wroteLength (Done n) = n

@@ -1,6 +1,5 @@
 -- `told::judging::verdict_told` meets its contract.
-use Prim.Native.Nat.{ℕ}
-use mathlib.Core.Path.{sym, ap, _∙_}
+use mathlib.Core.Path.{sym, ap}
 use Rattle.told.specs.Judging.{tbVerdict}
 use borrow.Author.Needs.{needs}
 use Rattle.told.proofs.judging.verdict_told.Statement.{statement}
@@ -10,9 +9,7 @@ returns : tie.Need-returns
 returns c = sym (ap tbVerdict (c .before .v .given .1))
 
 returns-2 : tie.Need-returns-2
-returns-2 c =
-    ap (λ (n : ℕ). record { code = n; radi = 0; midp = 0; low = 0; high = 0 }) (c .number .ensures)
-    ∙ sym (ap tbVerdict (c .before .before .v2 .given .1))
+returns-2 c = sym (ap tbVerdict (c .before .before .v2 .given .1))
 
 pub verdict-told-spec : {M : Type 1} → statement M
 verdict-told-spec =
@@ -20,6 +17,6 @@ verdict-told-spec =
     (tie.spec
     (λ c. search needs)
     (λ c. search needs)
-    (λ c κs. search needs)
+    (λ c. search needs)
     returns
     returns-2)

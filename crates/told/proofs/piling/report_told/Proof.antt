@@ -1,7 +1,6 @@
 -- `told::piling::report_told` meets its contract.
-use Prim.Native.Nat.{ℕ}
 use mathlib.Core.Path.{sym, ap, _∙_}
-use Rattle.told.specs.Piling.{tbReported, refusedAt}
+use Rattle.told.specs.Piling.{tbReported}
 use borrow.Author.Needs.{needs}
 use Rattle.told.proofs.piling.report_told.Statement.{statement}
 use Rattle.told.proofs.piling.report_told.Tie as tie
@@ -13,11 +12,7 @@ returns-2 : tie.Need-returns-2
 returns-2 c = c .refused-at .ensures ∙ sym (ap tbReported (c .before .enum-told .given .1))
 
 returns-3 : tie.Need-returns-3
-returns-3 c =
-    let arm = c .before .before .before in
-    c .refused-at2 .ensures
-    ∙ ap (λ (n : ℕ). refusedAt n (arm .a2 .given .0 .1 .0)) (c .before .number .ensures)
-    ∙ sym (ap tbReported (arm .a2 .given .1))
+returns-3 c = c .refused-at2 .ensures ∙ sym (ap tbReported (c .before .before .before .a2 .given .1))
 
 returns-4 : tie.Need-returns-4
 returns-4 c = c .refused-at3 .ensures ∙ sym (ap tbReported (c .before .before .a3 .given .1))

@@ -1,6 +1,5 @@
 -- `told::writing::wrote_told` meets its contract.
-use Prim.Native.Nat.{ℕ}
-use mathlib.Core.Path.{sym, ap, _∙_}
+use mathlib.Core.Path.{sym, ap}
 use Rattle.told.specs.Writing.{tbWrote}
 use borrow.Author.Needs.{needs}
 use Rattle.told.proofs.writing.wrote_told.Statement.{statement}
@@ -10,9 +9,7 @@ returns : tie.Need-returns
 returns c = sym (ap tbWrote (c .before .w .given .1))
 
 returns-2 : tie.Need-returns-2
-returns-2 c =
-    ap (λ (n : ℕ). record { code = n; length = 0 }) (c .number .ensures)
-    ∙ sym (ap tbWrote (c .before .before .w2 .given .1))
+returns-2 c = sym (ap tbWrote (c .before .before .w2 .given .1))
 
 pub wrote-told-spec : {M : Type 1} → statement M
 wrote-told-spec =
@@ -20,6 +17,6 @@ wrote-told-spec =
     (tie.spec
     (λ c. search needs)
     (λ c. search needs)
-    (λ c κs. search needs)
+    (λ c. search needs)
     returns
     returns-2)
