@@ -27,6 +27,7 @@ pub mod message;
 pub mod packet;
 pub mod pieces;
 pub mod pile;
+pub mod place;
 pub mod refusal;
 pub mod report;
 pub mod request;

@@ -7,6 +7,7 @@
 use crate::check::{self, Window};
 use crate::hash;
 use crate::packet;
+use crate::place::{self, Place};
 use crate::refusal::Refusal;
 use crate::request;
 
@@ -106,6 +107,16 @@ impl Answered<'_> {
     pub fn judge(self) -> Result<Window, Refusal> {
         let (request, response) = self.record.packets()?;
         check::check(request, response, self.delegation, self.signature)
+    }
+
+    /// Where the response of the record is bad, where that is why the record is not valid: the
+    /// codes 4 to 7. A bad request is told by no place, since 14 is not one of them.
+    pub fn place(self) -> Option<Place> {
+        let (_, response) = self.record.packets().ok()?;
+        match self.judge() {
+            Err(refusal) if (4..=7).contains(&refusal.code()) => place::in_response(response),
+            _ => None,
+        }
     }
 }
 

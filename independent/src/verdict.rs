@@ -4,15 +4,18 @@ use crate::{pile, report};
 
 /// The lines for a pile and its answers, each with its end.
 pub fn lines(pile: &[u8], answers: &[u8]) -> String {
-    let judged = match pile::judge_all(pile, answers) {
-        Ok(judged) => judged,
+    let records = match pile::read(pile, answers) {
+        Ok(records) => records,
         Err(refusal) => return format!("refused {}\n", refusal.code()),
     };
-    let mut lines = format!("records {}\n", judged.len());
-    for (place, verdict) in judged.iter().enumerate() {
-        lines += &match verdict {
-            Ok(window) => format!("{place} ok {} {}\n", window.low, window.high),
-            Err(refusal) => format!("{place} refused {}\n", refusal.code()),
+    let mut lines = format!("records {}\n", records.len());
+    for (number, record) in records.iter().enumerate() {
+        lines += &match (record.judge(), record.place()) {
+            (Ok(window), _) => format!("{number} ok {} {}\n", window.low, window.high),
+            (Err(refusal), None) => format!("{number} refused {}\n", refusal.code()),
+            (Err(refusal), Some(place)) => {
+                format!("{number} refused {} {}\n", refusal.code(), place.at)
+            }
         };
     }
     lines
@@ -33,5 +36,13 @@ mod tests {
         made.answers[7] = 0;
         assert_eq!(lines(&made.pile, &made.answers), format!("{head}3 refused 13\nrun none\n"));
         assert_eq!(lines(&[], &[]), "refused 15\n");
+    }
+
+    /// N of a response's outermost message is byte 12 of its packet.
+    #[test]
+    fn a_bad_message_is_told_with_its_place() {
+        let mut made = making::pile_of(&[(1000, 10)]);
+        made.pile[pile::at::RESPONSE + 12] = 0;
+        assert_eq!(lines(&made.pile, &made.answers), "records 1\n0 refused 4 12\nrun none\n");
     }
 }

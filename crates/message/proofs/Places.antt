@@ -4,7 +4,7 @@ use Prim.Native.Nat.{ℕ, zero, suc, zero-le, _+_, _-_, _*_, _≤_, _<_}
 use mathlib.Core.Path.{_≡_, refl, sym, ap, _∙_}
 use mathlib.Core.Logic.{_↔_}
 use mathlib.Core.List.{List, [], _∷_}
-use mathlib.Core.Bool.{Bool, true, false, not, _&&_, true≢false}
+use mathlib.Core.Bool.{Bool, true, false, not, cond, _&&_, true≢false}
 use native.Mathlib.Nat.{le-refl, add-zero}
 use native.Mathlib.Omega.{arith, by-contra}
 use borrow.Author.Tests.{eqb-false, leb-false, lt-leb}
@@ -163,13 +163,18 @@ take-again zero xs = refl
 take-again (suc n) [] = refl
 take-again (suc n) (x ∷ xs) = ap (λ (l : List ℕ). x ∷ l) (take-again n xs)
 
--- the value of a tag that is there stands at its start
-value-there : (m : List ℕ) (tag : ℕ) → has m tag ≡ true
-    → take (length (valueOf m tag)) (drop (valueStart m tag) m) ≡ valueOf m tag
+-- the value of a tag stands at its start
+pub value-stands : (m : List ℕ) (tag : ℕ) → take (length (valueOf m tag)) (drop (valueStart m tag) m) ≡ valueOf m tag
 unfolding valueAt valueOf valueStart
-value-there m tag e =
-    let k : ℕ = indexOf m tag in
-    rw e (take-again (edge m (k + 1) - edge m k) (drop (8 * count m + edge m k) m))
+value-stands m tag = by (has m tag)
+  where
+    at : ℕ
+    at = 8 * count m + edge m (indexOf m tag)
+
+    by : (t : Bool) → take (length (cond t (valueAt m (indexOf m tag)) [])) (drop at m)
+        ≡ cond t (valueAt m (indexOf m tag)) []
+    by true = take-again (edge m (indexOf m tag + 1) - edge m (indexOf m tag)) (drop at m)
+    by false = refl
 
 -- rows that rise: a smaller tag stands before
 module _ (rows : List Row) (rise : RowsRise rows) where
@@ -262,7 +267,7 @@ module _ (m : List ℕ) (rows : List Row) where
                 let h : k < firstBroken m rows = rows-order rows rise k (firstBroken m rows) l less in
                 value-test _ _ .0 (and-test _ _ .0 (fails-exactly _ .1 (g .earlier k h)) there);
             is = refl;
-            value = value-there m (row rows (firstBroken m rows) .tag) (b .0);
+            value = value-stands m (row rows (firstBroken m rows) .tag);
           }
 
   -- a place is within the message, or its end

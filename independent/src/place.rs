@@ -1,0 +1,237 @@
+//! Where a packet is bad: the byte that a refusal with one of the codes 4 to 7 names, counted from
+//! the first byte of the packet.
+//!
+//! It is looked for by itself, apart from the readers: a message is walked word by word, and the
+//! first thing that is wrong is told by where it stands.
+
+use crate::tag::{
+    Tag, CERT, DELE, INDX, MAXT, MIDP, MINT, NONC, PATH, PUBK, RADI, ROOT, SIG, SREP, SRV, TYPE,
+    VER, VERS,
+};
+use crate::{packet, value};
+
+/// The five messages, by what they must hold.
+#[derive(Clone, Copy, Debug, PartialEq, Eq, PartialOrd, Ord)]
+pub enum Kind {
+    /// A request.
+    Request,
+    /// The outermost message of a response.
+    Root,
+    /// Its SREP.
+    Srep,
+    /// Its CERT.
+    Cert,
+    /// The DELE in CERT.
+    Dele,
+}
+
+/// What is wrong there.
+#[derive(Clone, Copy, Debug, PartialEq, Eq, PartialOrd, Ord)]
+pub enum Cause {
+    /// The message's length: the place is its start.
+    Length,
+    /// N, or a header that is too long: the place is N's word.
+    Count,
+    /// An offset: the place is the word of the first wrong one.
+    Offset,
+    /// A tag that is not above the one before it: the place is its word.
+    Order,
+    /// An absent tag: the place is the start of the message that lacks it.
+    Absent,
+    /// A value: the place is the start of the wrong one with the smallest tag.
+    Value,
+}
+
+/// A place, the message in which it stands, and what is wrong there.
+#[derive(Clone, Copy, Debug, PartialEq, Eq)]
+pub struct Place {
+    /// The byte, counted from the first one of the packet.
+    pub at: usize,
+    /// The message.
+    pub kind: Kind,
+    /// What is wrong.
+    pub cause: Cause,
+}
+
+impl Kind {
+    fn needed(self) -> &'static [Tag] {
+        match self {
+            Kind::Request => &[VER, NONC, TYPE],
+            Kind::Root => &[SIG, NONC, TYPE, PATH, SREP, CERT, INDX],
+            Kind::Srep => &[VER, RADI, MIDP, VERS, ROOT],
+            Kind::Cert => &[SIG, DELE],
+            Kind::Dele => &[PUBK, MINT, MAXT],
+        }
+    }
+
+    /// Whether the value of this tag is right. What is no tag of the message is ignored.
+    fn right(self, tag: Tag, bytes: &[u8]) -> bool {
+        match (self, tag) {
+            (Kind::Request, VER) | (Kind::Srep, VERS) => value::versions(bytes).is_ok(),
+            (Kind::Srep, RADI) => value::radius(bytes).is_ok(),
+            (Kind::Root, PATH) => value::path(bytes).is_ok(),
+            (Kind::Request, SRV | NONC) | (Kind::Root, NONC) => bytes.len() == 32,
+            (Kind::Srep, ROOT) | (Kind::Dele, PUBK) => bytes.len() == 32,
+            (Kind::Request, TYPE) | (Kind::Root, TYPE | INDX) | (Kind::Srep, VER) => {
+                bytes.len() == 4
+            }
+            (Kind::Root | Kind::Cert, SIG) => bytes.len() == 64,
+            (Kind::Srep, MIDP) | (Kind::Dele, MINT | MAXT) => bytes.len() == 8,
+            _ => true,
+        }
+    }
+}
+
+/// A message within a packet.
+#[derive(Clone, Copy)]
+struct Part<'a> {
+    packet: &'a [u8],
+    start: usize,
+    end: usize,
+    kind: Kind,
+}
+
+impl<'a> Part<'a> {
+    fn word(self, index: usize) -> usize {
+        let at = self.start + 4 * index;
+        u32::from_le_bytes(self.packet[at..at + 4].try_into().expect("four bytes")) as usize
+    }
+
+    /// The byte at which word `index` of the header stands.
+    fn place(self, index: usize, cause: Cause) -> Place {
+        Place { at: self.start + 4 * index, kind: self.kind, cause }
+    }
+
+    /// The first thing that is wrong, or the tags with the bytes from and to which their values go.
+    fn walk(self) -> Result<Vec<(Tag, usize, usize)>, Place> {
+        let length = self.end - self.start;
+        if length < 4 || length % 4 != 0 {
+            return Err(self.place(0, Cause::Length));
+        }
+        let count = self.word(0);
+        if count < 1 || count > 32 || 8 * count > length {
+            return Err(self.place(0, Cause::Count));
+        }
+        let mut starts = vec![0];
+        for index in 1..count {
+            let offset = self.word(index);
+            let before = *starts.last().expect("the first value starts at 0");
+            if offset % 4 != 0 || offset < before || offset > length - 8 * count {
+                return Err(self.place(index, Cause::Offset));
+            }
+            starts.push(offset);
+        }
+        starts.push(length - 8 * count);
+        for index in count + 1..2 * count {
+            if self.word(index) <= self.word(index - 1) {
+                return Err(self.place(index, Cause::Order));
+            }
+        }
+        let values = self.start + 8 * count;
+        let found: Vec<(Tag, usize, usize)> = (0..count)
+            .map(|k| (self.word(count + k) as Tag, values + starts[k], values + starts[k + 1]))
+            .collect();
+        if self.kind.needed().iter().any(|tag| found.iter().all(|pair| pair.0 != *tag)) {
+            return Err(self.place(0, Cause::Absent));
+        }
+        // The tags rise, so that the first wrong value is the one with the smallest tag.
+        match found.iter().find(|(tag, from, to)| !self.kind.right(*tag, &self.packet[*from..*to])) {
+            Some(wrong) => Err(Place { at: wrong.1, kind: self.kind, cause: Cause::Value }),
+            None => Ok(found),
+        }
+    }
+
+    /// The message that is the value of a tag of this one.
+    fn within(self, found: &[(Tag, usize, usize)], tag: Tag, kind: Kind) -> Part<'a> {
+        let pair = found.iter().find(|pair| pair.0 == tag).expect("the tag is needed");
+        Part { packet: self.packet, start: pair.1, end: pair.2, kind }
+    }
+}
+
+/// The outermost message of a packet that has none of the codes 1 to 3.
+fn outermost(packet: &[u8], kind: Kind) -> Option<Part<'_>> {
+    packet::message(packet).ok()?;
+    Some(Part { packet, start: packet::HEADER, end: packet.len(), kind })
+}
+
+/// Where a request is bad, if it is refused with one of the codes 4 to 7.
+pub fn in_request(packet: &[u8]) -> Option<Place> {
+    outermost(packet, Kind::Request)?.walk().err()
+}
+
+/// Where a response is bad, if it is refused with one of the codes 4 to 7.
+pub fn in_response(packet: &[u8]) -> Option<Place> {
+    let root = outermost(packet, Kind::Root)?;
+    let messages = || {
+        let outer = root.walk()?;
+        root.within(&outer, SREP, Kind::Srep).walk()?;
+        let cert = root.within(&outer, CERT, Kind::Cert);
+        let inside = cert.walk()?;
+        cert.within(&inside, DELE, Kind::Dele).walk()
+    };
+    messages().err()
+}
+
+#[cfg(test)]
+mod tests {
+    use super::*;
+    use crate::message;
+    use crate::pieces::{put, Pieces};
+
+    fn told(place: Option<Place>) -> Option<(usize, Kind, Cause)> {
+        place.map(|place| (place.at, place.kind, place.cause))
+    }
+
+    fn framed(words: &[u32]) -> Option<(usize, Kind, Cause)> {
+        let bytes: Vec<u8> = words.iter().flat_map(|word| word.to_le_bytes()).collect();
+        told(in_request(&packet::encode(&bytes)))
+    }
+
+    #[test]
+    fn the_header_is_told_by_its_first_wrong_word() {
+        assert_eq!(framed(&[]), Some((12, Kind::Request, Cause::Length)));
+        assert_eq!(told(in_request(&packet::encode(&[1; 5]))).unwrap().0, 12);
+        assert_eq!(framed(&[0]), Some((12, Kind::Request, Cause::Count)));
+        assert_eq!(framed(&[3, 0, 0, 1, 2]), Some((12, Kind::Request, Cause::Count)));
+        // Offsets 4 and 8 fall to 0 and leave the section: the first of them is told.
+        assert_eq!(framed(&[4, 4, 0, 99, 1, 2, 3, 4, 0]), Some((20, Kind::Request, Cause::Offset)));
+        assert_eq!(framed(&[3, 0, 0, 1, 2, 2]), Some((32, Kind::Request, Cause::Order)));
+        assert_eq!(framed(&[2, 0, 1, 2]), Some((12, Kind::Request, Cause::Absent)));
+    }
+
+    #[test]
+    fn a_good_packet_has_no_place() {
+        assert_eq!(in_response(&Pieces::good().packet()), None);
+        assert_eq!(in_request(b"ROUGHTIM"), None);
+    }
+
+    /// A value that is told starts where its bytes stand in the packet.
+    #[test]
+    fn values_are_told_by_their_start() {
+        let mut pieces = Pieces::good();
+        put(&mut pieces.srep, RADI, &[0; 4]);
+        put(&mut pieces.srep, ROOT, &[]);
+        put(&mut pieces.dele, PUBK, &[0xee; 28]);
+        let packet = pieces.clone().packet();
+        let place = in_response(&packet).unwrap();
+        assert_eq!((place.kind, place.cause), (Kind::Srep, Cause::Value));
+        assert_eq!(packet[place.at..place.at + 4], [0; 4]);
+        put(&mut pieces.srep, RADI, &[5, 0, 0, 0]);
+        put(&mut pieces.srep, ROOT, &[0x11; 32]);
+        let packet = pieces.packet();
+        let place = in_response(&packet).unwrap();
+        assert_eq!((place.kind, place.cause), (Kind::Dele, Cause::Value));
+        assert_eq!(packet[place.at..place.at + 28], [0xee; 28]);
+    }
+
+    #[test]
+    fn the_message_that_lacks_a_tag_is_told_by_its_start() {
+        let mut pieces = Pieces::good();
+        pieces.dele.retain(|pair| pair.0 != MINT);
+        let dele = message::encode(&pieces.dele);
+        let packet = pieces.packet();
+        let place = in_response(&packet).unwrap();
+        assert_eq!((place.kind, place.cause), (Kind::Dele, Cause::Absent));
+        assert_eq!(packet[place.at..place.at + dele.len()], dele[..]);
+    }
+}
