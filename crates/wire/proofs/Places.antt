@@ -1,6 +1,6 @@
 -- Each of the codes 4 to 7 of a packet is told of the message in which it is given, at that message's place in the
 -- packet. The tables' rows rise, so that message's place-7 holds of each of them.
-use Prim.Native.Nat.{ℕ, zero, suc, _+_, _-_, _≤_, _<_}
+use Prim.Native.Nat.{ℕ, zero, suc, _+_, _≤_}
 use mathlib.Core.Path.{_≡_, refl, sym, ap, _∙_}
 use mathlib.Core.List.{List, [], _∷_}
 use mathlib.Core.Bool.{Bool, true}
@@ -9,15 +9,22 @@ use borrow.Author.Tests.{le-leb}
 use lib.ListN.{length, take, drop}
 use lib.Seq.{drop-drop, take-take, take-length}
 use Rattle.laws.proofs.First.{first-keeps, when-keeps, end-keeps}
-use Rattle.refusal.specs.Refusal.{refusal, passed, refusals, moved}
+use Rattle.refusal.specs.Refusal.{refusal, passed, refusals, first, moved}
 use Rattle.refusal.specs.declared.Refusal.{Refusal}
 use Rattle.message.specs.Places.{RowsRise}
 use Rattle.message.specs.Rules.{Row, messageCode}
 use Rattle.message.specs.Tags.{DELE, SREP, CERT}
-use Rattle.message.specs.Values.{has, valueOf, valueStart}
+use Rattle.message.specs.Sentences.{Good}
+use Rattle.message.specs.Values.{valueStart}
+use Rattle.message.proofs.Codes.{message-good}
+use Rattle.message.proofs.Edges.{value-ends}
+use Rattle.message.proofs.Places.{value-stands}
 use Rattle.wire.specs.Packet.{bodyStart, body, packetCode}
-use Rattle.wire.specs.Places.{Carries, ToldOf}
+use Rattle.wire.specs.Places.{Carries, ToldOf, ToldIn, of-root, of-srep, of-cert, of-dele}
 use Rattle.wire.specs.Request.{requestMessageCode, requestCode}
+use Rattle.wire.specs.Response.{srep, cert, dele, srepStart, certStart, deleStart, shapeCode, signedCode}
+use Rattle.wire.specs.Response.{responseMessageCode, responseCode}
+use Rattle.wire.proofs.PlacesIn.{dele-in}
 use Rattle.wire.specs.Tables.{requestTable, rootTable, srepTable, certTable, deleTable}
 
 -- ---- the tables rise
@@ -146,3 +153,72 @@ module _ (p : List ℕ) where
     where
       Whole : Refusal → Type 0
       Whole r = Carries (r .code) → ToldOf p r (body p) requestTable bodyStart
+
+  -- ---- responses
+
+  AsResponse : Refusal → Type 0
+  AsResponse r = Carries (r .code) → ToldIn p (moved bodyStart r)
+
+  shape-told : AsResponse (shapeCode (body p))
+  unfolding AsResponse shapeCode
+  shape-told =
+      first-keeps refusals AsResponse (messageCode m rootTable) _ (λ c. of-root (body-told rootTable c))
+      (λ a. let g = message-good m rootTable _ refl a in
+      first-keeps refusals AsResponse (moved (srepStart m) (messageCode (srep m) srepTable)) _
+      (λ c. of-srep a
+      (part-told (srep m) srepTable (srepStart m) (value-stands m SREP) (value-ends m g SREP) (same c)))
+      (λ b. first-keeps refusals AsResponse (moved (certStart m) (messageCode (cert m) certTable)) _
+      (λ c. of-cert a b
+      (part-told (cert m) certTable (certStart m) (value-stands m CERT) (value-ends m g CERT) (same c)))
+      (λ d. let h = message-good (cert m) certTable _ refl d in
+      first-keeps refusals AsResponse (moved (deleStart m) (messageCode (dele m) deleTable)) _
+      (λ c. of-dele a b d (part-told (dele m) deleTable (deleStart m) (dele-stands h) (dele-in m g h) (same c)))
+      (λ e. end-keeps refusals AsResponse (λ c. absurd (omega (arith, c .least)))))))
+    where
+      m : List ℕ
+      m = body p
+
+      same : {n : ℕ} → Carries n → Carries n
+      same c = c
+
+      dele-stands : Good (cert (body p)) → take (length (dele m)) (drop (deleStart m) m) ≡ dele m
+      dele-stands h =
+          inner-stands m (cert m) (dele m) (certStart m) (valueStart (cert m) DELE) (value-stands m CERT)
+          (value-stands (cert m) DELE) (value-ends (cert m) h DELE)
+
+  response-told : AsResponse (responseMessageCode (body p))
+  unfolding AsResponse responseMessageCode
+  response-told =
+      first-keeps refusals AsResponse _ _ shape-told
+      (λ a. first-keeps refusals AsResponse _ _ (when-keeps refusals AsResponse _ _ eight none)
+      (λ b. first-keeps refusals AsResponse _ _ (when-keeps refusals AsResponse _ _ eight none)
+      (λ d. first-keeps refusals AsResponse _ _ (when-keeps refusals AsResponse _ _ eight none)
+      (λ e. end-keeps refusals AsResponse none))))
+    where
+      eight : {b : Bool} → b ≡ true → AsResponse (refusal 8)
+      eight t c = absurd (omega (arith, c .most))
+
+      none : AsResponse passed
+      none c = absurd (omega (arith, c .least))
+
+  -- a packet whose message's refusal is told so is told so itself
+  by-body : (r : Refusal) → AsResponse r → Carries (first (packetCode p ∷ moved bodyStart r ∷ []) .code)
+      → ToldIn p (first (packetCode p ∷ moved bodyStart r ∷ []))
+  unfolding Low AsResponse
+  by-body r told =
+      first-keeps refusals Whole _ _ (λ c. absurd (packet-low p c))
+      (λ a. first-keeps refusals Whole (moved bodyStart r) [] (λ c. told (record { least = c .least; most = c .most }))
+      (λ b. end-keeps refusals Whole (λ c. absurd (omega (arith, c .least)))))
+    where
+      Whole : Refusal → Type 0
+      Whole x = Carries (x .code) → ToldIn p x
+
+  -- of a response: the place is that in one of its four messages, counted from the packet's first byte
+  pub response-place : Carries (responseCode p .code) → ToldIn p (responseCode p)
+  unfolding responseCode
+  response-place = by-body (responseMessageCode (body p)) response-told
+
+  -- and so for the signed texts and parts
+  pub signed-place : Carries (signedCode p .code) → ToldIn p (signedCode p)
+  unfolding signedCode
+  signed-place = by-body (shapeCode (body p)) shape-told
