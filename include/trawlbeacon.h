@@ -22,9 +22,19 @@
  * SREP's VER is not 1, or VERS lacks SREP's VER; where a request is lent, also where its VER lacks
  * SREP's VER, or some version that is larger than SREP's VER stands in both its VER and VERS.
  *
+ * The codes 4 to 7 come with at, the byte of the packet at which it is bad, counted from the
+ * packet's first byte; beside any other code, 14 too, at is 0 and means nothing.
+ *   4 and 5: the start of the first wrong word of a message's header: of the first offset that is
+ *            no multiple of 4, falls or leaves the message; of the tag that is not above the one
+ *            before it; N's word, where N is not 1 to 32 or the header is too long. The start of
+ *            the message, where its length is under 4 or no multiple of 4.
+ *   6:       the start of the message that lacks the tag.
+ *   7:       the start of the value, an empty one too; of several wrong ones, of that with the
+ *            smallest tag.
+ *
  * On a refusal out stays as it was, and so does a state; every other field of the answer is 0, but
- * for the place of a record where the answer has one. What is written stands at the front of out;
- * what follows it stays.
+ * for at, and for the place of a record where the answer has one. What is written stands at the
+ * front of out; what follows it stays.
  */
 #ifndef TRAWLBEACON_H
 #define TRAWLBEACON_H
@@ -39,7 +49,7 @@ extern "C" {
 
 /* The version of this header: a change of the first number breaks callers. */
 #define TB_VERSION_MAJOR 0
-#define TB_VERSION_MINOR 6
+#define TB_VERSION_MINOR 7
 
 /* ---- Codes ---- */
 
@@ -275,6 +285,7 @@ static inline void tb_hash_finish(const struct tb_running *state, uint8_t out[32
 struct tb_request {
     uint32_t code;
     uint32_t with_srv;
+    uint64_t at;
     uint8_t nonc[32];
     uint8_t srv[32];
 };
@@ -286,6 +297,7 @@ struct tb_request tb_read_request(const uint8_t *packet, size_t packet_len);
 struct tb_response {
     uint32_t code;
     uint32_t indx;
+    uint64_t at;
     uint64_t midp;
     uint32_t radi;
     uint8_t nonc[32];
@@ -299,6 +311,7 @@ struct tb_response tb_read_response(const uint8_t *packet, size_t packet_len);
 /* What a writer wrote: how many bytes, 0 on a refusal. */
 struct tb_wrote {
     uint32_t code;
+    uint64_t at;
     uint64_t length;
 };
 
@@ -318,6 +331,7 @@ struct tb_wrote tb_write_request(const uint8_t key[32], const uint8_t nonce[32],
  * (SIG of CERT), and the delegated key (PUBK of DELE). */
 struct tb_parts {
     uint32_t code;
+    uint64_t at;
     uint8_t signature[64];
     uint8_t delegation[64];
     uint8_t pubk[32];
@@ -343,6 +357,7 @@ struct tb_wrote tb_response_text(const uint8_t *packet, size_t packet_len, uint8
 struct tb_verdict {
     uint32_t code;
     uint32_t radi;
+    uint64_t at;
     uint64_t midp;
     uint64_t low;
     uint64_t high;
@@ -449,11 +464,12 @@ uint32_t tb_pile_code(const uint8_t *pile, size_t pile_len, const uint8_t *answe
                       size_t answers_len);
 
 /* What is said of one record: its window, as tb_verdict tells it, or a refusal. place is the place
- * that was asked for, also on a refusal. */
+ * that was asked for, also on a refusal; at is a byte of the record's response packet. */
 struct tb_judged {
     uint32_t code;
     uint32_t radi;
     uint64_t place;
+    uint64_t at;
     uint64_t midp;
     uint64_t low;
     uint64_t high;
@@ -480,10 +496,11 @@ bool tb_contradicts(uint64_t earlier_midp, uint32_t earlier_radi, uint64_t later
 
 /* What the check of a report says: on 0, the places of the two records that contradict each other,
  * first below second. On 1 to 14, 16 and 17, place is that of the record to which the code applies;
- * else it is 0 and means nothing. */
+ * else it is 0 and means nothing. at is a byte of that record's response packet. */
 struct tb_reported {
     uint32_t code;
     uint64_t place;
+    uint64_t at;
     uint64_t first;
     uint64_t second;
 };

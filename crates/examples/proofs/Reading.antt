@@ -6,13 +6,13 @@ use Prim.Native.Nat.{ℕ, zero, suc, _+_, _-_, _≤_, _<_}
 use native.Mathlib.Omega.{arith}
 use lib.ListN.{length}
 use Rattle.laws.proofs.First.{says-0, says-more, is-last, none-quiet}
-use Rattle.refusal.specs.Refusal.{refusals, first}
+use Rattle.refusal.specs.Refusal.{refusals, first, moved}
 use Rattle.refusal.specs.declared.Refusal.{Refusal}
 use Rattle.message.specs.Frame.{count, tagAt, frameCode}
 use Rattle.message.specs.Rules.{Row, messageCode}
 use Rattle.message.specs.Sentences.{TagsRise}
 use Rattle.message.proofs.Codes.{code-5}
-use Rattle.wire.specs.Packet.{packetCode, packetOf, body}
+use Rattle.wire.specs.Packet.{packetCode, packetOf, body, bodyStart}
 use Rattle.wire.specs.Request.{requestCode, requestMessageCode}
 use Rattle.wire.specs.Response.{responseCode, responseMessageCode, shapeCode}
 use Rattle.wire.specs.Tables.{requestTable, rootTable}
@@ -40,16 +40,15 @@ module _ (m : List ℕ) (code : ℕ) (some : 0 < code) (tabled : (rows : List Ro
   request-refused : length (packetOf m) ≤ 2000 → requestCode (packetOf m) .code ≡ code
   unfolding requestCode requestMessageCode
   request-refused h =
-      sym (code-of (says-more refusals _ refl (refused requestTable) ∙ message-next requestMessageCode m h))
+      sym (code-of (message-next (λ s. moved bodyStart (requestMessageCode s)) m h))
+      ∙ sym (code-of (says-more refusals _ refl (refused requestTable)))
       ∙ tabled requestTable
 
   response-refused : length (packetOf m) ≤ 2000 → responseCode (packetOf m) .code ≡ code
   unfolding responseCode responseMessageCode shapeCode
   response-refused h =
-      sym
-      (code-of
-      (says-more refusals _ (says-more refusals _ refl (refused rootTable)) (refused rootTable)
-      ∙ message-next responseMessageCode m h))
+      sym (code-of (message-next (λ s. moved bodyStart (responseMessageCode s)) m h))
+      ∙ sym (code-of (says-more refusals _ (says-more refusals _ refl (refused rootTable)) (refused rootTable)))
       ∙ tabled rootTable
 
   refuses : Refuses m code

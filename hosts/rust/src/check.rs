@@ -1,6 +1,6 @@
 //! The check of a response against its request.
 
-use crate::{raw, Refusal};
+use crate::{raw, PacketRefusal};
 
 /// What a valid response tells: the true time is from `low` to `high`, in seconds since 1970.
 #[derive(Clone, Copy, Debug, PartialEq, Eq)]
@@ -16,7 +16,7 @@ pub struct Window {
 }
 
 /// The window of `response`, where it is a valid answer to `request`. The refusals are 14 and then
-/// 1 to 13.
+/// 1 to 13. A place is one in the response: of a bad request none is told.
 ///
 /// The caller checks both signatures with what [`signed_parts`](crate::signed_parts) hands out:
 /// `delegation` says whether the delegation's verifies, over
@@ -27,7 +27,7 @@ pub fn check_response(
     response: &[u8],
     delegation: bool,
     signature: bool,
-) -> Result<Window, Refusal> {
+) -> Result<Window, PacketRefusal> {
     // SAFETY: see raw.
     let verdict = unsafe {
         raw::tb_check_response(
@@ -39,7 +39,7 @@ pub fn check_response(
             u32::from(signature),
         )
     };
-    Refusal::check(verdict.code)?;
+    PacketRefusal::check(verdict.code, verdict.at)?;
     let raw::tb_verdict { midp, radi, low, high, .. } = verdict;
     Ok(Window { midp, radi, low, high })
 }

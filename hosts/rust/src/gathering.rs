@@ -1,7 +1,7 @@
 //! What a host gathers: records, and the pile of them beside what it found out about their
 //! signatures.
 
-use crate::{piles, Cut, Pair, Refusal, ReportRefusal, Window};
+use crate::{piles, Cut, PacketRefusal, Pair, Refusal, ReportRefusal, Window};
 use crate::{LONGEST_PACKET, MOST_RECORDS, RECORD_LENGTH};
 
 /// Where the parts of a record are. Its first 32 bytes are the key.
@@ -66,7 +66,7 @@ fn length(packet: &[u8]) -> [u8; 4] {
 /// let mut pile = Pile::new();
 /// pile.push(&record, true, false)?;
 /// assert_eq!((pile.bytes(), pile.answers()), (&record.bytes()[..], &[1, 0][..]));
-/// assert_eq!(pile.judge(0), Err(Refusal::Request));
+/// assert_eq!(pile.judge(0), Err(Refusal::Request.into()));
 /// assert_eq!(pile.cut(), Err(Refusal::NoContradiction));
 /// # Ok::<(), Refusal>(())
 /// ```
@@ -119,7 +119,7 @@ impl Pile {
     }
 
     /// What [`judge`](crate::judge) says of a record.
-    pub fn judge(&self, place: usize) -> Result<Window, Refusal> {
+    pub fn judge(&self, place: usize) -> Result<Window, PacketRefusal> {
         piles::judge(&self.bytes, &self.answers, place)
     }
 

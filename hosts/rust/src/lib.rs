@@ -22,8 +22,10 @@
 //! assert_eq!(request.srv, Some(trawlbeacon::srv_value(&key)));
 //!
 //! // A request is no response: it has no SIG.
-//! let refusal = trawlbeacon::read_response(&packet).unwrap_err();
-//! assert_eq!((refusal, refusal.code()), (Refusal::TagAbsent, 6));
+//! let why = trawlbeacon::read_response(&packet).unwrap_err();
+//! assert_eq!((why.refusal, why.code()), (Refusal::TagAbsent, 6));
+//! // The message that lacks it starts behind the packet's header.
+//! assert_eq!(why.at, Some(12));
 //! # Ok::<(), Refusal>(())
 //! ```
 
@@ -50,7 +52,7 @@ pub use piles::{
     check_report, contradicts, cut, cut_run, first_rand_zero, judge, linked, pile_code, Cut, Pair,
     ReportRefusal, Run, MOST_RECORDS, RECORD_LENGTH,
 };
-pub use refusal::Refusal;
+pub use refusal::{PacketRefusal, Refusal};
 pub use servers::{find_server, Found, List, SERVER_LENGTH};
 pub use signing::{delegation_text, response_text, signed_parts, SignedParts, LONGEST_TEXT};
 pub use trees::{

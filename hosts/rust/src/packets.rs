@@ -1,6 +1,6 @@
 //! Requests and responses: reading both, and writing a request.
 
-use crate::{raw, Hash, Refusal};
+use crate::{raw, Hash, PacketRefusal, Refusal};
 
 /// Bytes of the longest packet that is read.
 pub const LONGEST_PACKET: usize = 2000;
@@ -34,18 +34,18 @@ pub struct Response {
 }
 
 /// Reads a request. The refusals are 1 to 8.
-pub fn read_request(packet: &[u8]) -> Result<Request, Refusal> {
+pub fn read_request(packet: &[u8]) -> Result<Request, PacketRefusal> {
     // SAFETY: see raw.
     let read = unsafe { raw::tb_read_request(packet.as_ptr(), packet.len()) };
-    Refusal::check(read.code)?;
+    PacketRefusal::check(read.code, read.at)?;
     Ok(Request { nonc: read.nonc, srv: (read.with_srv != 0).then_some(read.srv) })
 }
 
 /// Reads a response. The refusals are 1 to 8.
-pub fn read_response(packet: &[u8]) -> Result<Response, Refusal> {
+pub fn read_response(packet: &[u8]) -> Result<Response, PacketRefusal> {
     // SAFETY: see raw.
     let read = unsafe { raw::tb_read_response(packet.as_ptr(), packet.len()) };
-    Refusal::check(read.code)?;
+    PacketRefusal::check(read.code, read.at)?;
     let raw::tb_response { nonc, indx, midp, radi, root, .. } = read;
     Ok(Response { nonc, indx, midp, radi, root })
 }
@@ -55,12 +55,12 @@ pub fn read_response(packet: &[u8]) -> Result<Response, Refusal> {
 /// refusal is 19, and then all of `out` stays.
 pub fn write_request(key: &[u8; 32], nonce: &[u8; 32], out: &mut [u8]) -> Result<usize, Refusal> {
     // SAFETY: see raw.
-    wrote(unsafe { raw::tb_write_request(key, nonce, out.as_mut_ptr(), out.len()) })
+    Ok(wrote(unsafe { raw::tb_write_request(key, nonce, out.as_mut_ptr(), out.len()) })?)
 }
 
 /// How many bytes were written, or why none were. They are a part of a slice, so that nothing is
 /// lost where their number becomes a usize.
-pub(crate) fn wrote(wrote: raw::tb_wrote) -> Result<usize, Refusal> {
-    Refusal::check(wrote.code)?;
+pub(crate) fn wrote(wrote: raw::tb_wrote) -> Result<usize, PacketRefusal> {
+    PacketRefusal::check(wrote.code, wrote.at)?;
     Ok(wrote.length as usize)
 }

@@ -8,7 +8,7 @@
 
 use core::fmt;
 
-use crate::{raw, Refusal, Window};
+use crate::{raw, PacketRefusal, Refusal, Window};
 
 /// Bytes of a record of a pile. Numbers in it are least significant byte first.
 ///
@@ -75,14 +75,17 @@ pub struct ReportRefusal {
     /// The place of the record to which it applies: there is one exactly where the code is 1 to 14,
     /// 16 or 17.
     pub place: Option<usize>,
+    /// The byte at which that record's response is bad, counted from its first one: there is one
+    /// exactly where the code is 4 to 7.
+    pub at: Option<usize>,
 }
 
 impl fmt::Display for ReportRefusal {
     fn fmt(&self, f: &mut fmt::Formatter) -> fmt::Result {
-        match self.place {
-            Some(place) => write!(f, "record {place}: {}", self.refusal),
-            None => self.refusal.fmt(f),
+        if let Some(place) = self.place {
+            write!(f, "record {place}: ")?;
         }
+        PacketRefusal { refusal: self.refusal, at: self.at }.fmt(f)
     }
 }
 
@@ -111,14 +114,14 @@ pub fn pile_code(pile: &[u8], answers: &[u8]) -> Result<(), Refusal> {
 /// use trawlbeacon::{judge, Refusal, RECORD_LENGTH};
 ///
 /// // A record of zeros has no request, and there is no second record.
-/// assert_eq!(judge(&[0; RECORD_LENGTH], &[1, 1], 0), Err(Refusal::Request));
-/// assert_eq!(judge(&[0; RECORD_LENGTH], &[1, 1], 1), Err(Refusal::Pile));
+/// assert_eq!(judge(&[0; RECORD_LENGTH], &[1, 1], 0), Err(Refusal::Request.into()));
+/// assert_eq!(judge(&[0; RECORD_LENGTH], &[1, 1], 1), Err(Refusal::Pile.into()));
 /// ```
-pub fn judge(pile: &[u8], answers: &[u8], place: usize) -> Result<Window, Refusal> {
+pub fn judge(pile: &[u8], answers: &[u8], place: usize) -> Result<Window, PacketRefusal> {
     let (from, told) = (pile.as_ptr(), answers.as_ptr());
     // SAFETY: see raw.
     let judged = unsafe { raw::tb_judge(from, pile.len(), told, answers.len(), place) };
-    Refusal::check(judged.code)?;
+    PacketRefusal::check(judged.code, judged.at)?;
     let raw::tb_judged { midp, radi, low, high, .. } = judged;
     Ok(Window { midp, radi, low, high })
 }
@@ -169,7 +172,7 @@ pub fn contradicts(earlier: &Window, later: &Window) -> bool {
 /// ```
 /// use trawlbeacon::{check_report, Refusal, ReportRefusal, RECORD_LENGTH};
 ///
-/// let refused = |refusal, place| Err(ReportRefusal { refusal, place });
+/// let refused = |refusal, place| Err(ReportRefusal { refusal, place, at: None });
 /// let zeros = [0; RECORD_LENGTH + 1];
 /// assert_eq!(check_report(&zeros[1..], &[1, 1]), refused(Refusal::Request, Some(0)));
 /// assert_eq!(check_report(&zeros, &[1, 1]), refused(Refusal::Pile, None));
@@ -178,11 +181,11 @@ pub fn check_report(pile: &[u8], answers: &[u8]) -> Result<Pair, ReportRefusal> 
     let (from, told) = (pile.as_ptr(), answers.as_ptr());
     // SAFETY: see raw.
     let checked = unsafe { raw::tb_check_report(from, pile.len(), told, answers.len()) };
-    match Refusal::check(checked.code) {
+    match PacketRefusal::check(checked.code, checked.at) {
         Ok(()) => Ok(Pair { first: checked.first as usize, second: checked.second as usize }),
-        Err(refusal) => {
+        Err(PacketRefusal { refusal, at }) => {
             let of_a_record = !matches!(refusal, Refusal::Pile | Refusal::NoContradiction);
-            Err(ReportRefusal { refusal, place: of_a_record.then_some(checked.place as usize) })
+            Err(ReportRefusal { refusal, place: of_a_record.then_some(checked.place as usize), at })
         }
     }
 }

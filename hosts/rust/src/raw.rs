@@ -29,10 +29,12 @@ pub struct tb_running {
 #[repr(C)]
 #[derive(Clone, Copy, Debug, PartialEq, Eq)]
 pub struct tb_request {
-    /// 0, or a refusal; then all else is 0.
+    /// 0, or a refusal; then all else but `at` is 0.
     pub code: u32,
     /// 1 where the request has an SRV, else 0; then `srv` is all 0.
     pub with_srv: u32,
+    /// The byte of the packet at which it is bad, with codes 4 to 7; else 0.
+    pub at: u64,
     /// NONC.
     pub nonc: [u8; 32],
     /// SRV.
@@ -43,10 +45,12 @@ pub struct tb_request {
 #[repr(C)]
 #[derive(Clone, Copy, Debug, PartialEq, Eq)]
 pub struct tb_response {
-    /// 0, or a refusal; then all else is 0.
+    /// 0, or a refusal; then all else but `at` is 0.
     pub code: u32,
     /// INDX.
     pub indx: u32,
+    /// The byte of the packet at which it is bad, with codes 4 to 7; else 0.
+    pub at: u64,
     /// MIDP.
     pub midp: u64,
     /// RADI.
@@ -63,6 +67,8 @@ pub struct tb_response {
 pub struct tb_wrote {
     /// 0, or a refusal.
     pub code: u32,
+    /// The byte of the packet at which it is bad, with codes 4 to 7; else 0.
+    pub at: u64,
     /// How many bytes were written: 0 on a refusal.
     pub length: u64,
 }
@@ -71,8 +77,10 @@ pub struct tb_wrote {
 #[repr(C)]
 #[derive(Clone, Copy, Debug, PartialEq, Eq)]
 pub struct tb_parts {
-    /// 0, or a refusal; then all else is 0.
+    /// 0, or a refusal; then all else but `at` is 0.
     pub code: u32,
+    /// The byte of the packet at which it is bad, with codes 4 to 7; else 0.
+    pub at: u64,
     /// SIG of the outermost message.
     pub signature: [u8; 64],
     /// SIG of CERT.
@@ -85,10 +93,12 @@ pub struct tb_parts {
 #[repr(C)]
 #[derive(Clone, Copy, Debug, PartialEq, Eq)]
 pub struct tb_verdict {
-    /// 0, or a refusal; then all else is 0.
+    /// 0, or a refusal; then all else but `at` is 0.
     pub code: u32,
     /// RADI.
     pub radi: u32,
+    /// The byte of the packet at which it is bad, with codes 4 to 7; else 0.
+    pub at: u64,
     /// MIDP.
     pub midp: u64,
     /// The low end of the window.
@@ -147,12 +157,14 @@ pub struct tb_found {
 #[repr(C)]
 #[derive(Clone, Copy, Debug, PartialEq, Eq)]
 pub struct tb_judged {
-    /// 0, or a refusal; then all else but the place is 0.
+    /// 0, or a refusal; then all else but the place and `at` is 0.
     pub code: u32,
     /// RADI.
     pub radi: u32,
     /// The place that was asked for.
     pub place: u64,
+    /// The byte of the record's response at which it is bad, with codes 4 to 7; else 0.
+    pub at: u64,
     /// MIDP.
     pub midp: u64,
     /// The low end of the window.
@@ -165,11 +177,13 @@ pub struct tb_judged {
 #[repr(C)]
 #[derive(Clone, Copy, Debug, PartialEq, Eq)]
 pub struct tb_reported {
-    /// 0, or a refusal; then all else but the place is 0.
+    /// 0, or a refusal; then all else but the place and `at` is 0.
     pub code: u32,
     /// The place of the record to which the refusal applies: 0 where there is none, as with 0, 15
     /// and 18.
     pub place: u64,
+    /// The byte of the record's response at which it is bad, with codes 4 to 7; else 0.
+    pub at: u64,
     /// The place of the earlier record of the pair.
     pub first: u64,
     /// The place of the later one.

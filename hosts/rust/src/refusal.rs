@@ -196,6 +196,60 @@ impl fmt::Display for Refusal {
 
 impl std::error::Error for Refusal {}
 
+/// Why a packet is refused, and where it is bad.
+#[derive(Clone, Copy, Debug, PartialEq, Eq, Hash)]
+#[must_use]
+pub struct PacketRefusal {
+    /// The refusal.
+    pub refusal: Refusal,
+    /// The byte at which the packet is bad, counted from its first one: there is one exactly where
+    /// the code is 4 to 7. It is the start of the first wrong word of a message's header (4, 5), of
+    /// the message that lacks a tag (6) or has a wrong length (4), or of the wrong value with the
+    /// smallest tag (7).
+    pub at: Option<usize>,
+}
+
+impl PacketRefusal {
+    /// Its number.
+    #[must_use]
+    pub const fn code(self) -> u32 {
+        self.refusal.code()
+    }
+
+    /// What the library answered, as a result. A place is one in a packet, so that nothing is lost
+    /// where it becomes a usize.
+    pub(crate) fn check(code: u32, at: u64) -> Result<(), PacketRefusal> {
+        Refusal::check(code).map_err(|refusal| PacketRefusal {
+            refusal,
+            at: (4..=7).contains(&code).then_some(at as usize),
+        })
+    }
+}
+
+impl From<PacketRefusal> for Refusal {
+    fn from(why: PacketRefusal) -> Refusal {
+        why.refusal
+    }
+}
+
+impl From<Refusal> for PacketRefusal {
+    /// A refusal without a place.
+    fn from(refusal: Refusal) -> PacketRefusal {
+        PacketRefusal { refusal, at: None }
+    }
+}
+
+impl fmt::Display for PacketRefusal {
+    fn fmt(&self, f: &mut fmt::Formatter) -> fmt::Result {
+        match self.at {
+            Some(at) => write!(f, "{}, at byte {at}", self.refusal),
+            None => self.refusal.fmt(f),
+        }
+    }
+}
+
+impl std::error::Error for PacketRefusal {}
+
 #[cfg(test)]
 mod tests {
     use super::Refusal;

@@ -6,7 +6,7 @@
 //! to accept a forged time.
 
 use crate::packets::wrote;
-use crate::{raw, Refusal};
+use crate::{raw, PacketRefusal};
 
 /// Bytes that are room for every text that is signed.
 pub const LONGEST_TEXT: usize = 2000;
@@ -25,10 +25,10 @@ pub struct SignedParts {
 }
 
 /// Takes out of a response what is verified. The refusals are 1 to 7.
-pub fn signed_parts(packet: &[u8]) -> Result<SignedParts, Refusal> {
+pub fn signed_parts(packet: &[u8]) -> Result<SignedParts, PacketRefusal> {
     // SAFETY: see raw.
     let parts = unsafe { raw::tb_signed_parts(packet.as_ptr(), packet.len()) };
-    Refusal::check(parts.code)?;
+    PacketRefusal::check(parts.code, parts.at)?;
     let raw::tb_parts { signature, delegation, pubk, .. } = parts;
     Ok(SignedParts { signature, delegation, pubk })
 }
@@ -36,7 +36,7 @@ pub fn signed_parts(packet: &[u8]) -> Result<SignedParts, Refusal> {
 /// Writes the text that the delegation signs, in the response that `packet` is, at the front of
 /// `out`, and tells how many bytes it has: [`LONGEST_TEXT`] are room for any. What follows them
 /// stays. The refusals are 1 to 7 and then 19, and then all of `out` stays.
-pub fn delegation_text(packet: &[u8], out: &mut [u8]) -> Result<usize, Refusal> {
+pub fn delegation_text(packet: &[u8], out: &mut [u8]) -> Result<usize, PacketRefusal> {
     let (from, to) = (packet.as_ptr(), out.as_mut_ptr());
     // SAFETY: see raw.
     wrote(unsafe { raw::tb_delegation_text(from, packet.len(), to, out.len()) })
@@ -45,7 +45,7 @@ pub fn delegation_text(packet: &[u8], out: &mut [u8]) -> Result<usize, Refusal> 
 /// Writes the text that the response signs, in the response that `packet` is, at the front of
 /// `out`, and tells how many bytes it has: [`LONGEST_TEXT`] are room for any. What follows them
 /// stays. The refusals are 1 to 7 and then 19, and then all of `out` stays.
-pub fn response_text(packet: &[u8], out: &mut [u8]) -> Result<usize, Refusal> {
+pub fn response_text(packet: &[u8], out: &mut [u8]) -> Result<usize, PacketRefusal> {
     let (from, to) = (packet.as_ptr(), out.as_mut_ptr());
     // SAFETY: see raw.
     wrote(unsafe { raw::tb_response_text(from, packet.len(), to, out.len()) })

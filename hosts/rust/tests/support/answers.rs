@@ -1,11 +1,13 @@
 //! The same question put to both sides: the proved library, and the independent implementation.
 //!
-//! Both answer in one type here, so that they can be compared as they are. A refusal is its code.
+//! Both answer in one type here, so that they can be compared as they are. A refusal is its code,
+//! and the byte at which a packet is bad.
 
 use super::hex;
 use independent::refusal::Refusal;
+use independent::place::{self, Place};
 use independent::{request, response, text, write};
-use trawlbeacon::{raw, Request, Response, SignedParts};
+use trawlbeacon::{raw, PacketRefusal, Request, Response, SignedParts};
 
 /// What each side answered.
 pub struct Both<T> {
@@ -25,6 +27,26 @@ pub trait Said: PartialEq {
     fn say(&self) -> String;
 }
 
+/// A refusal: its code, and the byte that it names, if it does.
+#[derive(Clone, Copy, Debug, PartialEq, Eq)]
+pub struct Bad {
+    pub code: u32,
+    pub at: Option<usize>,
+}
+
+impl<E: Into<PacketRefusal>> From<E> for Bad {
+    fn from(why: E) -> Bad {
+        let PacketRefusal { refusal, at } = why.into();
+        Bad { code: refusal.code(), at }
+    }
+}
+
+/// What the independent side says, where it finds this place in the packet: codes 4 to 7 name it.
+pub fn placed(refusal: Refusal, place: Option<Place>) -> Bad {
+    let code = refusal.code();
+    Bad { code, at: place.filter(|_| (4..=7).contains(&code)).map(|place| place.at) }
+}
+
 impl<T: Said> Answer for Result<T, u32> {
     fn code(&self) -> u32 {
         *self.as_ref().err().unwrap_or(&0)
@@ -34,6 +56,19 @@ impl<T: Said> Answer for Result<T, u32> {
         match self {
             Ok(said) => said.say(),
             Err(code) => format!("code {code}"),
+        }
+    }
+}
+
+impl<T: Said> Answer for Result<T, Bad> {
+    fn code(&self) -> u32 {
+        self.as_ref().err().map_or(0, |bad| bad.code)
+    }
+
+    fn show(&self) -> String {
+        match self {
+            Ok(said) => said.say(),
+            Err(bad) => format!("code {} at {:?}", bad.code, bad.at),
         }
     }
 }
@@ -68,7 +103,7 @@ impl Said for usize {
 /// What a writer answered, with all of the buffer that it was lent.
 #[derive(PartialEq)]
 pub struct Written<T = usize> {
-    pub answer: Result<T, u32>,
+    pub answer: Result<T, Bad>,
     pub buffer: Vec<u8>,
 }
 
@@ -82,15 +117,15 @@ impl<T: Said> Answer for Written<T> {
     }
 }
 
-pub fn read_request(packet: &[u8]) -> Both<Result<Request, u32>> {
+pub fn read_request(packet: &[u8]) -> Both<Result<Request, Bad>> {
     let independent = request::read(packet).map(|read| Request { nonc: read.nonc, srv: read.srv });
     Both {
-        ours: trawlbeacon::read_request(packet).map_err(trawlbeacon::Refusal::code),
-        independent: independent.map_err(Refusal::code),
+        ours: trawlbeacon::read_request(packet).map_err(Bad::from),
+        independent: independent.map_err(|refusal| placed(refusal, place::in_request(packet))),
     }
 }
 
-pub fn read_response(packet: &[u8]) -> Both<Result<Response, u32>> {
+pub fn read_response(packet: &[u8]) -> Both<Result<Response, Bad>> {
     let independent = response::read(packet).map(|read| Response {
         nonc: read.outer.nonc,
         indx: read.outer.indx,
@@ -99,32 +134,34 @@ pub fn read_response(packet: &[u8]) -> Both<Result<Response, u32>> {
         root: read.srep.root,
     });
     Both {
-        ours: trawlbeacon::read_response(packet).map_err(trawlbeacon::Refusal::code),
-        independent: independent.map_err(Refusal::code),
+        ours: trawlbeacon::read_response(packet).map_err(Bad::from),
+        independent: independent.map_err(|refusal| placed(refusal, place::in_response(packet))),
     }
 }
 
-pub fn signed_parts(packet: &[u8]) -> Both<Result<SignedParts, u32>> {
+pub fn signed_parts(packet: &[u8]) -> Both<Result<SignedParts, Bad>> {
     let independent = response::shaped(packet).map(|read| SignedParts {
         signature: read.outer.sig,
         delegation: read.cert.sig,
         pubk: read.dele.pubk,
     });
     Both {
-        ours: trawlbeacon::signed_parts(packet).map_err(trawlbeacon::Refusal::code),
-        independent: independent.map_err(Refusal::code),
+        ours: trawlbeacon::signed_parts(packet).map_err(Bad::from),
+        independent: independent.map_err(|refusal| placed(refusal, place::in_response(packet))),
     }
 }
 
-/// Lends each side a copy of `buffer` of its own.
-pub fn write_both<T>(
+/// Lends each side a copy of `buffer` of its own. `place` is what the independent side finds in the
+/// packet that is written from.
+pub fn write_both<T, E: Into<PacketRefusal>>(
     buffer: &[u8],
-    ours: impl FnOnce(&mut [u8]) -> Result<T, trawlbeacon::Refusal>,
+    place: Option<Place>,
+    ours: impl FnOnce(&mut [u8]) -> Result<T, E>,
     independent: impl FnOnce(&mut [u8]) -> Result<T, Refusal>,
 ) -> Both<Written<T>> {
     let (mut lent, mut lent_too) = (buffer.to_vec(), buffer.to_vec());
-    let answer = ours(&mut lent).map_err(trawlbeacon::Refusal::code);
-    let answer_too = independent(&mut lent_too).map_err(Refusal::code);
+    let answer = ours(&mut lent).map_err(Bad::from);
+    let answer_too = independent(&mut lent_too).map_err(|refusal| placed(refusal, place));
     Both {
         ours: Written { answer, buffer: lent },
         independent: Written { answer: answer_too, buffer: lent_too },
@@ -134,6 +171,7 @@ pub fn write_both<T>(
 pub fn write_request(key: &[u8; 32], nonce: &[u8; 32], buffer: &[u8]) -> Both<Written> {
     write_both(
         buffer,
+        None,
         |out| trawlbeacon::write_request(key, nonce, out),
         |out| write::put(&write::request(key, nonce), out),
     )
@@ -142,6 +180,7 @@ pub fn write_request(key: &[u8; 32], nonce: &[u8; 32], buffer: &[u8]) -> Both<Wr
 pub fn delegation_text(packet: &[u8], buffer: &[u8]) -> Both<Written> {
     write_both(
         buffer,
+        place::in_response(packet),
         |out| trawlbeacon::delegation_text(packet, out),
         |out| text::delegation(packet).and_then(|text| write::put(&text, out)),
     )
@@ -150,6 +189,7 @@ pub fn delegation_text(packet: &[u8], buffer: &[u8]) -> Both<Written> {
 pub fn response_text(packet: &[u8], buffer: &[u8]) -> Both<Written> {
     write_both(
         buffer,
+        place::in_response(packet),
         |out| trawlbeacon::response_text(packet, out),
         |out| text::response(packet).and_then(|text| write::put(&text, out)),
     )
@@ -167,21 +207,27 @@ pub fn unseen_fields(packet: &[u8]) -> Option<String> {
             raw::tb_signed_parts(start, n),
         )
     };
-    if request != without_unseen(request) {
+    if request != without_unseen(request) || unplaced(request.code, request.at) {
         return Some(format!("tb_read_request answered {request:?}"));
     }
-    let code = response.code;
+    let raw::tb_response { code, at, .. } = response;
     let refused =
-        raw::tb_response { code, indx: 0, midp: 0, radi: 0, nonc: [0; 32], root: [0; 32] };
-    if code != 0 && response != refused {
+        raw::tb_response { code, at, indx: 0, midp: 0, radi: 0, nonc: [0; 32], root: [0; 32] };
+    if (code != 0 && response != refused) || unplaced(code, at) {
         return Some(format!("tb_read_response answered {response:?}"));
     }
-    let code = parts.code;
-    let refused = raw::tb_parts { code, signature: [0; 64], delegation: [0; 64], pubk: [0; 32] };
-    if code != 0 && parts != refused {
+    let raw::tb_parts { code, at, .. } = parts;
+    let refused =
+        raw::tb_parts { code, at, signature: [0; 64], delegation: [0; 64], pubk: [0; 32] };
+    if (code != 0 && parts != refused) || unplaced(code, at) {
         return Some(format!("tb_signed_parts answered {parts:?}"));
     }
     unseen_lengths(packet)
+}
+
+/// Whether a byte is named beside a code that names none.
+pub fn unplaced(code: u32, at: u64) -> bool {
+    !(4..=7).contains(&code) && at != 0
 }
 
 /// What is wrong with the length that a refused writer tells. Nothing that it writes is as short as
@@ -198,7 +244,9 @@ fn unseen_lengths(packet: &[u8]) -> Option<String> {
             raw::tb_response_text(start, n, to, m),
         ]
     };
-    let wrong = writers.iter().any(|wrote| wrote.length != 0 || !(1..=19).contains(&wrote.code));
+    let wrong = writers.iter().any(|wrote| {
+        wrote.length != 0 || !(1..=19).contains(&wrote.code) || unplaced(wrote.code, wrote.at)
+    });
     wrong.then(|| format!("the writers answered {writers:?}"))
 }
 
@@ -208,6 +256,7 @@ fn without_unseen(request: raw::tb_request) -> raw::tb_request {
     raw::tb_request {
         code: request.code,
         with_srv: u32::from(with_srv),
+        at: request.at,
         nonc: if request.code == 0 { request.nonc } else { [0; 32] },
         srv: if with_srv { request.srv } else { [0; 32] },
     }

@@ -4,13 +4,12 @@
 //! are made in the order of the codes, so that the first of all rules that were broken is the one
 //! that is due.
 
-use super::answers::{Both, Said};
+use super::answers::{placed, Bad, Both, Said};
 use super::packets::{know_better, number, RequestFields, ResponseFields};
 use super::trees::Walk;
 use super::{hex, Xorshift};
 use independent::hash::{self, Hash};
-use independent::refusal::Refusal;
-use independent::{check, packet};
+use independent::{check, packet, place};
 use trawlbeacon::{raw, Window};
 
 /// The rules that come after a response's own shape. Of 8 it is the one that asks for a request.
@@ -200,19 +199,21 @@ pub fn same_window(check::Window { midp, radi, low, high }: check::Window) -> Wi
 }
 
 impl Question {
-    pub fn ask(&self) -> Both<Result<Window, u32>> {
+    pub fn ask(&self) -> Both<Result<Window, Bad>> {
         let Question { request, response, delegation, signature } = self;
         let independent = check::check(request, response, *delegation, *signature);
         let ours = trawlbeacon::check_response(request, response, *delegation, *signature);
         Both {
-            ours: ours.map_err(trawlbeacon::Refusal::code),
-            independent: independent.map(same_window).map_err(Refusal::code),
+            ours: ours.map_err(Bad::from),
+            independent: independent
+                .map(same_window)
+                .map_err(|refusal| placed(refusal, place::in_response(response))),
         }
     }
 
     /// What is wrong with the fields that hosts/rust does not show, or not whole, where it answered
     /// `ours`.
-    pub fn unseen_fields(&self, ours: &Result<Window, u32>) -> Option<String> {
+    pub fn unseen_fields(&self, ours: &Result<Window, Bad>) -> Option<String> {
         let Question { request, response, delegation, signature } = self;
         let ((start, n), (start_too, m)) =
             ((request.as_ptr(), request.len()), (response.as_ptr(), response.len()));
@@ -224,9 +225,12 @@ impl Question {
             unsafe { raw::tb_check_response(start, n, start_too, m, delegation, signature) };
         let due = match *ours {
             Ok(Window { midp, radi, low, high }) => {
-                raw::tb_verdict { code: 0, radi, midp, low, high }
+                raw::tb_verdict { code: 0, radi, at: 0, midp, low, high }
             }
-            Err(code) => raw::tb_verdict { code, radi: 0, midp: 0, low: 0, high: 0 },
+            Err(Bad { code, at }) => {
+                let at = at.unwrap_or(0) as u64;
+                raw::tb_verdict { code, radi: 0, at, midp: 0, low: 0, high: 0 }
+            }
         };
         (verdict != due).then(|| format!("tb_check_response answered {verdict:?}"))
     }

@@ -1,9 +1,10 @@
 //! Questions about piles, put to both sides, and about the fields that no answer shows.
 
-use super::answers::{self, Answer, Both, Said, Written};
+use super::answers::{self, placed, Answer, Bad, Both, Said, Written};
 use super::pairs::same_window;
 use independent::check;
 use independent::refusal::Refusal;
+use independent::place::Place;
 use independent::{pile, report};
 use trawlbeacon::{raw, Pair, Run, Window};
 
@@ -20,9 +21,9 @@ impl Said for Run {
     }
 }
 
-/// What a report check answers: the pair, or a code and its place.
+/// What a report check answers: the pair, or a code, its record and its byte.
 #[derive(Clone, Copy, Debug, PartialEq, Eq)]
-pub struct Reported(pub Result<(usize, usize), (u32, Option<usize>)>);
+pub struct Reported(pub Result<(usize, usize), (u32, Option<usize>, Option<usize>)>);
 
 impl Answer for Reported {
     fn code(&self) -> u32 {
@@ -32,7 +33,7 @@ impl Answer for Reported {
     fn show(&self) -> String {
         match self.0 {
             Ok((first, second)) => format!("pair {first} {second}"),
-            Err((code, place)) => format!("code {code} place {place:?}"),
+            Err((code, place, at)) => format!("code {code} place {place:?} byte {at:?}"),
         }
     }
 }
@@ -48,11 +49,12 @@ pub struct Asked<'a> {
 pub type Judged = Result<Vec<Result<check::Window, Refusal>>, Refusal>;
 
 impl Asked<'_> {
-    pub fn code(self) -> Both<Result<(), u32>> {
+    pub fn code(self) -> Both<Result<(), Bad>> {
         Both {
-            ours: trawlbeacon::pile_code(self.pile, self.answers)
-                .map_err(trawlbeacon::Refusal::code),
-            independent: pile::read(self.pile, self.answers).map(drop).map_err(Refusal::code),
+            ours: trawlbeacon::pile_code(self.pile, self.answers).map_err(Bad::from),
+            independent: pile::read(self.pile, self.answers)
+                .map(drop)
+                .map_err(|refusal| placed(refusal, None)),
         }
     }
 
@@ -63,16 +65,22 @@ impl Asked<'_> {
 
     /// What is said of the record at `place`, where the independent side said `judged`. Where there
     /// is no such record, code 15 is due.
-    pub fn judge(self, place: usize, judged: &Judged) -> Both<Result<Window, u32>> {
+    pub fn judge(self, place: usize, judged: &Judged) -> Both<Result<Window, Bad>> {
         let independent = match judged {
             Ok(judged) => judged.get(place).copied().unwrap_or(Err(Refusal::Pile)),
             Err(refusal) => Err(*refusal),
         };
         Both {
-            ours: trawlbeacon::judge(self.pile, self.answers, place)
-                .map_err(trawlbeacon::Refusal::code),
-            independent: independent.map(same_window).map_err(Refusal::code),
+            ours: trawlbeacon::judge(self.pile, self.answers, place).map_err(Bad::from),
+            independent: independent
+                .map(same_window)
+                .map_err(|refusal| placed(refusal, self.place(place))),
         }
+    }
+
+    /// Where the independent side finds the response of a record bad.
+    fn place(self, record: usize) -> Option<Place> {
+        pile::read(self.pile, self.answers).ok()?.get(record)?.place()
     }
 
     pub fn linked(self, place: usize) -> Both<bool> {
@@ -95,15 +103,19 @@ impl Asked<'_> {
         Both {
             ours: Reported(
                 ours.map(|Pair { first, second }| (first, second))
-                    .map_err(|no| (no.refusal.code(), no.place)),
+                    .map_err(|no| (no.refusal.code(), no.place, no.at)),
             ),
-            independent: Reported(independent.map_err(|no| (no.refusal.code(), no.place))),
+            independent: Reported(independent.map_err(|no| {
+                let place = no.place.and_then(|record| self.place(record));
+                (no.refusal.code(), no.place, placed(no.refusal, place).at)
+            })),
         }
     }
 
     pub fn cut(self, buffer: &[u8]) -> Both<Written<Run>> {
         answers::write_both(
             buffer,
+            None,
             |out| trawlbeacon::cut_run(self.pile, self.answers, out),
             |out| {
                 report::cut(self.pile, self.answers, out).map(|(first, last)| Run { first, last })
@@ -132,6 +144,8 @@ impl Asked<'_> {
             && (judged.code == 0 || no_window)
             && (reported.code == 0 || no_pair)
             && (of_a_record || reported.place == 0)
+            && !answers::unplaced(judged.code, judged.at)
+            && !answers::unplaced(reported.code, reported.at)
             && (cut.code == 0 || (cut.first, cut.last) == (0, 0));
         (!right).then(|| format!("place {place}: {judged:?}, {reported:?}, {cut:?}"))
     }

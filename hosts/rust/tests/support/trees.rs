@@ -101,6 +101,7 @@ fn put_path(tree: Tree, place: usize, out: &mut [u8]) -> Result<Placed, Refusal>
 pub fn path(leaves: &[u8], place: usize, buffer: &[u8]) -> Both<Written<Placed>> {
     answers::write_both(
         buffer,
+        None,
         |out| trawlbeacon::path(leaves, place, out),
         |out| Tree::build(leaves).and_then(|tree| put_path(tree, place, out)),
     )
@@ -109,6 +110,7 @@ pub fn path(leaves: &[u8], place: usize, buffer: &[u8]) -> Both<Written<Placed>>
 pub fn path_from(rows: &[u8], count: usize, place: usize, buffer: &[u8]) -> Both<Written<Placed>> {
     answers::write_both(
         buffer,
+        None,
         |out| trawlbeacon::path_from(rows, count, place, out),
         |out| Tree::read(rows, count).and_then(|tree| put_path(tree, place, out)),
     )
@@ -117,6 +119,7 @@ pub fn path_from(rows: &[u8], count: usize, place: usize, buffer: &[u8]) -> Both
 pub fn rows(leaves: &[u8], buffer: &[u8]) -> Both<Written<Depth>> {
     answers::write_both(
         buffer,
+        None,
         |out| trawlbeacon::rows(leaves, out).map(Depth),
         |out| {
             let tree = Tree::build(leaves)?;
