@@ -192,17 +192,20 @@ static void expect_request(void) {
     expect_bytes("srv of the request", read.srv, srv, sizeof srv);
 }
 
-static void expect_refused_request(const uint8_t *packet, size_t n, uint32_t code) {
+static void expect_refused_request(const uint8_t *packet, size_t n, uint32_t code, uint64_t at) {
     struct tb_request read = tb_read_request(packet, n);
     expect_number("code of a refused request", read.code, code);
+    expect_number("at of a refused request", read.at, at);
     expect_number("with_srv of a refused request", read.with_srv, 0);
     expect_all("nonc of a refused request", read.nonc, 0, sizeof read.nonc);
     expect_all("srv of a refused request", read.srv, 0, sizeof read.srv);
 }
 
-static void expect_refused_response(const uint8_t *packet, size_t n, uint32_t code) {
+static void expect_refused_response(const uint8_t *packet, size_t n, uint32_t code,
+                                    uint64_t at) {
     struct tb_response read = tb_read_response(packet, n);
     expect_number("code of a refused response", read.code, code);
+    expect_number("at of a refused response", read.at, at);
     expect_number("midp of a refused response", read.midp, 0);
     expect_number("indx of a refused response", read.indx, 0);
     expect_number("radi of a refused response", read.radi, 0);
@@ -220,15 +223,16 @@ static void expect_response(const uint8_t *packet) {
     expect_bytes("root of the response", read.root, packet + ROOT_AT, sizeof read.root);
 
     /* It has no VER, which a request needs. Cut short it is neither. */
-    expect_refused_request(packet, RESPONSE_LENGTH, 6);
-    expect_refused_request(packet, 11, 1);
-    expect_refused_response(packet, RESPONSE_LENGTH - 4, 3);
-    expect_refused_response(packet, 0, 1);
+    expect_refused_request(packet, RESPONSE_LENGTH, 6, 12);
+    expect_refused_request(packet, 11, 1, 0);
+    expect_refused_response(packet, RESPONSE_LENGTH - 4, 3, 0);
+    expect_refused_response(packet, 0, 1, 0);
 }
 
-static void expect_refused_parts(const uint8_t *packet, size_t n, uint32_t code) {
+static void expect_refused_parts(const uint8_t *packet, size_t n, uint32_t code, uint64_t at) {
     struct tb_parts parts = tb_signed_parts(packet, n);
     expect_number("code of refused parts", parts.code, code);
+    expect_number("at of refused parts", parts.at, at);
     expect_all("signature of refused parts", parts.signature, 0, sizeof parts.signature);
     expect_all("delegation of refused parts", parts.delegation, 0, sizeof parts.delegation);
     expect_all("pubk of refused parts", parts.pubk, 0, sizeof parts.pubk);
@@ -249,9 +253,9 @@ static void expect_parts(const uint8_t *packet) {
     expect_number("code of the parts with another TYPE", tb_signed_parts(other, sizeof other).code,
                   0);
     tb_write_request(KEY, packet + NONC_AT, request, sizeof request);
-    expect_refused_parts(request, sizeof request, 6);
-    expect_refused_parts(packet, RESPONSE_LENGTH - 4, 3);
-    expect_refused_parts(packet, 0, 1);
+    expect_refused_parts(request, sizeof request, 6, 12);
+    expect_refused_parts(packet, RESPONSE_LENGTH - 4, 3, 0);
+    expect_refused_parts(packet, 0, 1, 0);
 }
 
 typedef struct tb_wrote writer(const uint8_t *packet, size_t packet_len, uint8_t *out,
@@ -390,6 +394,7 @@ static void expect_largest_tree(void) {
 static void expect_verdict(const char *what, struct tb_verdict is, struct tb_verdict should) {
     expect_number(what, is.code, should.code);
     expect_number(what, is.radi, should.radi);
+    expect_number(what, is.at, should.at);
     expect_number(what, is.midp, should.midp);
     expect_number(what, is.low, should.low);
     expect_number(what, is.high, should.high);
@@ -417,17 +422,19 @@ static void expect_noes(const uint8_t *request, size_t n, const uint8_t *respons
 static void expect_no_radius(const uint8_t *packet) {
     uint8_t other[RESPONSE_LENGTH], request[TB_REQUEST_LENGTH] = {0}, out[200];
     size_t n = sizeof request, m = sizeof other;
-    struct tb_verdict value = {.code = 7};
+    struct tb_verdict value = {.code = 7, .at = RADI_AT};
     memcpy(other, packet, m);
     memset(other + RADI_AT, 0, 4);
     memset(out, 0xee, sizeof out);
     tb_write_request(KEY, packet + NONC_AT, request, n);
-    expect_refused_response(other, m, 7);
-    expect_refused_parts(other, m, 7);
+    expect_refused_response(other, m, 7, RADI_AT);
+    expect_refused_parts(other, m, 7, RADI_AT);
     expect_number("delegation text without a radius",
                   tb_delegation_text(other, m, out, sizeof out).code, 7);
     expect_number("response text without a radius",
                   tb_response_text(other, m, out, sizeof out).code, 7);
+    expect_number("at of a response text without a radius",
+                  tb_response_text(other, m, out, sizeof out).at, RADI_AT);
     expect_all("the buffer of a text without a radius", out, 0xee, sizeof out);
     expect_verdict("no radius", tb_check_response(request, n, other, m, 1, 1), value);
     memset(other + RADI_AT, 0xff, 4);
@@ -451,11 +458,11 @@ static void expect_versions(const uint8_t *packet) {
     static const size_t in_request[] = {16, 20, 24, 28}, in_response[] = {32, 36, 184};
     uint8_t other[RESPONSE_LENGTH + 4], request[TB_REQUEST_LENGTH + 4] = {0};
     size_t n = TB_REQUEST_LENGTH, m = RESPONSE_LENGTH;
-    struct tb_verdict valid = {0, 3, 1773685571, 1773685568, 1773685574}, version = {.code = 8};
+    struct tb_verdict valid = {0, 3, 0, 1773685571, 1773685568, 1773685574}, version = {.code = 8};
     memcpy(other, packet, m);
     tb_write_request(KEY, packet + NONC_AT, request, n);
     other[VERS_AT] = 2;
-    expect_refused_response(other, m, 8);
+    expect_refused_response(other, m, 8, 0);
     expect_number("parts without the version in VERS", tb_signed_parts(other, m).code, 0);
     expect_verdict("no version in VERS", tb_check_response(request, n, other, m, 1, 1), version);
     other[VERS_AT] = 1;
@@ -478,7 +485,7 @@ static void expect_checks(const uint8_t *packet) {
     uint8_t request[TB_REQUEST_LENGTH] = {0};
     size_t n = sizeof request, m = RESPONSE_LENGTH;
     tb_write_request(KEY, packet + NONC_AT, request, n);
-    struct tb_verdict valid = {0, 3, 1773685571, 1773685568, 1773685574};
+    struct tb_verdict valid = {0, 3, 0, 1773685571, 1773685568, 1773685574};
     expect_verdict("a valid response", tb_check_response(request, n, packet, m, 1, 1), valid);
     struct tb_verdict bad = {.code = 14}, cut = {.code = 3}, other = {.code = 9};
     expect_noes(request, n, packet, m);
@@ -517,10 +524,10 @@ static void expect_lookups(void) {
  * before it, and the run is 2 to 3. */
 enum { RECORDS = 4, PILE_LENGTH = RECORDS * TB_RECORD_LENGTH };
 static const struct tb_verdict TIMES[RECORDS] = {
-    {0, 10, 1000, 990, 1010},
-    {0, 10, 1500, 1490, 1510},
-    {0, 1, 1495, 1494, 1496},
-    {0, 10, 1400, 1390, 1410},
+    {0, 10, 0, 1000, 990, 1010},
+    {0, 10, 0, 1500, 1490, 1510},
+    {0, 1, 0, 1495, 1494, 1496},
+    {0, 10, 0, 1400, 1390, 1410},
 };
 static const uint8_t YES[2 * (TB_MOST_RECORDS + 1)] = {1, 1, 1, 1, 1, 1, 1, 1, 1, 1, 1, 1,
                                                        1, 1, 1, 1, 1, 1, 1, 1, 1, 1, 1, 1,
@@ -555,7 +562,7 @@ static void lay_record(uint8_t *record, size_t k, struct tb_verdict time) {
 
 static void expect_judged(const char *what, struct tb_judged is, uint64_t place,
                           struct tb_verdict should) {
-    struct tb_verdict verdict = {is.code, is.radi, is.midp, is.low, is.high};
+    struct tb_verdict verdict = {is.code, is.radi, is.at, is.midp, is.low, is.high};
     expect_number(what, is.place, place);
     expect_verdict(what, verdict, should);
 }
@@ -564,6 +571,7 @@ static void expect_reported(const char *what, struct tb_reported is, uint64_t co
                             uint64_t first, uint64_t second) {
     expect_number(what, is.code, code);
     expect_number(what, is.place, place);
+    expect_number(what, is.at, 0);
     expect_number(what, is.first, first);
     expect_number(what, is.second, second);
 }
@@ -664,6 +672,15 @@ static void expect_reports(uint8_t *pile) {
     expect_cut("tb_cut_run beside a refused record",
                tb_cut_run(pile, n, answers, m, out, sizeof out), 0, 2, 3);
     answers[2 * 1 + 1] = 1;
+    uint8_t *wrong = pile + TB_RECORD_LENGTH + RESPONSE_AT + RADI_AT, radius = *wrong;
+    *wrong = 0;
+    struct tb_reported placed = tb_check_report(pile, n, answers, m);
+    expect_number("code of a record without a radius", placed.code, 7);
+    expect_number("place of a record without a radius", placed.place, 1);
+    expect_number("at of a record without a radius", placed.at, RADI_AT);
+    struct tb_verdict value = {.code = 7, .at = RADI_AT};
+    expect_judged("a record without a radius", tb_judge(pile, n, answers, m, 1), 1, value);
+    *wrong = radius;
     last[RAND_AT]++;
     expect_reported("a record that is not linked", tb_check_report(pile, n, answers, m), 17, 3, 0,
                     0);

@@ -7,7 +7,7 @@
 mod support;
 
 use independent::packet;
-use support::answers::Both;
+use support::answers::{Bad, Both};
 use support::damage::{self, set_word};
 use support::packets::{number, radius, versions_near, Kind, Level, ResponseFields};
 use support::pairs::{Pair, Question, RULES};
@@ -38,7 +38,7 @@ struct Comparison {
 
 impl Comparison {
     /// Returns both answers.
-    fn ask(&mut self, question: &Question, due: Option<u32>) -> Both<Result<Window, u32>> {
+    fn ask(&mut self, question: &Question, due: Option<u32>) -> Both<Result<Window, Bad>> {
         let both = question.ask();
         self.tally.answer(CHECKS, &both, due, || question.show());
         if let Some(wrong) = question.unseen_fields(&both.ours) {

@@ -6,7 +6,7 @@ mod support;
 use independent::appendix::{self, Entry};
 use independent::making::Made;
 use independent::response;
-use support::answers::{self, Answer};
+use support::answers::{self, Answer, Bad};
 use support::hex;
 use support::pairs::Question;
 use support::pile_answers::{Asked, Reported};
@@ -16,9 +16,9 @@ use trawlbeacon::{Request, Response, Run, Window, RECORD_LENGTH};
 const WINDOWS: [(u64, u32); 3] = [(1_773_685_571, 3), (1_773_599_171, 3), (1_773_599_171, 3)];
 
 /// Both sides' answer where they agree and none refuses.
-fn agreed<T: std::fmt::Debug>(both: answers::Both<Result<T, u32>>, what: &str) -> T
+fn agreed<T: std::fmt::Debug>(both: answers::Both<Result<T, Bad>>, what: &str) -> T
 where
-    Result<T, u32>: answers::Answer,
+    Result<T, Bad>: answers::Answer,
 {
     assert!(
         both.ours == both.independent,
@@ -26,7 +26,7 @@ where
         both.ours,
         both.independent
     );
-    both.ours.unwrap_or_else(|code| panic!("{what}: refused with code {code}"))
+    both.ours.unwrap_or_else(|bad| panic!("{what}: refused with {bad:?}"))
 }
 
 fn show(index: usize, entry: &Entry, request: &Request, response: &Response) {
@@ -116,13 +116,14 @@ fn both_sides_find_each_response_valid() {
             [(false, true, 12), (true, false, 13), (false, false, 12)]
         {
             let both = question(entry, entry, delegation, signature).ask();
-            assert_eq!((both.ours, both.independent), (Err(due), Err(due)), "entry {index}");
+            let due = Err(Bad { code: due, at: None });
+            assert_eq!((both.ours, both.independent), (due, due), "entry {index}");
         }
         for (other_index, other) in entries.iter().enumerate().filter(|other| other.0 != index) {
             let both = question(entry, other, true, true).ask();
             assert_eq!(
                 (both.ours, both.independent),
-                (Err(9), Err(9)),
+                (Err(Bad { code: 9, at: None }), Err(Bad { code: 9, at: None })),
                 "request {index}, response {other_index}"
             );
         }
@@ -180,8 +181,9 @@ fn both_sides_find_no_run_without_the_first_entry() {
         let answers: Vec<u8> = (0..answers.len()).map(|i| u8::from(i != at)).collect();
         let asked = Asked { pile: &pile, answers: &answers };
         let (report, cut) = (asked.report(), asked.cut(&[0; 3 * RECORD_LENGTH]));
-        let due = Reported(Err((code, Some(0))));
+        let due = Reported(Err((code, Some(0), None)));
         assert_eq!((report.ours, report.independent), (due, due));
-        assert_eq!((cut.ours.answer, cut.independent.answer), (Err(18), Err(18)));
+        let none = Err(Bad { code: 18, at: None });
+        assert_eq!((cut.ours.answer, cut.independent.answer), (none, none));
     }
 }

@@ -9,7 +9,7 @@ mod support;
 use independent::making::{self, pile_of, Made};
 use independent::pile::{MOST_RECORDS, RECORD};
 use independent::report;
-use support::answers::{Answer, Both, Written};
+use support::answers::{Answer, Bad, Both, Written};
 use support::packets::{number, radius, versions_near};
 use support::pile_answers::{Asked, Reported};
 use support::piles::{self, Tie, Truth, Wish, BROKEN};
@@ -32,33 +32,38 @@ enum Due {
 }
 
 impl Due {
-    fn code(&self) -> Option<Result<(), u32>> {
+    fn code(&self) -> Option<Result<(), Bad>> {
         match self {
             Due::Known(_) => Some(Ok(())),
-            Due::Refused => Some(Err(15)),
+            Due::Refused => Some(Err(Bad { code: 15, at: None })),
             Due::Unknown => None,
         }
     }
 
-    fn verdict(&self, place: usize) -> Option<Result<Window, u32>> {
-        match self {
-            Due::Known(truth) => Some(truth.verdicts.get(place).copied().unwrap_or(Err(15))),
-            Due::Refused => Some(Err(15)),
-            Due::Unknown => None,
-        }
+    /// The byte of a refusal is for the independent side to say.
+    fn verdict(&self, place: usize, at: Option<usize>) -> Option<Result<Window, Bad>> {
+        let verdict = match self {
+            Due::Known(truth) => truth.verdicts.get(place).copied().unwrap_or(Err(15)),
+            Due::Refused => Err(15),
+            Due::Unknown => return None,
+        };
+        Some(verdict.map_err(|code| Bad { code, at }))
     }
 
-    fn report(&self) -> Option<Reported> {
+    fn report(&self, at: Option<usize>) -> Option<Reported> {
         match self {
-            Due::Known(truth) => Some(Reported(truth.report())),
-            Due::Refused => Some(Reported(Err((15, None)))),
+            Due::Known(truth) => {
+                Some(Reported(truth.report().map_err(|(code, place)| (code, place, at))))
+            }
+            Due::Refused => Some(Reported(Err((15, None, None)))),
             Due::Unknown => None,
         }
     }
 
     /// What a cutter must answer, and leave in a buffer that held `before`.
     fn cut(&self, pile: &[u8], before: &[u8]) -> Option<Written<Run>> {
-        let untouched = |code| Written { answer: Err(code), buffer: before.to_vec() };
+        let untouched =
+            |code| Written { answer: Err(Bad { code, at: None }), buffer: before.to_vec() };
         match self {
             Due::Known(_) if before.len() < pile.len() => Some(untouched(19)),
             Due::Known(truth) => Some(
@@ -163,7 +168,9 @@ impl Comparison {
         self.same(PILES, asked, &asked.code(), due.code());
         self.ask_records(asked, &due);
         self.ask_links(asked, &due);
-        self.same(REPORTS, asked, &asked.report(), due.report());
+        let both = asked.report();
+        let at = both.independent.0.err().and_then(|(_, _, at)| at);
+        self.same(REPORTS, asked, &both, due.report(at));
         self.ask_cuts(asked, &due);
         if self.random.once_in(4) {
             self.ask_unseen(asked);
@@ -178,7 +185,8 @@ impl Comparison {
         for place in 0..=count {
             let both = asked.judge(place, &judged);
             windows.extend(both.ours.ok());
-            self.same(RECORDS, asked, &both, due.verdict(place));
+            let at = both.independent.err().and_then(|bad| bad.at);
+            self.same(RECORDS, asked, &both, due.verdict(place, at));
         }
         for (i, earlier) in windows.iter().enumerate() {
             for later in &windows[i..] {
@@ -243,7 +251,7 @@ impl Comparison {
     /// What is cut without a lent buffer is what stands in front in one that is long enough.
     fn ask_own_cut(&mut self, asked: Asked, lent: &Written<Run>) {
         let own = trawlbeacon::cut(asked.pile, asked.answers);
-        let own = own.map(|cut| (cut.run, cut.bytes)).map_err(trawlbeacon::Refusal::code);
+        let own = own.map(|cut| (cut.run, cut.bytes)).map_err(Bad::from);
         let due = lent.answer.map(|run| (run, lent.buffer[..run.records() * RECORD].to_vec()));
         if own != due {
             let (own, due) = (own.map(|cut| cut.0), due.map(|cut| cut.0));
@@ -530,7 +538,7 @@ fn run_of(Made { pile, answers }: &Made) -> Result<(usize, usize), u32> {
         both.ours.show(),
         both.independent.show()
     );
-    both.ours.answer.map(|run| (run.first, run.last))
+    both.ours.answer.map(|run| (run.first, run.last)).map_err(|bad| bad.code)
 }
 
 /// Examples 1 to 3, 5 to 7 and 14 of the document.

@@ -7,9 +7,9 @@
 
 mod support;
 
-use independent::packet;
+use independent::{packet, place};
 use independent::tag::{CERT, DELE, PATH, SREP};
-use std::collections::BTreeSet;
+use std::collections::{BTreeMap, BTreeSet};
 use support::damage::{self, set_word, Damaged};
 use support::packets::LEVELS;
 use support::packets::{samples, versions_near, Kind, Level, Plan, RequestFields, ResponseFields};
@@ -27,6 +27,24 @@ const CROSSED: &str = "crossed";
 /// The messages of a response.
 const PLACES: [&str; 4] = ["outermost", "SREP", "CERT", "DELE"];
 
+const KINDS: [place::Kind; 5] = [
+    place::Kind::Request,
+    place::Kind::Root,
+    place::Kind::Srep,
+    place::Kind::Cert,
+    place::Kind::Dele,
+];
+
+/// Of these the first three are code 4, and the others 5, 6 and 7.
+const CAUSES: [place::Cause; 6] = [
+    place::Cause::Length,
+    place::Cause::Count,
+    place::Cause::Offset,
+    place::Cause::Order,
+    place::Cause::Absent,
+    place::Cause::Value,
+];
+
 /// The longest text that a packet can hold fits.
 const BUFFER: [u8; packet::MOST + 40] = [0xa5; packet::MOST + 40];
 
@@ -34,6 +52,8 @@ const BUFFER: [u8; packet::MOST + 40] = [0xa5; packet::MOST + 40];
 struct Comparison {
     tally: Tally,
     packets: usize,
+    /// How often the independent side found each message bad for each cause, and with which codes.
+    causes: BTreeMap<(place::Kind, place::Cause), usize>,
 }
 
 impl Comparison {
@@ -41,6 +61,13 @@ impl Comparison {
     /// must give, or both readers where it has none.
     fn packet(&mut self, packet: &[u8], kind: Option<Kind>, due: Option<u32>) {
         self.packets += 1;
+        let found = match kind {
+            Some(Kind::Request) => place::in_request(packet),
+            _ => place::in_response(packet),
+        };
+        if let Some(found) = found {
+            *self.causes.entry((found.kind, found.cause)).or_insert(0) += 1;
+        }
         let tally = &mut self.tally;
         let input = || hex(packet);
         let (requests, due_request) = match kind {
@@ -474,7 +501,7 @@ type Group = (&'static str, fn(&mut Comparison));
 #[test]
 fn both_sides_read_alike() {
     let tally = Tally::new(&[REQUESTS, RESPONSES, DELEGATIONS, TEXTS, PARTS, CROSSED]);
-    let mut seen = Comparison { tally, packets: 0 };
+    let mut seen = Comparison { tally, packets: 0, causes: BTreeMap::new() };
     let groups: [Group; 14] = [
         ("good, with every number of pairs, of versions and of siblings", good_packets),
         ("with versions around the right one, and radii of 0, 1 and 2^32 - 1", near_versions),
@@ -508,6 +535,13 @@ fn both_sides_read_alike() {
         "the messages of damaged responses that the codes 4 to 7 were due to:\n{}",
         places.table("code")
     );
+    println!("how often each message was bad for each cause, its place compared:");
+    for kind in KINDS {
+        let counts = CAUSES.map(|cause| {
+            format!("{cause:?} {}", seen.causes.get(&(kind, cause)).unwrap_or(&0))
+        });
+        println!("  {kind:?}: {}", counts.join(", "));
+    }
     seen.tally.no_difference();
     enough(&seen, &places);
 }
@@ -523,5 +557,11 @@ fn enough(seen: &Comparison, places: &Tally) {
     }
     for place in PLACES {
         places.at_least(100, place, 4..=7);
+    }
+    for kind in KINDS {
+        for cause in CAUSES {
+            let count = seen.causes.get(&(kind, cause)).copied().unwrap_or(0);
+            assert!(count >= 100, "{kind:?} was bad for {cause:?} only {count} times");
+        }
     }
 }
