@@ -33,7 +33,11 @@ static void read_file(const char *name, struct packet *into) {
 /* Prints the window of the time, or the refusal. Returns the status to end with. */
 static int print_verdict(struct tb_verdict verdict) {
     if (verdict.code != TB_PASSED) {
-        printf("refused with code %u: %s\n", (unsigned)verdict.code, tb_code_text(verdict.code));
+        printf("refused with code %u: %s", (unsigned)verdict.code, tb_code_text(verdict.code));
+        /* Only these codes name a byte. */
+        if (verdict.code >= TB_FRAME && verdict.code <= TB_VALUE)
+            printf(", at byte %llu", (unsigned long long)verdict.at);
+        printf("\n");
         return 1;
     }
     printf("the time is from %llu to %llu\n", (unsigned long long)verdict.low,

@@ -61,7 +61,7 @@ fn told(
     packet: &[u8],
 ) -> Result<Window, Refusal> {
     let (delegation, signature) = answer(&asked.key, packet);
-    trawlbeacon::check_response(&asked.request, packet, delegation, signature)
+    Ok(trawlbeacon::check_response(&asked.request, packet, delegation, signature)?)
 }
 
 /// A host asks the server with this key.

@@ -14,7 +14,7 @@ use trawlbeacon::LONGEST_TEXT;
 
 /// A text that the library writes.
 pub fn text(
-    write: fn(&[u8], &mut [u8]) -> Result<usize, trawlbeacon::Refusal>,
+    write: fn(&[u8], &mut [u8]) -> Result<usize, trawlbeacon::PacketRefusal>,
     response: &[u8],
 ) -> Vec<u8> {
     let mut out = vec![0; LONGEST_TEXT];
