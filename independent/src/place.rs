@@ -135,7 +135,8 @@ impl<'a> Part<'a> {
             return Err(self.place(0, Cause::Absent));
         }
         // The tags rise, so that the first wrong value is the one with the smallest tag.
-        match found.iter().find(|(tag, from, to)| !self.kind.right(*tag, &self.packet[*from..*to])) {
+        match found.iter().find(|(tag, from, to)| !self.kind.right(*tag, &self.packet[*from..*to]))
+        {
             Some(wrong) => Err(Place { at: wrong.1, kind: self.kind, cause: Cause::Value }),
             None => Ok(found),
         }

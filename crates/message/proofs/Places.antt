@@ -54,9 +54,11 @@ module _ (m : List ℕ) where
   frame-4 =
       first-keeps refusals At4 _ _ (when-keeps refusals At4 (lengthBad m) _ (λ t e. size t) (λ e. absurd (omega arith)))
       (λ a. let s = length-test m .0 (test-quiet refusals _ _ tt a) in
-      first-keeps refusals At4 _ _ (when-keeps refusals At4 (countBad m) _ (λ t e. head s t) (λ e. absurd (omega arith)))
+      first-keeps refusals At4 _ _
+      (when-keeps refusals At4 (countBad m) _ (λ t e. head s t) (λ e. absurd (omega arith)))
       (λ b. let h = count-test m .0 (test-quiet refusals _ _ tt b) in
-      first-keeps refusals At4 _ _ (when-keeps refusals At4 (offsetsBad m) _ (λ t e. offsets s h t) (λ e. absurd (omega arith)))
+      first-keeps refusals At4 _ _
+      (when-keeps refusals At4 (offsetsBad m) _ (λ t e. offsets s h t) (λ e. absurd (omega arith)))
       (λ c. first-keeps refusals At4 _ _
       (when-keeps refusals At4 (tagsBad m) _ (λ t e. absurd (omega arith)) (λ e. absurd (omega arith)))
       (λ d. end-keeps refusals At4 (λ e. absurd (omega arith))))))
@@ -88,7 +90,8 @@ module _ (m : List ℕ) where
       first-keeps refusals At5 _ _ (other (lengthBad m) _)
       (λ a. first-keeps refusals At5 _ _ (other (countBad m) _)
       (λ b. first-keeps refusals At5 _ _ (other (offsetsBad m) _)
-      (λ c. first-keeps refusals At5 _ _ (when-keeps refusals At5 (tagsBad m) _ (λ t e. low t) (λ e. absurd (omega arith)))
+      (λ c. first-keeps refusals At5 _ _
+      (when-keeps refusals At5 (tagsBad m) _ (λ t e. low t) (λ e. absurd (omega arith)))
       (λ d. end-keeps refusals At5 (λ e. absurd (omega arith))))))
     where
       other : (b : Bool) (place : ℕ) → At5 (whenAt b 4 place)

@@ -81,7 +81,11 @@ module _ (m : List ℕ) where
         let a = any-parts _ _ e in
         let b = any-parts _ _ (a .1) in
         let c = any-parts _ _ (b .1) in
-        record { four = eqb-true _ _ (not-false _ (a .0)); order = ltb-false _ _ (b .0); inside = ltb-false _ _ (c .0) },
+        record {
+          four = eqb-true _ _ (not-false _ (a .0));
+          order = ltb-false _ _ (b .0);
+          inside = ltb-false _ _ (c .0);
+        },
     λ p.
         any-not _ (ap not (eq-eqb _ _ (p .four)))
         (any-not _ (le-ltb _ _ (p .order)) (any-not _ (le-ltb _ _ (p .inside)) any-none)),

@@ -61,10 +61,8 @@ fn some_absent(m: &[u8], t: &[u32]) -> bool
 // Code 7 at the start of the first value, in the table's order, that breaks its rule.
 fn values_code(m: &[u8], t: &[u32]) -> Refusal
     requires { ⌜ Good (now m) ⌝ }
-    ensures {
-        λ r. ⌜ r ≡ whenAt (someBroken (now (m .entry)) (rowsIn (now (t .entry)))) 7
-        (brokenPlace (now (m .entry)) (rowsIn (now (t .entry)))) ⌝
-    }
+    ensures { λ r. ⌜ r ≡ whenAt (someBroken (now (m .entry)) (rowsIn (now (t .entry)))) 7
+        (brokenPlace (now (m .entry)) (rowsIn (now (t .entry)))) ⌝ }
 {
     let k = first_broken(m, t);
     if k < t.len() / 3 {

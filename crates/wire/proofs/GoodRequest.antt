@@ -39,7 +39,7 @@ module _ (p : List ℕ) where
 
   pub good-request : GoodRequest p → requestCode p .code ≡ 0
   unfolding requestCode
-  good-request g = none-quiet refusals 
+  good-request g = none-quiet refusals
       (fields-pass (λ m. moved bodyStart (requestMessageCode m)) p (g .fields) (g .packet)
       (ap (moved bodyStart) (request-encoded g)))
 

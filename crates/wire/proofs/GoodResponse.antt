@@ -98,7 +98,7 @@ module _ (p : List ℕ) where
 
   pub good-response : GoodResponse p → responseCode p .code ≡ 0
   unfolding responseCode
-  good-response g = 
+  good-response g =
       none-quiet refusals
       (fields-pass (λ m. moved bodyStart (responseMessageCode m)) p (g .fields) (g .packet)
       (ap (moved bodyStart) (response-encoded g)))

@@ -113,7 +113,8 @@ module _ (p : List ℕ) where
       → start + length part ≤ length (body p) → Carries (messageCode part rows .code)
       → ToldOf p (moved bodyStart (moved start (messageCode part rows))) part rows (bodyStart + start)
   part-told part rows start e h c =
-      let outer = moved-at bodyStart (moved start (messageCode part rows)) (record { least = c .least; most = c .most }) in
+      let whole : Carries (moved start (messageCode part rows) .code) = record { least = c .least; most = c .most } in
+      let outer = moved-at bodyStart (moved start (messageCode part rows)) whole in
       let inner = moved-at start (messageCode part rows) c in
       let sum : messageCode part rows .at + start + bodyStart ≡ messageCode part rows .at + (bodyStart + start) =
       omega arith in

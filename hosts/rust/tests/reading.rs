@@ -7,8 +7,8 @@
 
 mod support;
 
-use independent::{packet, place};
 use independent::tag::{CERT, DELE, PATH, SREP};
+use independent::{packet, place};
 use std::collections::{BTreeMap, BTreeSet};
 use support::damage::{self, set_word, Damaged};
 use support::packets::LEVELS;
@@ -537,9 +537,8 @@ fn both_sides_read_alike() {
     );
     println!("how often each message was bad for each cause, its place compared:");
     for kind in KINDS {
-        let counts = CAUSES.map(|cause| {
-            format!("{cause:?} {}", seen.causes.get(&(kind, cause)).unwrap_or(&0))
-        });
+        let counts = CAUSES
+            .map(|cause| format!("{cause:?} {}", seen.causes.get(&(kind, cause)).unwrap_or(&0)));
         println!("  {kind:?}: {}", counts.join(", "));
     }
     seen.tally.no_difference();

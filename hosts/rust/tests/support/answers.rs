@@ -4,8 +4,8 @@
 //! and the byte at which a packet is bad.
 
 use super::hex;
-use independent::refusal::Refusal;
 use independent::place::{self, Place};
+use independent::refusal::Refusal;
 use independent::{request, response, text, write};
 use trawlbeacon::{raw, PacketRefusal, Request, Response, SignedParts};
 

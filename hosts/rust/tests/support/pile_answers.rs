@@ -3,8 +3,8 @@
 use super::answers::{self, placed, Answer, Bad, Both, Said, Written};
 use super::pairs::same_window;
 use independent::check;
-use independent::refusal::Refusal;
 use independent::place::Place;
+use independent::refusal::Refusal;
 use independent::{pile, report};
 use trawlbeacon::{raw, Pair, Run, Window};
 

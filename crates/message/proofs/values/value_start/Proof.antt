@@ -12,8 +12,11 @@ edge-at-requires c κs = (search needs, rw (c .index-of .ensures) (index-in _ _)
 add-result : tie.Need-add-result
 add-result c =
     let found = c .before .index-of in
-    omega (arith, edge-within _ (c .before .before .before .before .pre) (found .result)
-    (rw (found .ensures) (index-in _ _)))
+    omega (
+      arith,
+      edge-within _ (c .before .before .before .before .pre) (found .result)
+          (rw (found .ensures) (index-in _ _)),
+    )
 
 returns : tie.Need-returns
 unfolding valueStart

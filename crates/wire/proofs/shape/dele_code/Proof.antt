@@ -26,12 +26,16 @@ told c =
 moved-requires : tie.Need-moved-requires
 moved-requires c κs =
     let start = c .before .before .before .before .before in
-    omega (arith, dele-fits (now (start .args .m)) (start .pre .0) (start .pre .1) (told (c .before))
-    (c .dele-start .ensures))
+    omega (
+      arith,
+      dele-fits (now (start .args .m)) (start .pre .0) (start .pre .1) (told (c .before))
+          (c .dele-start .ensures),
+    )
 
 returns : tie.Need-returns
 returns c =
-    c .moved .ensures ∙ ap₂ (λ (s : ℕ) (r : Refusal). moved s r) (c .before .dele-start .ensures) (told (c .before .before))
+    c .moved .ensures
+    ∙ ap₂ (λ (s : ℕ) (r : Refusal). moved s r) (c .before .dele-start .ensures) (told (c .before .before))
 
 pub dele-code-spec : {M : Type 1} → statement M
 dele-code-spec =
