@@ -30,10 +30,16 @@ pub enum Kind {
 pub enum Cause {
     /// The message's length: the place is its start.
     Length,
-    /// N, or a header that is too long: the place is N's word.
+    /// N is not 1 to 32: the place is N's word.
     Count,
-    /// An offset: the place is the word of the first wrong one.
-    Offset,
+    /// The header is longer than the message: the place is N's word.
+    Header,
+    /// An offset that is no multiple of 4: the place is its word, where it is the first wrong one.
+    Uneven,
+    /// An offset below the one before it: the same.
+    Falling,
+    /// An offset that leaves the values: the same.
+    Outside,
     /// A tag that is not above the one before it: the place is its word.
     Order,
     /// An absent tag: the place is the start of the message that lacks it.
@@ -109,15 +115,24 @@ impl<'a> Part<'a> {
             return Err(self.place(0, Cause::Length));
         }
         let count = self.word(0);
-        if count < 1 || count > 32 || 8 * count > length {
+        if !(1..=32).contains(&count) {
             return Err(self.place(0, Cause::Count));
+        }
+        if 8 * count > length {
+            return Err(self.place(0, Cause::Header));
         }
         let mut starts = vec![0];
         for index in 1..count {
             let offset = self.word(index);
             let before = *starts.last().expect("the first value starts at 0");
-            if offset % 4 != 0 || offset < before || offset > length - 8 * count {
-                return Err(self.place(index, Cause::Offset));
+            if offset % 4 != 0 {
+                return Err(self.place(index, Cause::Uneven));
+            }
+            if offset < before {
+                return Err(self.place(index, Cause::Falling));
+            }
+            if offset > length - 8 * count {
+                return Err(self.place(index, Cause::Outside));
             }
             starts.push(offset);
         }
@@ -193,9 +208,12 @@ mod tests {
         assert_eq!(framed(&[]), Some((12, Kind::Request, Cause::Length)));
         assert_eq!(told(in_request(&packet::encode(&[1; 5]))).unwrap().0, 12);
         assert_eq!(framed(&[0]), Some((12, Kind::Request, Cause::Count)));
-        assert_eq!(framed(&[3, 0, 0, 1, 2]), Some((12, Kind::Request, Cause::Count)));
+        assert_eq!(framed(&[3, 0, 0, 1, 2]), Some((12, Kind::Request, Cause::Header)));
         // Offsets 4 and 8 fall to 0 and leave the section: the first of them is told.
-        assert_eq!(framed(&[4, 4, 0, 99, 1, 2, 3, 4, 0]), Some((20, Kind::Request, Cause::Offset)));
+        assert_eq!(
+            framed(&[4, 4, 0, 99, 1, 2, 3, 4, 0]),
+            Some((20, Kind::Request, Cause::Falling))
+        );
         assert_eq!(framed(&[3, 0, 0, 1, 2, 2]), Some((32, Kind::Request, Cause::Order)));
         assert_eq!(framed(&[2, 0, 1, 2]), Some((12, Kind::Request, Cause::Absent)));
     }

@@ -35,11 +35,14 @@ const KINDS: [place::Kind; 5] = [
     place::Kind::Dele,
 ];
 
-/// Of these the first three are code 4, and the others 5, 6 and 7.
-const CAUSES: [place::Cause; 6] = [
+/// Of these the first six are code 4, and the others 5, 6 and 7.
+const CAUSES: [place::Cause; 9] = [
     place::Cause::Length,
     place::Cause::Count,
-    place::Cause::Offset,
+    place::Cause::Header,
+    place::Cause::Uneven,
+    place::Cause::Falling,
+    place::Cause::Outside,
     place::Cause::Order,
     place::Cause::Absent,
     place::Cause::Value,
