@@ -38,13 +38,7 @@ const HASHES: Table = Table {
     show: |length, seconds| length as f64 / seconds / 1e6,
 };
 
-const PIECES: Table = Table {
-    width: 22,
-    unit: "MB/s",
-    sides: &[Side::Ours, Side::Whole],
-    digits: 1,
-    show: |length, seconds| length as f64 / seconds / 1e6,
-};
+const PIECES: Table = Table { sides: &[Side::Ours, Side::Whole], ..HASHES };
 
 const PILES: Table = Table {
     width: 40,

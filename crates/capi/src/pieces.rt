@@ -35,7 +35,12 @@ pub extern "C" fn tb_leaf_start_fields(h: &mut [u64; 8], rest: &mut [u8; 128], c
 
 // One piece more: 0; or 30, and then the state stays.
 #[no_mangle]
-pub extern "C" fn tb_sha512_take_fields(h: &mut [u64; 8], rest: &mut [u8; 128], count: &mut u64, piece: &[u8]) -> u32
+pub extern "C" fn tb_sha512_take_fields(
+    h: &mut [u64; 8],
+    rest: &mut [u8; 128],
+    count: &mut u64,
+    piece: &[u8],
+) -> u32
     ensures { λ r. ⌜ (r ≡ fedOf (runningOf (now (h .entry)) (now (rest .entry)) (now (count .entry)))
         (now (piece .entry)) .refusal .code)
         × (runningOf (now (h .exit)) (now (rest .exit)) (now (count .exit))
@@ -60,7 +65,12 @@ pub extern "C" fn tb_sha512_take_fields(h: &mut [u64; 8], rest: &mut [u8; 128], 
 
 // The digest of what was taken so far.
 #[no_mangle]
-pub extern "C" fn tb_sha512_finish_fields(h: &[u64; 8], rest: &[u8; 128], count: u64, out: &mut [u8; 64])
+pub extern "C" fn tb_sha512_finish_fields(
+    h: &[u64; 8],
+    rest: &[u8; 128], // lent to be read: finishing changes nothing
+    count: u64,
+    out: &mut [u8; 64],
+)
     ensures { λ _. ⌜ now (out .exit) ≡ stateDigest (runningOf (now (h .entry)) (now (rest .entry)) count) ⌝ }
 {
     let digest = sha512::finish(Running {
@@ -73,7 +83,12 @@ pub extern "C" fn tb_sha512_finish_fields(h: &[u64; 8], rest: &[u8; 128], count:
 
 // H of what was taken so far: the leaf of a packet, or a link.
 #[no_mangle]
-pub extern "C" fn tb_hash_finish_fields(h: &[u64; 8], rest: &[u8; 128], count: u64, out: &mut [u8; 32])
+pub extern "C" fn tb_hash_finish_fields(
+    h: &[u64; 8],
+    rest: &[u8; 128],
+    count: u64,
+    out: &mut [u8; 32],
+)
     ensures { λ _. ⌜ now (out .exit) ≡ hashOf (runningOf (now (h .entry)) (now (rest .entry)) count) ⌝ }
 {
     let d = hash::finish_hash(Running {

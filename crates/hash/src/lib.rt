@@ -6,13 +6,13 @@ ghost use Rattle.sha512.specs.State.{stateOf};
 ghost use Rattle.hash.specs.Hashes.{leafOf, parentOf, emptyPlace, srvOf, linkOf, hashOf};
 use octets::copy32;
 use octets::put;
+use sha512::Running;
 use sha512::finish;
 use sha512::sha512;
 use sha512::sha512_pair;
 use sha512::sha512_tagged;
 use sha512::start;
 use sha512::take_piece;
-use sha512::Running;
 
 // A leaf: H(0x00, packet), of a whole request packet, header included.
 pub fn leaf(packet: &[u8]) -> [u8; 32]
