@@ -25,7 +25,7 @@
  * The codes 4 to 7 come with at, the byte of the packet at which it is bad, counted from the
  * packet's first byte; beside any other code, 14 too, at is 0 and means nothing.
  *   4 and 5: the start of the first wrong word of a message's header: of the first offset that is
- *            no multiple of 4, falls or leaves the message; of the tag that is not above the one
+ *            no multiple of 4, falls or leaves the values; of the tag that is not above the one
  *            before it; N's word, where N is not 1 to 32 or the header is too long. The start of
  *            the message, where its length is under 4 or no multiple of 4.
  *   6:       the start of the message that lacks the tag.

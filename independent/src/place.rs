@@ -1,14 +1,15 @@
 //! Where a packet is bad: the byte that a refusal with one of the codes 4 to 7 names, counted from
 //! the first byte of the packet.
 //!
-//! It is looked for by itself, apart from the readers: a message is walked word by word, and the
-//! first thing that is wrong is told by where it stands.
+//! It is looked for by itself, apart from the readers, which share no more than a packet's own
+//! header with it: a message is walked word by word, and the first thing that is wrong is told by
+//! where it stands.
 
+use crate::packet;
 use crate::tag::{
     Tag, CERT, DELE, INDX, MAXT, MIDP, MINT, NONC, PATH, PUBK, RADI, ROOT, SIG, SREP, SRV, TYPE,
     VER, VERS,
 };
-use crate::{packet, value};
 
 /// The five messages, by what they must hold.
 #[derive(Clone, Copy, Debug, PartialEq, Eq, PartialOrd, Ord)]
@@ -44,8 +45,12 @@ pub enum Cause {
     Order,
     /// An absent tag: the place is the start of the message that lacks it.
     Absent,
-    /// A value: the place is the start of the wrong one with the smallest tag.
-    Value,
+    /// A value's length: the place is the start of the wrong value with the smallest tag.
+    Size,
+    /// A list of versions that does not rise: the same.
+    List,
+    /// RADI is 0: the same.
+    Radius,
 }
 
 /// A place, the message in which it stands, and what is wrong there.
@@ -70,22 +75,36 @@ impl Kind {
         }
     }
 
-    /// Whether the value of this tag is right. What is no tag of the message is ignored.
-    fn right(self, tag: Tag, bytes: &[u8]) -> bool {
-        match (self, tag) {
-            (Kind::Request, VER) | (Kind::Srep, VERS) => value::versions(bytes).is_ok(),
-            (Kind::Srep, RADI) => value::radius(bytes).is_ok(),
-            (Kind::Root, PATH) => value::path(bytes).is_ok(),
-            (Kind::Request, SRV | NONC) | (Kind::Root, NONC) => bytes.len() == 32,
-            (Kind::Srep, ROOT) | (Kind::Dele, PUBK) => bytes.len() == 32,
-            (Kind::Request, TYPE) | (Kind::Root, TYPE | INDX) | (Kind::Srep, VER) => {
-                bytes.len() == 4
-            }
-            (Kind::Root | Kind::Cert, SIG) => bytes.len() == 64,
-            (Kind::Srep, MIDP) | (Kind::Dele, MINT | MAXT) => bytes.len() == 8,
+    /// What is wrong with the value of this tag. What is no tag of the message is ignored.
+    fn wrong(self, tag: Tag, bytes: &[u8]) -> Option<Cause> {
+        let size = bytes.len();
+        let right = match (self, tag) {
+            (Kind::Request, VER) | (Kind::Srep, VERS) => size % 4 == 0 && (4..=128).contains(&size),
+            (Kind::Root, PATH) => size % 32 == 0 && size <= 1024,
+            (Kind::Request, SRV | NONC) | (Kind::Root, NONC) => size == 32,
+            (Kind::Srep, ROOT) | (Kind::Dele, PUBK) => size == 32,
+            (Kind::Request, TYPE) | (Kind::Root, TYPE | INDX) => size == 4,
+            (Kind::Srep, VER | RADI) => size == 4,
+            (Kind::Root | Kind::Cert, SIG) => size == 64,
+            (Kind::Srep, MIDP) | (Kind::Dele, MINT | MAXT) => size == 8,
             _ => true,
+        };
+        match (self, tag) {
+            _ if !right => Some(Cause::Size),
+            (Kind::Request, VER) | (Kind::Srep, VERS) if !rises(bytes) => Some(Cause::List),
+            (Kind::Srep, RADI) if bytes == [0; 4] => Some(Cause::Radius),
+            _ => None,
         }
     }
+}
+
+/// Whether each number of 4 bytes is above the one before it.
+fn rises(bytes: &[u8]) -> bool {
+    let numbers: Vec<u32> = bytes
+        .chunks_exact(4)
+        .map(|word| u32::from_le_bytes(word.try_into().expect("four bytes")))
+        .collect();
+    numbers.windows(2).all(|pair| pair[0] < pair[1])
 }
 
 /// A message within a packet.
@@ -108,8 +127,8 @@ impl<'a> Part<'a> {
         Place { at: self.start + 4 * index, kind: self.kind, cause }
     }
 
-    /// The first thing that is wrong, or the tags with the bytes from and to which their values go.
-    fn walk(self) -> Result<Vec<(Tag, usize, usize)>, Place> {
+    /// N, where the length, N and the header's length are right.
+    fn count(self) -> Result<usize, Place> {
         let length = self.end - self.start;
         if length < 4 || length % 4 != 0 {
             return Err(self.place(0, Cause::Length));
@@ -121,22 +140,34 @@ impl<'a> Part<'a> {
         if 8 * count > length {
             return Err(self.place(0, Cause::Header));
         }
+        Ok(count)
+    }
+
+    /// Where the values start, counted from the first of them, and where the last one ends.
+    fn starts(self, count: usize) -> Result<Vec<usize>, Place> {
+        let section = self.end - self.start - 8 * count;
         let mut starts = vec![0];
         for index in 1..count {
             let offset = self.word(index);
-            let before = *starts.last().expect("the first value starts at 0");
             if offset % 4 != 0 {
                 return Err(self.place(index, Cause::Uneven));
             }
-            if offset < before {
+            if offset < starts[index - 1] {
                 return Err(self.place(index, Cause::Falling));
             }
-            if offset > length - 8 * count {
+            if offset > section {
                 return Err(self.place(index, Cause::Outside));
             }
             starts.push(offset);
         }
-        starts.push(length - 8 * count);
+        starts.push(section);
+        Ok(starts)
+    }
+
+    /// The first thing that is wrong, or the tags with the bytes from and to which their values go.
+    fn walk(self) -> Result<Vec<(Tag, usize, usize)>, Place> {
+        let count = self.count()?;
+        let starts = self.starts(count)?;
         for index in count + 1..2 * count {
             if self.word(index) <= self.word(index - 1) {
                 return Err(self.place(index, Cause::Order));
@@ -150,11 +181,12 @@ impl<'a> Part<'a> {
             return Err(self.place(0, Cause::Absent));
         }
         // The tags rise, so that the first wrong value is the one with the smallest tag.
-        match found.iter().find(|(tag, from, to)| !self.kind.right(*tag, &self.packet[*from..*to]))
-        {
-            Some(wrong) => Err(Place { at: wrong.1, kind: self.kind, cause: Cause::Value }),
-            None => Ok(found),
+        for (tag, from, to) in &found {
+            if let Some(cause) = self.kind.wrong(*tag, &self.packet[*from..*to]) {
+                return Err(Place { at: *from, kind: self.kind, cause });
+            }
         }
+        Ok(found)
     }
 
     /// The message that is the value of a tag of this one.
@@ -209,7 +241,7 @@ mod tests {
         assert_eq!(told(in_request(&packet::encode(&[1; 5]))).unwrap().0, 12);
         assert_eq!(framed(&[0]), Some((12, Kind::Request, Cause::Count)));
         assert_eq!(framed(&[3, 0, 0, 1, 2]), Some((12, Kind::Request, Cause::Header)));
-        // Offsets 4 and 8 fall to 0 and leave the section: the first of them is told.
+        // The second offset falls from 4 to 0, the third leaves the section: the second is told.
         assert_eq!(
             framed(&[4, 4, 0, 99, 1, 2, 3, 4, 0]),
             Some((20, Kind::Request, Cause::Falling))
@@ -233,13 +265,13 @@ mod tests {
         put(&mut pieces.dele, PUBK, &[0xee; 28]);
         let packet = pieces.clone().packet();
         let place = in_response(&packet).unwrap();
-        assert_eq!((place.kind, place.cause), (Kind::Srep, Cause::Value));
+        assert_eq!((place.kind, place.cause), (Kind::Srep, Cause::Radius));
         assert_eq!(packet[place.at..place.at + 4], [0; 4]);
         put(&mut pieces.srep, RADI, &[5, 0, 0, 0]);
         put(&mut pieces.srep, ROOT, &[0x11; 32]);
         let packet = pieces.packet();
         let place = in_response(&packet).unwrap();
-        assert_eq!((place.kind, place.cause), (Kind::Dele, Cause::Value));
+        assert_eq!((place.kind, place.cause), (Kind::Dele, Cause::Size));
         assert_eq!(packet[place.at..place.at + 28], [0xee; 28]);
     }
 

@@ -10,7 +10,7 @@ use lib.ListN.{length}
 use Rattle.laws.specs.Any.{any}
 use Rattle.laws.specs.First.{firstOf, whenOf}
 use Rattle.laws.proofs.Any.{any-not, any-none, any-parts}
-use Rattle.laws.proofs.First.{quiet-of, first-keeps, when-keeps, end-keeps}
+use Rattle.laws.proofs.First.{quiet-of}
 use Rattle.refusal.specs.Refusal.{refusals, first, whenAt, passed}
 use Rattle.refusal.specs.declared.Refusal.{Refusal}
 use Rattle.message.specs.Frame.{lengthBad, countBad, offsetsBad, tagsBad, badOffsetPlace, lowTagPlace}
@@ -18,6 +18,7 @@ use Rattle.message.specs.Frame.{frameCode}
 use Rattle.message.specs.Rules.{Row, row, someAbsent, someBroken, brokenPlace, messageCode}
 use Rattle.message.specs.Sentences.{Good, TagsRise, TagsThere, KeepsRule, ValuesRight}
 use Rattle.message.specs.Values.{has, valueOf}
+use Rattle.message.proofs.Cases.{frame-by, message-by}
 use Rattle.message.proofs.Tests.{length-test, count-test, offsets-test, tags-test, absent-test, broken-test}
 
 -- ---- four tests, of which the first that holds gives the code
@@ -146,12 +147,6 @@ table-row x false false false false y e = rw e
 abbrev Honest : Refusal → Type 0
 Honest r = r .code ≡ 0 → r ≡ passed
 
--- that holds of a row which begins with a test, where it holds of the rest
-at-honest : (b : Bool) (n place : ℕ) (row : List Refusal) → (n ≡ 0 → ⊥) → Honest (first row)
-    → Honest (first (whenAt b n place ∷ row))
-at-honest b n place row p h =
-    first-keeps refusals Honest _ _ (when-keeps refusals Honest b _ (λ t e. absurd (p e)) (λ e. refl)) (λ a. h)
-
 module _ (m : List ℕ) where
   frame-told : frameCode m .code ≡ told (frameBad m) (tagsBad m) false false
   unfolding frameCode
@@ -170,12 +165,9 @@ module _ (m : List ℕ) where
 
   -- where the number is 0 there is no place either: nothing is refused
   pub frame-passed : frameCode m .code ≡ 0 → frameCode m ≡ passed
-  unfolding frameCode
   frame-passed =
-      at-honest (lengthBad m) _ _ _ (λ z. omega arith)
-      (at-honest (countBad m) _ _ _ (λ z. omega arith)
-      (at-honest (offsetsBad m) _ _ _ (λ z. omega arith)
-      (at-honest (tagsBad m) _ _ _ (λ z. omega arith) (end-keeps refusals Honest (λ e. refl)))))
+      frame-by m Honest (λ e. refl) (λ t e. absurd (omega arith)) (λ s t e. absurd (omega arith))
+      (λ s h t e. absurd (omega arith)) (λ s h o t e. absurd (omega arith))
 
   -- the same of a code that a check gave
   pub frame-good : (x : Refusal) → x ≡ frameCode m → x .code ≡ 0 → Good m
@@ -205,11 +197,9 @@ module _ (m : List ℕ) (rows : List Row) where
 
   -- where the number is 0 there is no place either: nothing is refused
   pub code-passed : messageCode m rows .code ≡ 0 → messageCode m rows ≡ passed
-  unfolding messageCode
   code-passed =
-      first-keeps refusals Honest _ _ (frame-passed m)
-      (λ a. at-honest (someAbsent m rows) _ _ _ (λ z. omega arith)
-      (at-honest (someBroken m rows) _ _ _ (λ z. omega arith) (end-keeps refusals Honest (λ e. refl))))
+      message-by m Honest (λ e. refl) rows (frame-passed m) (λ a t e. absurd (omega arith))
+      (λ a t e. absurd (omega arith))
 
   -- the same of a code that a check gave
   pub message-good : (x : Refusal) → x ≡ messageCode m rows → x .code ≡ 0 → Good m

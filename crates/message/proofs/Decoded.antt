@@ -1,6 +1,6 @@
 -- A good frame is an encoding: the fields that a reader finds in it are ones that a message may hold, and they encode
 -- to it.
-use Prim.Native.Nat.{ℕ, zero, suc, zero-le, _+_, _-_, _*_, _%_, _^_, _≤_, _<_}
+use Prim.Native.Nat.{ℕ, zero, suc, _+_, _-_, _*_, _%_, _^_, _≤_, _<_}
 use mathlib.Core.Path.{_≡_, refl, sym, ap, ap₂, _∙_}
 use mathlib.Core.List.{List, _∷_, _++_, append-nil}
 use mathlib.Core.Logic.{⊎-elim}
@@ -18,7 +18,7 @@ use Rattle.message.specs.Frame.{word, count, tagAt, section, edge, offse
 use Rattle.message.specs.Sentences.{Good, TagsRise}
 use Rattle.message.specs.Values.{valueAt}
 use Rattle.message.proofs.Codes.{frame-0}
-use Rattle.message.proofs.Edges.{edge-first, edge-inner, edge-last, value-in}
+use Rattle.message.proofs.Edges.{edge-first, edge-inner, edge-last, value-in, edge-within}
 use Rattle.message.proofs.Positions.{blank, words-append, tags-append, values-append, length-starts, starts-more}
 use Rattle.message.proofs.Encoded.{count-encoded, tag-encoded, value-at-encoded}
 
@@ -85,14 +85,9 @@ module _ (m : List ℕ) (g : Good m) where
       rw (← add-one k) (omega (arith, value-in m g k h)) in
       rw (values-append, values-upto k (omega arith), append-nil, e, take-add, drop-drop)
 
-  -- every edge is within the value section
-  pub edge-within : (k : ℕ) → k ≤ count m → edge m k ≤ section m
-  edge-within zero h = rw (edge-first m) zero-le
-  edge-within (suc k) h = rw (← add-one k) (value-in m g k h .1)
-
   -- they have that many bytes,
   pub length-upto : (k : ℕ) → k ≤ count m → length (values (upto (fieldAt m) k)) ≡ edge m k
-  length-upto k h = rw (values-upto k h) (length-take-le _ _ (rw length-drop (edge-within k h)))
+  length-upto k h = rw (values-upto k h) (length-take-le _ _ (rw length-drop (edge-within m g k h)))
 
   -- so they start at the edges,
   pub starts-upto : (k : ℕ) → k ≤ count m → starts 0 (upto (fieldAt m) k) ≡ upto (edge m) k

@@ -2,6 +2,7 @@
 -- lays out, and nothing else. Codes has each of the codes 4 to 7 by its sentences.
 pub mod Edges
 pub mod Tests
+pub mod Cases
 pub mod Codes
 pub mod Places
 pub mod Numbered

@@ -10,20 +10,17 @@ use native.Mathlib.Omega.{arith, by-contra}
 use borrow.Author.Tests.{eqb-false, leb-false, lt-leb}
 use lib.ListN.{length, take, drop}
 use Rattle.laws.specs.Least.{least, somewhere, IsFirst}
-use Rattle.laws.proofs.First.{first-keeps, when-keeps, end-keeps, test-quiet}
 use Rattle.laws.proofs.Holds.{fails-exactly}
 use Rattle.laws.proofs.Least.{somewhere-at, nowhere-at, least-first}
-use Rattle.refusal.specs.Refusal.{refusals, first, whenAt}
 use Rattle.refusal.specs.declared.Refusal.{Refusal}
-use Rattle.message.specs.Frame.{notAbove, count, tagAt, edge, lengthBad, countBad, offsetBad, offsetsBad}
-use Rattle.message.specs.Frame.{tagsBad, firstBadOffset, firstLowTag, frameCode}
+use Rattle.message.specs.Frame.{notAbove, count, tagAt, edge, offsetBad, firstBadOffset, firstLowTag, frameCode}
 use Rattle.message.specs.Places.{FirstWrong, OffsetRight, Wrong4, by-length, by-count, by-offset, TagAbove}
-use Rattle.message.specs.Places.{Wrong5, Wrong6, RowsRise, Wrong7}
+use Rattle.message.specs.Places.{Wrong5, Wrong6, RowsRise, Wrong7, WrongAt}
 use Rattle.message.specs.Rules.{Row, row, absent, broken, rowAbsent, rowBroken, someAbsent, someBroken}
 use Rattle.message.specs.Rules.{firstBroken, messageCode}
 use Rattle.message.specs.Scans.{firstAbsent}
-use Rattle.message.specs.Sentences.{LengthGood, CountGood}
 use Rattle.message.specs.Values.{isTag, indexOf, has, valueAt, valueOf, valueStart}
+use Rattle.message.proofs.Cases.{frame-by, message-by}
 use Rattle.message.proofs.Codes.{frame-good}
 use Rattle.message.proofs.Edges.{start-in}
 use Rattle.message.proofs.Tests.{length-test, count-test, offset-test, and-test, value-test}
@@ -50,99 +47,52 @@ module _ (m : List ℕ) where
   At4 r = r .code ≡ 4 → Wrong4 m (r .at)
 
   frame-4 : At4 (frameCode m)
-  unfolding At4 frameCode
+  unfolding At4
   frame-4 =
-      first-keeps refusals At4 _ _ (when-keeps refusals At4 (lengthBad m) _ (λ t e. size t) (λ e. absurd (omega arith)))
-      (λ a. let s = length-test m .0 (test-quiet refusals _ _ tt a) in
-      first-keeps refusals At4 _ _
-      (when-keeps refusals At4 (countBad m) _ (λ t e. head s t) (λ e. absurd (omega arith)))
-      (λ b. let h = count-test m .0 (test-quiet refusals _ _ tt b) in
-      first-keeps refusals At4 _ _
-      (when-keeps refusals At4 (offsetsBad m) _ (λ t e. offsets s h t) (λ e. absurd (omega arith)))
-      (λ c. first-keeps refusals At4 _ _
-      (when-keeps refusals At4 (tagsBad m) _ (λ t e. absurd (omega arith)) (λ e. absurd (omega arith)))
-      (λ d. end-keeps refusals At4 (λ e. absurd (omega arith))))))
-    where
-      size : lengthBad m ≡ true → Wrong4 m 0
-      size t = by-length (record { wrong = refuted (length-test m) t; is = refl })
-
-      head : LengthGood m → countBad m ≡ true → Wrong4 m 0
-      head s t = by-count (record { size = s; wrong = refuted (count-test m) t; is = refl; word = refl })
-
-      offsets : LengthGood m → CountGood m → offsetsBad m ≡ true → Wrong4 m (4 * (firstBadOffset m + 1))
-      offsets s h t =
-          by-offset
-          (record {
-            size = s;
-            head = h;
-            place = firstBadOffset m;
-            first = first-wrong (offsetBad m) (OffsetRight m) (offset-test m) (count m - 1) t;
-            is = refl;
-            word = refl;
-          })
+      frame-by m At4 (λ e. absurd (omega arith))
+      (λ t e. by-length (record { wrong = refuted (length-test m) t; is = refl }))
+      (λ s t e. by-count (record { size = s; wrong = refuted (count-test m) t; is = refl; word = refl }))
+      (λ s h t e. by-offset
+      (record {
+        size = s;
+        head = h;
+        place = firstBadOffset m;
+        first = first-wrong (offsetBad m) (OffsetRight m) (offset-test m) (count m - 1) t;
+        is = refl;
+        word = refl;
+      }))
+      (λ s h o t e. absurd (omega arith))
 
   At5 : Refusal → Type 0
   At5 r = r .code ≡ 5 → Wrong5 m (r .at)
 
   frame-5 : At5 (frameCode m)
-  unfolding At5 frameCode
+  unfolding At5
   frame-5 =
-      first-keeps refusals At5 _ _ (other (lengthBad m) _)
-      (λ a. first-keeps refusals At5 _ _ (other (countBad m) _)
-      (λ b. first-keeps refusals At5 _ _ (other (offsetsBad m) _)
-      (λ c. first-keeps refusals At5 _ _
-      (when-keeps refusals At5 (tagsBad m) _ (λ t e. low t) (λ e. absurd (omega arith)))
-      (λ d. end-keeps refusals At5 (λ e. absurd (omega arith))))))
+      frame-by m At5 (λ e. absurd (omega arith)) (λ t e. absurd (omega arith)) (λ s t e. absurd (omega arith))
+      (λ s h t e. absurd (omega arith))
+      (λ s h o t e. record {
+        good = record { size = s; head = h; offsets = o };
+        place = firstLowTag m;
+        first = first-wrong (notAbove m (4 * count m)) (TagAbove m) above (count m - 1) t;
+        is = refl;
+        word = refl;
+      })
     where
-      other : (b : Bool) (place : ℕ) → At5 (whenAt b 4 place)
-      other b place = when-keeps refusals At5 b _ (λ t e. absurd (omega arith)) (λ e. absurd (omega arith))
-
       above : (k : ℕ) → notAbove m (4 * count m) k ≡ false ↔ TagAbove m k
       above k = (leb-false _ _, lt-leb _ _)
 
-      low : tagsBad m ≡ true → Wrong5 m (4 * count m + 4 * (firstLowTag m + 1))
-      low t =
-          record {
-            place = firstLowTag m;
-            first = first-wrong (notAbove m (4 * count m)) (TagAbove m) above (count m - 1) t;
-            is = refl;
-            word = refl;
-          }
-
   -- a frame has no other code
   frame-low : frameCode m .code ≤ 5
-  unfolding frameCode
   frame-low =
-      first-keeps refusals Low _ _ (four (lengthBad m) _)
-      (λ a. first-keeps refusals Low _ _ (four (countBad m) _)
-      (λ b. first-keeps refusals Low _ _ (four (offsetsBad m) _)
-      (λ c. first-keeps refusals Low _ _ (when-keeps refusals Low (tagsBad m) _ (λ t. omega arith) zero-le)
-      (λ d. end-keeps refusals Low zero-le))))
-    where
-      Low : Refusal → Type 0
-      Low r = r .code ≤ 5
-
-      four : (b : Bool) (place : ℕ) → Low (whenAt b 4 place)
-      four b place = when-keeps refusals Low b _ (λ t. omega arith) zero-le
+      frame-by m (λ r. r .code ≤ 5) zero-le (λ t. omega arith) (λ s t. omega arith) (λ s h t. omega arith)
+      (λ s h o t. omega arith)
 
   frame-in : frameCode m .at ≤ length m
-  unfolding frameCode
   frame-in =
-      first-keeps refusals In _ _ (when-keeps refusals In (lengthBad m) _ (λ t. zero-le) zero-le)
-      (λ a. first-keeps refusals In _ _ (when-keeps refusals In (countBad m) _ (λ t. zero-le) zero-le)
-      (λ b. let h : CountGood m = count-test m .0 (test-quiet refusals _ _ tt b) in
-      first-keeps refusals In _ _ (when-keeps refusals In (offsetsBad m) _ (λ t. offset-in h t) zero-le)
-      (λ c. first-keeps refusals In _ _ (when-keeps refusals In (tagsBad m) _ (λ t. tag-in h t) zero-le)
-      (λ d. end-keeps refusals In zero-le))))
-    where
-      In : Refusal → Type 0
-      In r = r .at ≤ length m
-
-      offset-in : CountGood m → offsetsBad m ≡ true → 4 * (firstBadOffset m + 1) ≤ length m
-      offset-in h t = omega (arith, h .fits, somewhere-at (offsetBad m) (count m - 1) t .0)
-
-      tag-in : CountGood m → tagsBad m ≡ true → 4 * count m + 4 * (firstLowTag m + 1) ≤ length m
-      tag-in h t = omega (arith, h .fits, somewhere-at (notAbove m (4 * count m)) (count m - 1) t .0)
+      frame-by m (λ r. r .at ≤ length m) zero-le (λ t. zero-le) (λ s t. zero-le)
+      (λ s h t. omega (arith, h .fits, somewhere-at (offsetBad m) (count m - 1) t .0))
+      (λ s h o t. omega (arith, h .fits, somewhere-at (notAbove m (4 * count m)) (count m - 1) t .0))
 
 -- ---- laws for codes 6 and 7
 
@@ -195,40 +145,27 @@ module _ (rows : List Row) (rise : RowsRise rows) where
 -- ---- the codes of a message
 
 module _ (m : List ℕ) (rows : List Row) where
-  -- what holds of a frame's refusal, and of none with the numbers 6 and 7, holds of a message's
-  by-frame : (P : Refusal → Type 0) → P (frameCode m) → ((n place : ℕ) → 6 ≤ n → P (record { code = n; at = place }))
-      → P (record { code = 0; at = 0 }) → P (messageCode m rows)
-  unfolding messageCode
-  by-frame P f over none =
-      first-keeps refusals P _ _ f
-      (λ a. first-keeps refusals P _ _ (when-keeps refusals P (someAbsent m rows) _ (λ t. over 6 _ (omega arith)) none)
-      (λ b. first-keeps refusals P _ _ (when-keeps refusals P (someBroken m rows) _ (λ t. over 7 _ (omega arith)) none)
-      (λ c. end-keeps refusals P none)))
-
   -- 4: the word at its place breaks the rule, and none before it does
   pub place-4 : messageCode m rows .code ≡ 4 → Wrong4 m (messageCode m rows .at)
   unfolding At4
-  place-4 = by-frame (At4 m) (frame-4 m) (λ n place h e. absurd (omega arith)) (λ e. absurd (omega arith))
+  place-4 =
+      message-by m (At4 m) (λ e. absurd (omega arith)) rows (frame-4 m) (λ a t e. absurd (omega arith))
+      (λ a t e. absurd (omega arith))
 
-  -- 5: the tag at its place is not above the one before it, and all before it rise
+  -- 5: the tag at its place is not above the one before it, and no word before it breaks a rule
   pub place-5 : messageCode m rows .code ≡ 5 → Wrong5 m (messageCode m rows .at)
   unfolding At5
-  place-5 = by-frame (At5 m) (frame-5 m) (λ n place h e. absurd (omega arith)) (λ e. absurd (omega arith))
+  place-5 =
+      message-by m (At5 m) (λ e. absurd (omega arith)) rows (frame-5 m) (λ a t e. absurd (omega arith))
+      (λ a t e. absurd (omega arith))
 
   -- 6: no tag of the message is a needed one
   pub place-6 : messageCode m rows .code ≡ 6 → Wrong6 m rows (messageCode m rows .at)
-  unfolding messageCode absent
+  unfolding absent
   place-6 =
-      first-keeps refusals At6 _ _ (λ e. absurd (omega (arith, frame-low m)))
-      (λ a. first-keeps refusals At6 _ _
-      (when-keeps refusals At6 (someAbsent m rows) _ (λ t e. lacks t) (λ e. absurd (omega arith)))
-      (λ b. first-keeps refusals At6 _ _
-      (when-keeps refusals At6 (someBroken m rows) _ (λ t e. absurd (omega arith)) (λ e. absurd (omega arith)))
-      (λ c. end-keeps refusals At6 (λ e. absurd (omega arith)))))
+      message-by m (λ r. r .code ≡ 6 → Wrong6 m rows (r .at)) (λ e. absurd (omega arith)) rows
+      (λ e. absurd (omega (arith, frame-low m))) (λ a t e. lacks t) (λ a t e. absurd (omega arith))
     where
-      At6 : Refusal → Type 0
-      At6 r = r .code ≡ 6 → Wrong6 m rows (r .at)
-
       lacks : someAbsent m rows ≡ true → Wrong6 m rows 0
       lacks t =
           let f = somewhere-at (rowAbsent m rows) (length rows) t in
@@ -243,18 +180,11 @@ module _ (m : List ℕ) (rows : List Row) where
 
   -- 7: the value at its place breaks its rule, and no value of a smaller tag does
   pub place-7 : RowsRise rows → messageCode m rows .code ≡ 7 → Wrong7 m rows (messageCode m rows .at)
-  unfolding messageCode broken
+  unfolding broken
   place-7 rise =
-      first-keeps refusals At7 _ _ (λ e. absurd (omega (arith, frame-low m)))
-      (λ a. first-keeps refusals At7 _ _
-      (when-keeps refusals At7 (someAbsent m rows) _ (λ t e. absurd (omega arith)) (λ e. absurd (omega arith)))
-      (λ b. first-keeps refusals At7 _ _
-      (when-keeps refusals At7 (someBroken m rows) _ (λ t e. breaks t) (λ e. absurd (omega arith)))
-      (λ c. end-keeps refusals At7 (λ e. absurd (omega arith)))))
+      message-by m (λ r. r .code ≡ 7 → Wrong7 m rows (r .at)) (λ e. absurd (omega arith)) rows
+      (λ e. absurd (omega (arith, frame-low m))) (λ a t e. absurd (omega arith)) (λ a t e. breaks t)
     where
-      At7 : Refusal → Type 0
-      At7 r = r .code ≡ 7 → Wrong7 m rows (r .at)
-
       breaks : someBroken m rows ≡ true → Wrong7 m rows (valueStart m (row rows (firstBroken m rows) .tag))
       breaks t =
           let f = somewhere-at (rowBroken m rows) (length rows) t in
@@ -273,15 +203,12 @@ module _ (m : List ℕ) (rows : List Row) where
             value = value-stands m (row rows (firstBroken m rows) .tag);
           }
 
+  -- all four
+  pub place-wrong : RowsRise rows → WrongAt m rows (messageCode m rows)
+  place-wrong rise = record { by-4 = place-4; by-5 = place-5; by-6 = place-6; by-7 = place-7 rise }
+
   -- a place is within the message, or its end
   pub place-in : messageCode m rows .at ≤ length m
-  unfolding messageCode
   place-in =
-      first-keeps refusals In _ _ (frame-in m)
-      (λ a. first-keeps refusals In _ _ (when-keeps refusals In (someAbsent m rows) _ (λ t. zero-le) zero-le)
-      (λ b. first-keeps refusals In _ _
-      (when-keeps refusals In (someBroken m rows) _ (λ t. start-in m (frame-good m _ refl a) _) zero-le)
-      (λ c. end-keeps refusals In zero-le)))
-    where
-      In : Refusal → Type 0
-      In r = r .at ≤ length m
+      message-by m (λ r. r .at ≤ length m) zero-le rows (frame-in m) (λ a t. zero-le)
+      (λ a t. start-in m (frame-good m _ refl a) _)

@@ -6,9 +6,10 @@ use mathlib.Core.Bool.{true}
 use mathlib.Core.List.{List}
 use lib.ListN.{length, take, drop}
 use Rattle.laws.specs.Numbers.{le}
+use Rattle.refusal.specs.declared.Refusal.{Refusal}
 use Rattle.message.specs.Frame.{count, offset, tagAt, section, edge}
 use Rattle.message.specs.Rules.{Row, row}
-use Rattle.message.specs.Sentences.{LengthGood, CountGood, KeepsRule}
+use Rattle.message.specs.Sentences.{LengthGood, CountGood, Good, KeepsRule}
 use Rattle.message.specs.Values.{has, valueOf, valueStart}
 
 -- of n things, thing k is the first that is not right
@@ -59,8 +60,9 @@ pub data Wrong4 (m : List ℕ) (at : ℕ) : Type 0 where
 abbrev pub TagAbove : List ℕ → ℕ → Type 0
 TagAbove m k = tagAt m k < tagAt m (k + 1)
 
--- the word of the first tag that is not above the one before it
+-- N and the offsets are right: the word of the first tag that is not above the one before it
 pub record Wrong5 (m : List ℕ) (at : ℕ) : Type 0 where
+  pub good : Good m
   pub place : ℕ
   pub first : FirstWrong (TagAbove m) (count m - 1) place
   pub is : at ≡ 4 * count m + 4 * (place + 1)
@@ -92,3 +94,12 @@ pub record Wrong7 (m : List ℕ) (rows : List Row) (at : ℕ) : Type 0 where
       → KeepsRule (row rows k .rule) (valueOf m (row rows k .tag))
   pub is : at ≡ valueStart m (row rows place .tag)
   pub value : take (length (valueOf m (row rows place .tag))) (drop at m) ≡ valueOf m (row rows place .tag)
+
+-- ---- all four
+
+-- what stands at the place of the refusal r of a message, which the table judges
+pub record WrongAt (m : List ℕ) (rows : List Row) (r : Refusal) : Type 0 where
+  pub by-4 : r .code ≡ 4 → Wrong4 m (r .at)
+  pub by-5 : r .code ≡ 5 → Wrong5 m (r .at)
+  pub by-6 : r .code ≡ 6 → Wrong6 m rows (r .at)
+  pub by-7 : r .code ≡ 7 → Wrong7 m rows (r .at)

@@ -3,4 +3,5 @@ pub mod Wholes
 pub mod Judged
 pub mod Reaching
 pub mod Exactly
+pub mod Places
 pub mod Once

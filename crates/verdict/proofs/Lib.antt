@@ -2,4 +2,5 @@
 pub mod Lent
 pub mod Downgrade
 pub mod Exactly
+pub mod Places
 pub mod Once

@@ -1,6 +1,6 @@
 -- Each of the codes 4 to 7 of a packet is told of the message in which it is given, at that message's place in the
 -- packet. The tables' rows rise, so that message's place-7 holds of each of them.
-use Prim.Native.Nat.{ℕ, zero, suc, _+_, _≤_}
+use Prim.Native.Nat.{ℕ, zero, suc, _+_, _≤_, _<_}
 use mathlib.Core.Path.{_≡_, refl, sym, ap, _∙_}
 use mathlib.Core.List.{List, [], _∷_}
 use mathlib.Core.Bool.{Bool, true}
@@ -9,7 +9,7 @@ use borrow.Author.Tests.{le-leb}
 use lib.ListN.{length, take, drop}
 use lib.Seq.{drop-drop, take-take, take-length}
 use Rattle.laws.proofs.First.{first-keeps, when-keeps, end-keeps}
-use Rattle.refusal.specs.Refusal.{refusal, passed, refusals, first, moved}
+use Rattle.refusal.specs.Refusal.{refusal, passed, refusals, first, when, moved}
 use Rattle.refusal.specs.declared.Refusal.{Refusal}
 use Rattle.message.specs.Places.{RowsRise}
 use Rattle.message.specs.Rules.{Row, messageCode}
@@ -18,7 +18,7 @@ use Rattle.message.specs.Sentences.{Good}
 use Rattle.message.specs.Values.{valueStart}
 use Rattle.message.proofs.Codes.{message-good}
 use Rattle.message.proofs.Edges.{value-ends}
-use Rattle.message.proofs.Places.{value-stands}
+use Rattle.message.proofs.Places.{value-stands, place-wrong}
 use Rattle.wire.specs.Packet.{bodyStart, body, packetCode}
 use Rattle.wire.specs.Places.{Carries, ToldOf, ToldIn, of-root, of-srep, of-cert, of-dele}
 use Rattle.wire.specs.Request.{requestMessageCode, requestCode}
@@ -103,16 +103,22 @@ module _ (p : List ℕ) where
   body-stands = take-length (body p)
 
   -- the refusal of the packet's message, told of the packet
-  body-told : (rows : List Row) → Carries (messageCode (body p) rows .code)
+  body-told : (rows : List Row) → RowsRise rows → Carries (messageCode (body p) rows .code)
       → ToldOf p (moved bodyStart (messageCode (body p) rows)) (body p) rows bodyStart
-  body-told rows c =
-      record { stands = body-stands; code = refl; at = moved-at bodyStart (messageCode (body p) rows) c }
+  body-told rows rise c =
+      record {
+        stands = body-stands;
+        code = refl;
+        at = moved-at bodyStart (messageCode (body p) rows) c;
+        wrong = place-wrong (body p) rows rise;
+      }
 
   -- and that of a message within
-  part-told : (part : List ℕ) (rows : List Row) (start : ℕ) → take (length part) (drop start (body p)) ≡ part
+  part-told : (part : List ℕ) (rows : List Row) → RowsRise rows → (start : ℕ)
+      → take (length part) (drop start (body p)) ≡ part
       → start + length part ≤ length (body p) → Carries (messageCode part rows .code)
       → ToldOf p (moved bodyStart (moved start (messageCode part rows))) part rows (bodyStart + start)
-  part-told part rows start e h c =
+  part-told part rows rise start e h c =
       let whole : Carries (moved start (messageCode part rows) .code) = record { least = c .least; most = c .most } in
       let outer = moved-at bodyStart (moved start (messageCode part rows)) whole in
       let inner = moved-at start (messageCode part rows) c in
@@ -122,6 +128,7 @@ module _ (p : List ℕ) where
         stands = inner-stands p (body p) part bodyStart start body-stands e h;
         code = refl;
         at = outer ∙ ap (λ (n : ℕ). n + bodyStart) inner ∙ sum;
+        wrong = place-wrong part rows rise;
       }
 
   -- ---- requests
@@ -132,7 +139,7 @@ module _ (p : List ℕ) where
   request-told : AsRequest (requestMessageCode (body p))
   unfolding AsRequest requestMessageCode
   request-told =
-      first-keeps refusals AsRequest _ _ (body-told requestTable)
+      first-keeps refusals AsRequest _ _ (body-told requestTable request-rises)
       (λ a. first-keeps refusals AsRequest _ _ (when-keeps refusals AsRequest _ _ eight none)
       (λ b. first-keeps refusals AsRequest _ _ (when-keeps refusals AsRequest _ _ eight none)
       (λ d. end-keeps refusals AsRequest none)))
@@ -163,17 +170,17 @@ module _ (p : List ℕ) where
   shape-told : AsResponse (shapeCode (body p))
   unfolding AsResponse shapeCode
   shape-told =
-      first-keeps refusals AsResponse (messageCode m rootTable) _ (λ c. of-root (body-told rootTable c))
+      first-keeps refusals AsResponse (messageCode m rootTable) _ (λ c. of-root (body-told rootTable root-rises c))
       (λ a. let g = message-good m rootTable _ refl a in
       first-keeps refusals AsResponse (moved (srepStart m) (messageCode (srep m) srepTable)) _
       (λ c. of-srep a
-      (part-told (srep m) srepTable (srepStart m) (value-stands m SREP) (value-ends m g SREP) (same c)))
+      (part-told (srep m) srepTable srep-rises (srepStart m) (value-stands m SREP) (value-ends m g SREP) (same c)))
       (λ b. first-keeps refusals AsResponse (moved (certStart m) (messageCode (cert m) certTable)) _
       (λ c. of-cert a b
-      (part-told (cert m) certTable (certStart m) (value-stands m CERT) (value-ends m g CERT) (same c)))
+      (part-told (cert m) certTable cert-rises (certStart m) (value-stands m CERT) (value-ends m g CERT) (same c)))
       (λ d. let h = message-good (cert m) certTable _ refl d in
       first-keeps refusals AsResponse (moved (deleStart m) (messageCode (dele m) deleTable)) _
-      (λ c. of-dele a b d (part-told (dele m) deleTable (deleStart m) (dele-stands h) (dele-in m g h) (same c)))
+      (λ c. of-dele a b d (part-told (dele m) deleTable dele-rises (deleStart m) (dele-stands h) (dele-in m g h) (same c)))
       (λ e. end-keeps refusals AsResponse (λ c. absurd (omega (arith, c .least)))))))
     where
       m : List ℕ
@@ -223,3 +230,21 @@ module _ (p : List ℕ) where
   pub signed-place : Carries (signedCode p .code) → ToldIn p (signedCode p)
   unfolding signedCode
   signed-place = by-body (shapeCode (body p)) shape-told
+
+-- ---- rows of checks above these: what tells a place tells it of the packet p
+
+abbrev pub Told : List ℕ → Refusal → Type 0
+Told p r = Carries (r .code) → ToldIn p r
+
+-- a test that tells a code above 7
+pub over-told : (p : List ℕ) (b : Bool) (n : ℕ) → 7 < n → Told p (when b n)
+over-told p b n h =
+    when-keeps refusals (Told p) b _ (λ t c. absurd (omega (arith, c .most, h)))
+    (λ c. absurd (omega (arith, c .least)))
+
+pub row-told : (p : List ℕ) (a : Refusal) (row : List Refusal) → Told p a → Told p (first row)
+    → Told p (first (a ∷ row))
+row-told p a row t u = first-keeps refusals (Told p) a row t (λ z. u)
+
+pub end-told : (p : List ℕ) → Told p (first [])
+end-told p = end-keeps refusals (Told p) (λ c. absurd (omega (arith, c .least)))

@@ -66,7 +66,7 @@ fn length(packet: &[u8]) -> [u8; 4] {
 /// let mut pile = Pile::new();
 /// pile.push(&record, true, false)?;
 /// assert_eq!((pile.bytes(), pile.answers()), (&record.bytes()[..], &[1, 0][..]));
-/// assert_eq!(pile.judge(0), Err(Refusal::Request.into()));
+/// assert_eq!(pile.judge(0).map_err(Refusal::from), Err(Refusal::Request));
 /// assert_eq!(pile.cut(), Err(Refusal::NoContradiction));
 /// # Ok::<(), Refusal>(())
 /// ```

@@ -114,8 +114,9 @@ pub fn pile_code(pile: &[u8], answers: &[u8]) -> Result<(), Refusal> {
 /// use trawlbeacon::{judge, Refusal, RECORD_LENGTH};
 ///
 /// // A record of zeros has no request, and there is no second record.
-/// assert_eq!(judge(&[0; RECORD_LENGTH], &[1, 1], 0), Err(Refusal::Request.into()));
-/// assert_eq!(judge(&[0; RECORD_LENGTH], &[1, 1], 1), Err(Refusal::Pile.into()));
+/// let refused = |place| judge(&[0; RECORD_LENGTH], &[1, 1], place).map_err(Refusal::from);
+/// assert_eq!(refused(0), Err(Refusal::Request));
+/// assert_eq!(refused(1), Err(Refusal::Pile));
 /// ```
 pub fn judge(pile: &[u8], answers: &[u8], place: usize) -> Result<Window, PacketRefusal> {
     let (from, told) = (pile.as_ptr(), answers.as_ptr());

@@ -232,13 +232,6 @@ impl From<PacketRefusal> for Refusal {
     }
 }
 
-impl From<Refusal> for PacketRefusal {
-    /// A refusal without a place.
-    fn from(refusal: Refusal) -> PacketRefusal {
-        PacketRefusal { refusal, at: None }
-    }
-}
-
 impl fmt::Display for PacketRefusal {
     fn fmt(&self, f: &mut fmt::Formatter) -> fmt::Result {
         match self.at {

@@ -35,7 +35,8 @@ fn a_packet_that_is_too_long_makes_no_record() {
 #[test]
 fn a_pile_takes_16_records() {
     let mut pile = Pile::new();
-    assert_eq!((pile.records(), pile.judge(0)), (0, Err(Refusal::Pile.into())));
+    assert_eq!(pile.records(), 0);
+    assert_eq!(pile.judge(0).map_err(Refusal::from), Err(Refusal::Pile));
     assert_eq!(pile.cut(), Err(Refusal::Pile));
     for place in 0..MOST_RECORDS as u8 {
         let record = Record::new(&[place; 32], &[0; 32], &[], &[]).expect("both fit");

@@ -34,10 +34,15 @@ pub struct Bad {
     pub at: Option<usize>,
 }
 
-impl<E: Into<PacketRefusal>> From<E> for Bad {
-    fn from(why: E) -> Bad {
-        let PacketRefusal { refusal, at } = why.into();
-        Bad { code: refusal.code(), at }
+impl From<PacketRefusal> for Bad {
+    fn from(why: PacketRefusal) -> Bad {
+        Bad { code: why.code(), at: why.at }
+    }
+}
+
+impl From<trawlbeacon::Refusal> for Bad {
+    fn from(refusal: trawlbeacon::Refusal) -> Bad {
+        Bad { code: refusal.code(), at: None }
     }
 }
 
@@ -153,14 +158,14 @@ pub fn signed_parts(packet: &[u8]) -> Both<Result<SignedParts, Bad>> {
 
 /// Lends each side a copy of `buffer` of its own. `place` is what the independent side finds in the
 /// packet that is written from.
-pub fn write_both<T, E: Into<PacketRefusal>>(
+pub fn write_both<T, E: Into<Bad>>(
     buffer: &[u8],
     place: Option<Place>,
     ours: impl FnOnce(&mut [u8]) -> Result<T, E>,
     independent: impl FnOnce(&mut [u8]) -> Result<T, Refusal>,
 ) -> Both<Written<T>> {
     let (mut lent, mut lent_too) = (buffer.to_vec(), buffer.to_vec());
-    let answer = ours(&mut lent).map_err(Bad::from);
+    let answer = ours(&mut lent).map_err(Into::into);
     let answer_too = independent(&mut lent_too).map_err(|refusal| placed(refusal, place));
     Both {
         ours: Written { answer, buffer: lent },

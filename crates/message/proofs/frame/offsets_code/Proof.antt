@@ -1,11 +1,13 @@
 -- `message::frame::offsets_code` meets its contract. The place is that of the first wrong offset.
-use Prim.Native.Nat.{_-_}
+use Prim.Native.Nat.{ℕ, _+_, _-_, _*_}
+use mathlib.Core.Path.{ap, _∙_}
 use native.Mathlib.Omega.{arith}
 use borrow.Author.Needs.{needs}
 use borrow.Author.Tests.{lt-ltb, le-ltb}
 use denote.Ref.{now}
 use Rattle.laws.specs.First.{whenOf}
 use Rattle.laws.specs.Least.{somewhere}
+use Rattle.refusal.specs.Refusal.{refusalAt}
 use Rattle.message.specs.Frame.{count, firstBadOffset}
 use Rattle.message.proofs.frame.offsets_code.Statement.{statement}
 use Rattle.message.proofs.frame.offsets_code.Tie as tie
@@ -14,13 +16,15 @@ returns : tie.Need-returns
 unfolding whenOf somewhere
 returns c =
     let m = now (c .before .before .before .before .before .args .m) in
-    simp (lt-ltb (firstBadOffset m) (count m - 1) (omega arith)) (cc)
+    rw (lt-ltb (firstBadOffset m) (count m - 1) (omega arith))
+    (c .refuse-at .ensures
+    ∙ ap (λ (k : ℕ). refusalAt 4 (4 * (k + 1))) (c .before .before .first-bad-offset .ensures))
 
 returns-2 : tie.Need-returns-2
 unfolding whenOf somewhere
 returns-2 c =
     let m = now (c .before .before .before .before .args .m) in
-    simp (le-ltb (firstBadOffset m) (count m - 1) (omega arith)) (cc)
+    rw (le-ltb (firstBadOffset m) (count m - 1) (omega arith))
 
 pub offsets-code-spec : {M : Type 1} → statement M
 offsets-code-spec =
