@@ -1,13 +1,13 @@
 -- When a stamp is bad, and the two clauses that follow for its answer.
-use Prim.Native.Nat.{ℕ, _≤_, _<_}
+use Prim.Native.Nat.{ℕ, _+_, _-_, _≤_, _<_}
 use mathlib.Core.Path.{_≡_, refl}
 use mathlib.Core.Bool.{true, false}
 use borrow.Author.Tests.{lt-ltb, le-ltb, le-leb, lt-leb}
 use Rattle.laws.specs.First.{whenOf}
 use Rattle.laws.proofs.Any.{any-here, any-later, any-not, any-none}
 use Rattle.refusal.specs.Refusal.{refusal}
-use Rattle.stamps.specs.Stamp.{dateOf, microsOf, stampBad, stampCode}
-use Rattle.stamps.specs.Window.{oldWindowOf, stampedOf, stampedNumber}
+use Rattle.stamps.specs.Stamp.{dateOf, microsOf, momentOf, stampBad, stampCode}
+use Rattle.stamps.specs.Window.{lowAt, highAt, stampedOf, stampedNumber}
 use Rattle.stamps.specs.declared.Stamped.{Stamped}
 use Rattle.stamps.specs.declared.Stamped.the-variants.{Refused, Within}
 
@@ -35,7 +35,10 @@ pub bad-answers : (stamp radi : ℕ) → stampBad stamp ≡ true → {x : Stampe
 unfolding stampedOf whenOf
 bad-answers stamp radi b e = rw (e, b) (refl, refl)
 
-pub good-answers : (stamp radi : ℕ) → stampBad stamp ≡ false → {x : Stamped} → x ≡ Within (oldWindowOf stamp radi)
-    → Answers stamp radi x
-unfolding stampedOf whenOf
-good-answers stamp radi b e = rw (e, b) (refl, refl)
+-- of a good stamp: low is the floor of some t - r which is the interval's start, high the ceiling of some u + s which is
+-- its end
+pub good-answers : (stamp radi t r u s : ℕ) → stampBad stamp ≡ false → {low high : ℕ} → low ≡ lowAt t r
+    → t - r ≡ momentOf stamp - radi → high ≡ highAt u s → u + s ≡ momentOf stamp + radi
+    → Answers stamp radi (Within (record { low = low; high = high }))
+unfolding stampedOf whenOf lowAt highAt
+good-answers stamp radi t r u s b l start h end = rw (l, start, h, end, b) (refl, refl)

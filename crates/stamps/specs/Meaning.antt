@@ -1,7 +1,19 @@
--- The request's sentences on the two ends, in whole numbers of microseconds. The interval of a moment t and a radius
--- goes from t - radi to t + radi.
+-- The request's sentences: when a stamp is refused, and what the two ends are, in whole numbers of microseconds. The
+-- interval of a moment t and a radius goes from t - radi to t + radi.
 use Prim.Native.Nat.{ℕ, _+_, _*_, _≤_, _<_}
 use mathlib.Core.Path.{_≡_}
+use mathlib.Core.Logic.{_⊎_}
+use Rattle.stamps.specs.Stamp.{dateOf, microsOf, momentOf}
+use Rattle.stamps.specs.declared.OldWindow.{OldWindow}
+
+-- a date under 40587, or microseconds of 86,401,000,000 or more
+abbrev pub BadStamp : ℕ → Type 0
+BadStamp stamp = (dateOf stamp < 40587) ⊎ (86401000000 ≤ microsOf stamp)
+
+-- neither
+pub record GoodStamp (stamp : ℕ) : Type 0 where
+  pub date : 40587 ≤ dateOf stamp
+  pub micros : microsOf stamp < 86401000000
 
 -- the whole second s is not after the interval's start: s seconds are at most t - radi in whole numbers
 abbrev pub NotAfterStart : ℕ → ℕ → ℕ → Type 0
@@ -21,3 +33,9 @@ pub record IsLow (t radi low : ℕ) : Type 0 where
 pub record IsHigh (t radi high : ℕ) : Type 0 where
   pub not-before : NotBeforeEnd t radi high
   pub smallest : (s : ℕ) → NotBeforeEnd t radi s → high ≤ s
+
+-- the stamp is a good one, and w has both ends of its interval
+pub record IsWindow (stamp radi : ℕ) (w : OldWindow) : Type 0 where
+  pub good : GoodStamp stamp
+  pub low-end : IsLow (momentOf stamp) radi (w .low)
+  pub high-end : IsHigh (momentOf stamp) radi (w .high)

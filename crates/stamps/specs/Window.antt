@@ -16,11 +16,11 @@ abbrev pub ceilingSecond : ℕ → ℕ
 ceilingSecond n = (n + 999999) / 1000000
 
 -- the low end rounds down and stops at 0: a difference of natural numbers does
-abbrev pub lowAt : ℕ → ℕ → ℕ
+unfoldable pub lowAt : ℕ → ℕ → ℕ
 lowAt t radi = floorSecond (t - radi)
 
 -- the high end rounds up
-abbrev pub highAt : ℕ → ℕ → ℕ
+unfoldable pub highAt : ℕ → ℕ → ℕ
 highAt t radi = ceilingSecond (t + radi)
 
 abbrev pub oldWindowOf : ℕ → ℕ → OldWindow

@@ -48,6 +48,7 @@ pub fn old_window(stamp: u64, radi: u32) -> Stamped
 fn moment(date: u64, micros: u64) -> u64
     requires { ⌜ 40587 ≤ date ⌝ }
     requires { ⌜ date < 2 ^ 24 ⌝ }
+    requires { ⌜ micros < 2 ^ 40 ⌝ }
     ensures { λ r. ⌜ r ≡ momentAt date micros ⌝ }
 {
     let midnight = (date - DAY_ZERO) * DAY;

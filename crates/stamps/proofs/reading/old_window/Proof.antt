@@ -1,8 +1,7 @@
 -- `stamps::reading::old_window` meets its contract.
-use mathlib.Core.Path.{ap, ap₂, _∙_}
+use mathlib.Core.Path.{ap}
 use native.Mathlib.Omega.{arith}
-use Rattle.stamps.specs.Window.{lowAt, highAt}
-use Rattle.stamps.specs.declared.Stamped.the-variants.{Refused, Within}
+use Rattle.stamps.specs.declared.Stamped.the-variants.{Refused}
 use Rattle.stamps.proofs.Answers.{early-bad, late-bad, else-good, bad-answers, good-answers}
 use borrow.Author.Needs.{needs}
 use Rattle.stamps.proofs.reading.old_window.Statement.{statement}
@@ -14,10 +13,14 @@ returns c = bad-answers _ _ (early-bad _ (omega arith)) (ap Refused (c .refuse .
 returns-2 : tie.Need-returns-2
 returns-2 c = bad-answers _ _ (late-bad _ (omega arith)) (ap Refused (c .refuse2 .ensures))
 
+low-end-requires : tie.Need-low-end-requires
+low-end-requires c κs = search needs
+
 returns-3 : tie.Need-returns-3
 returns-3 c =
-    good-answers _ _ (else-good _ (omega arith) (omega arith))
-    (rw (c .high-end .ensures, c .before .low-end .ensures, c .before .before .moment .ensures))
+    let stamp = c .before .before .before .before .before .args .stamp in
+    let good = else-good stamp (omega arith) (omega arith) in
+    good-answers stamp _ _ _ _ _ good (c .before .low-end .ensures) (omega arith) (c .high-end .ensures) (omega arith)
 
 pub old-window-spec : {M : Type 1} → statement M
 old-window-spec =
@@ -28,6 +31,6 @@ old-window-spec =
     (λ c κs. search needs)
     returns-2
     (λ c κs. search needs)
-    (λ c κs. search needs)
+    low-end-requires
     (λ c κs. search needs)
     returns-3)
