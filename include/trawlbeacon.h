@@ -1,6 +1,7 @@
 /* The proved Roughtime library, for C. Link libcapi.a, which tools/native-lib makes.
  *
- * H is Roughtime's hash: the first 32 bytes of SHA-512. Times are whole seconds since 1970.
+ * H is Roughtime's hash: the first 32 bytes of SHA-512. Times are whole seconds since 1970, but for
+ * the stamps of old captures.
  *
  * What every function asks of its caller, and no compiler checks:
  *   - no pointer is null, not even one to no bytes at all: where a length is 0, pass any pointer
@@ -49,7 +50,7 @@ extern "C" {
 
 /* The version of this header: a change of the first number breaks callers. */
 #define TB_VERSION_MAJOR 0
-#define TB_VERSION_MINOR 7
+#define TB_VERSION_MINOR 8
 
 /* ---- Codes ---- */
 
@@ -103,6 +104,8 @@ enum tb_code {
     TB_LISTS = 21,
     /* no list has the server */
     TB_UNKNOWN_SERVER = 22,
+    /* an old stamp's date is under 40587, or its microseconds are 86,401,000,000 or more */
+    TB_OLD_STAMP = 29,
     /* the pieces of a message come to more than 2^64 - 1 bytes */
     TB_PIECES = 30
 };
@@ -157,6 +160,8 @@ static inline const char *tb_code_text(uint32_t code) {
         return "a list of servers is not whole records";
     case TB_UNKNOWN_SERVER:
         return "no list has the server";
+    case TB_OLD_STAMP:
+        return "an old stamp's date is under 40587, or its microseconds are 86,401,000,000 or more";
     case TB_PIECES:
         return "the pieces of a message come to more than 2^64 - 1 bytes";
     default:
@@ -528,6 +533,42 @@ struct tb_cut {
  * pile, however short the run is. The codes are 15, 19 and 18. */
 struct tb_cut tb_cut_run(const uint8_t *pile, size_t pile_len, const uint8_t *answers,
                          size_t answers_len, uint8_t *out, size_t out_len);
+
+/* ---- Old captures ----
+ *
+ * Captures of the 2021 draft (May 2021) tell the time in another form, which tb_old_window turns
+ * into seconds. It does no more: the library reads no old packet and checks nothing of one. An old
+ * window is what a stamp says and no evidence. It enters no pile and no report, and tb_contradicts
+ * is not for its ends.
+ *
+ * How a host reads the stamp out of an old response: the packet is ROUGHTIM, a length and a
+ * message, and a message is N, N - 1 offsets, N tags and the values, all as today; the value of
+ * SREP is such a message too, and has both values that are wanted, each to be sought by its tag:
+ *
+ *   MIDP, tag 0x5044494d: 8 bytes, one number, least significant byte first
+ *         bytes 0 to 4  microseconds since midnight
+ *         bytes 5 to 7  the day, a Modified Julian Date; 40587 is 1 January 1970
+ *   RADI, tag 0x49444152: 4 bytes, one number, least significant byte first: microseconds
+ *
+ * Each is passed on as that one number: for MIDP,
+ *
+ *   uint64_t midp = 0;
+ *   for (int i = 7; i >= 0; i--) midp = midp << 8 | value[i];
+ */
+
+/* The ends of an old stamp's window, in seconds since 1970. */
+struct tb_old {
+    uint32_t code;
+    uint64_t low;
+    uint64_t high;
+};
+
+/* The window of an old MIDP and RADI. A day has 86,400 seconds. low is the largest whole second
+ * that is not after MIDP - RADI, or 0 where that is before 1970; high is the smallest that is not
+ * before MIDP + RADI. Microseconds of the day from 86,400,000,000 to 86,400,999,999, a leap second,
+ * are all read as the next midnight before RADI is applied.
+ * The code is 29, where the day is under 40587 or the microseconds are 86,401,000,000 or more. */
+struct tb_old tb_old_window(uint64_t midp, uint32_t radi);
 
 #ifdef __cplusplus
 }

@@ -4,9 +4,9 @@
  * function to what the header says of it: a hash by the digest of its parts joined, also where they
  * come in pieces, a tree of three leaves by its nodes and the largest one by a path through it, a
  * reader and the check by a request of ours and by a response that draft 19 prints, a lookup by the
- * place of the record, a pile by the times it was made of, a writer by what it leaves in a buffer,
- * the words of a code by some of them. Whether all of that is right on every input is for the tests
- * of hosts/rust.
+ * place of the record, old stamps by both sides of each limit, a pile by the times it was made of,
+ * a writer by what it leaves in a buffer, the words of a code by some of them. Whether all of that
+ * is right on every input is for the tests of hosts/rust.
  */
 #include "response.h"
 #include "trawlbeacon.h"
@@ -520,6 +520,49 @@ static void expect_lookups(void) {
     expect_found("a broken list", tb_find_server(owner, 128, shipped, 127, first), 21, 0, 0);
 }
 
+static void expect_old(const char *what, struct tb_old is, uint64_t code, uint64_t low,
+                       uint64_t high) {
+    expect_number(what, is.code, code);
+    expect_number(what, is.low, low);
+    expect_number(what, is.high, high);
+}
+
+/* The number in the eight bytes of an old MIDP. */
+static uint64_t old_midp(const uint8_t value[8]) {
+    uint64_t midp = 0;
+    for (int i = 7; i >= 0; i--) midp = midp << 8 | value[i];
+    return midp;
+}
+
+/* Stamps of the 2021 draft: one as it stands in a packet, and both sides of each limit. */
+static void expect_old_windows(void) {
+    /* 20 May 2021, which is day 59354 and 18767 days after 1 January 1970, at 00:02:03.456789 */
+    static const uint8_t MAY_2021[8] = {0x15, 0xcd, 0x5b, 0x07, 0x00, 0xda, 0xe7, 0x00};
+    const uint64_t may = 18767 * UINT64_C(86400), zero = UINT64_C(40587) << 40, second = 1000000;
+    const uint64_t day = 86400 * second, last = UINT64_C(0xffffff) << 40;
+    const uint64_t end = (UINT64_C(0xffffff) - 40587 + 1) * 86400;
+    uint64_t midp = old_midp(MAY_2021);
+    expect_old("an old stamp", tb_old_window(midp, 0), 0, may + 123, may + 124);
+    expect_old("the next second", tb_old_window(midp, 543211), 0, may + 122, may + 124);
+    expect_old("past the next second", tb_old_window(midp, 543212), 0, may + 122, may + 125);
+    expect_old("the second before", tb_old_window(midp, 456789), 0, may + 123, may + 124);
+    expect_old("before that second", tb_old_window(midp, 456790), 0, may + 122, may + 124);
+    expect_old("day zero", tb_old_window(zero, 0), 0, 0, 0);
+    expect_old("day zero and a radius", tb_old_window(zero, 1), 0, 0, 1);
+    expect_old("the last before day zero", tb_old_window(zero - 1, 0), 29, 0, 0);
+    expect_old("the end of the day before",
+               tb_old_window((UINT64_C(40586) << 40) + day, UINT32_MAX), 29, 0, 0);
+    expect_old("whole seconds", tb_old_window(zero + 9 * second, 4000000), 0, 5, 13);
+    expect_old("a low end that stops", tb_old_window(zero + 9 * second, 9000001), 0, 0, 19);
+    expect_old("before midnight", tb_old_window(zero + day - 1, 0), 0, 86399, 86400);
+    expect_old("the next midnight", tb_old_window(zero + day, 0), 0, 86400, 86400);
+    expect_old("a leap second", tb_old_window(zero + day + second - 1, 0), 0, 86400, 86400);
+    expect_old("its radius", tb_old_window(zero + day + second - 1, 1), 0, 86399, 86401);
+    expect_old("past a leap second", tb_old_window(zero + day + second, 0), 29, 0, 0);
+    expect_old("the last stamp", tb_old_window(last + day, UINT32_MAX), 0, end - 4295, end + 4295);
+    expect_old("past it", tb_old_window(UINT64_MAX, UINT32_MAX), 29, 0, 0);
+}
+
 /* Document 01's fifth example: what four records say of the time. The last contradicts the two
  * before it, and the run is 2 to 3. */
 enum { RECORDS = 4, PILE_LENGTH = RECORDS * TB_RECORD_LENGTH };
@@ -710,6 +753,8 @@ static void expect_all_words(void) {
                      "record, each 1 or 0");
     expect_words(TB_UNKNOWN_SERVER, "no list has the server");
     expect_words(TB_UNKNOWN_SERVER + 1, "no such code");
+    expect_words(29, "an old stamp's date is under 40587, or its microseconds are "
+                     "86,401,000,000 or more");
     expect_words(UINT32_MAX, "no such code");
 }
 
@@ -740,6 +785,7 @@ int main(void) {
     expect_no_radius(packet);
     expect_versions(packet);
     expect_lookups();
+    expect_old_windows();
     expect_piles();
     expect_all_words();
     expect_text(tb_delegation_text, packet, "RoughTime v1 delegation signature", packet + DELE_AT,

@@ -11,8 +11,9 @@
 //!
 //! It has SHA-512, the hashes that Roughtime makes of it and the Merkle tree, a reader of packets,
 //! requests and responses, the check of a response, the writer of a request, the texts that are
-//! signed, the lookup of a server, piles of responses and the reports that are made of them. Beside
-//! them stands what all this is tried with: what makes piles, and a server that answers batches.
+//! signed, the lookup of a server, piles of responses and the reports that are made of them, and the
+//! timestamps of an old draft. Beside them stands what all this is tried with: what makes piles, and
+//! a server that answers batches.
 
 #![forbid(unsafe_code)]
 #![warn(missing_docs)]
@@ -35,6 +36,7 @@ pub mod response;
 pub mod server;
 pub mod servers;
 pub mod sha512;
+pub mod stamp;
 pub mod tag;
 pub mod text;
 pub mod tree;

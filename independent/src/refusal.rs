@@ -53,6 +53,9 @@ pub enum Refusal {
     List = 21,
     /// No list has the server.
     ServerUnknown = 22,
+    /// An old stamp has a day before 1 January 1970, or more microseconds than a day with a leap
+    /// second.
+    OldStamp = 29,
 }
 
 impl Refusal {

@@ -57,6 +57,8 @@ use Rattle.capi.proofs.judging.tb_check_response.Kinds as tb-check-resp
 use Rattle.capi.proofs.judging.tb_check_response.Reads as tb-check-response-reads
 use Rattle.capi.proofs.finding.tb_find_server.Kinds as tb-find-server-kinds
 use Rattle.capi.proofs.finding.tb_find_server.Reads as tb-find-server-reads
+use Rattle.capi.proofs.stamping.tb_old_window.Kinds as tb-old-window-kinds
+use Rattle.capi.proofs.stamping.tb_old_window.Reads as tb-old-window-reads
 use Rattle.capi.proofs.piling.tb_pile_code.Kinds as tb-pile-code-kinds
 use Rattle.capi.proofs.piling.tb_pile_code.Reads as tb-pile-code-reads
 use Rattle.capi.proofs.piling.tb_judge.Kinds as tb-judge-kinds
@@ -166,6 +168,9 @@ tb-check-response-once κs a x u y v p q = (p ∙ sym q, refl)
 
 pub tb-find-server-once : Settles tb-find-server-kinds.ps tb-find-server-kinds.r tb-find-server-reads.Learnt
 tb-find-server-once κs a x u y v p q = (p ∙ sym q, refl)
+
+pub tb-old-window-once : Settles tb-old-window-kinds.ps tb-old-window-kinds.r tb-old-window-reads.Learnt
+tb-old-window-once κs a x u y v p q = (p ∙ sym q, refl)
 
 pub tb-pile-code-once : Settles tb-pile-code-kinds.ps tb-pile-code-kinds.r tb-pile-code-reads.Learnt
 tb-pile-code-once κs a x u y v p q = (p ∙ sym q, refl)

@@ -9,4 +9,5 @@ mod judging;
 mod pieces;
 mod piling;
 mod reading;
+mod stamping;
 mod writing;

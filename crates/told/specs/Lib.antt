@@ -5,4 +5,5 @@ pub mod Finding
 pub mod Judging
 pub mod Piling
 pub mod Reading
+pub mod Stamping
 pub mod Writing

@@ -8,6 +8,7 @@ mod judging;
 mod numbers;
 mod piling;
 mod reading;
+mod stamping;
 mod writing;
 
 pub use building::path_told;
@@ -22,6 +23,7 @@ pub use piling::run_told;
 pub use reading::parts_told;
 pub use reading::request_told;
 pub use reading::response_told;
+pub use stamping::old_told;
 pub use writing::wrote_told;
 
 // What `tb_read_request` answers.
@@ -135,4 +137,12 @@ pub struct TbCut {
     pub code: u32,
     pub first: u64,
     pub last: u64,
+}
+
+// What `tb_old_window` answers.
+#[repr(C)]
+pub struct TbOld {
+    pub code: u32,
+    pub low: u64,
+    pub high: u64,
 }

@@ -40,6 +40,7 @@ pub mod raw;
 mod refusal;
 mod servers;
 mod signing;
+mod stamps;
 mod trees;
 
 pub use check::{check_response, Window};
@@ -55,6 +56,7 @@ pub use piles::{
 pub use refusal::{PacketRefusal, Refusal};
 pub use servers::{find_server, Found, List, SERVER_LENGTH};
 pub use signing::{delegation_text, response_text, signed_parts, SignedParts, LONGEST_TEXT};
+pub use stamps::{old_window, OldWindow};
 pub use trees::{
     leads, path, path_from, root, rows, Placed, Rooted, MOST_LEAVES, MOST_ROWS_LENGTH,
 };

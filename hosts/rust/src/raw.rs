@@ -202,6 +202,18 @@ pub struct tb_cut {
     pub last: u64,
 }
 
+/// What [`tb_old_window`] answers.
+#[repr(C)]
+#[derive(Clone, Copy, Debug, PartialEq, Eq)]
+pub struct tb_old {
+    /// 0, or a refusal; then all else is 0.
+    pub code: u32,
+    /// The low end of the window.
+    pub low: u64,
+    /// The high end of the window.
+    pub high: u64,
+}
+
 extern "C" {
     /// SHA-512.
     pub fn tb_sha512(message: *const u8, message_len: usize, out: &mut [u8; 64]);
@@ -352,4 +364,7 @@ extern "C" {
         out: *mut u8,
         out_len: usize,
     ) -> tb_cut;
+
+    /// The window of a stamp of the 2021 draft.
+    pub fn tb_old_window(midp: u64, radi: u32) -> tb_old;
 }

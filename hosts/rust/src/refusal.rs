@@ -56,6 +56,8 @@ pub enum Refusal {
     Lists,
     /// no list has the server
     UnknownServer,
+    /// an old stamp's date is under 40587, or its microseconds are 86,401,000,000 or more
+    OldStamp,
     /// the pieces of a message come to more than 2^64 - 1 bytes
     Pieces,
 }
@@ -87,6 +89,7 @@ impl Refusal {
             Refusal::Leaves => 20,
             Refusal::Lists => 21,
             Refusal::UnknownServer => 22,
+            Refusal::OldStamp => 29,
             Refusal::Pieces => 30,
         }
     }
@@ -132,6 +135,9 @@ impl Refusal {
             }
             Refusal::Lists => "a list of servers is not whole records",
             Refusal::UnknownServer => "no list has the server",
+            Refusal::OldStamp => {
+                "an old stamp's date is under 40587, or its microseconds are 86,401,000,000 or more"
+            }
             Refusal::Pieces => "the pieces of a message come to more than 2^64 - 1 bytes",
         }
     }
@@ -162,6 +168,7 @@ impl Refusal {
             20 => Refusal::Leaves,
             21 => Refusal::Lists,
             22 => Refusal::UnknownServer,
+            29 => Refusal::OldStamp,
             30 => Refusal::Pieces,
             _ => return None,
         })
