@@ -9,12 +9,13 @@ returns : tie.Need-returns
 returns c = sym (ap tbOld (c .before .s .given .1))
 
 returns-2 : tie.Need-returns-2
-returns-2 c = sym (ap tbOld (c .before .s2 .given .1))
+returns-2 c = sym (ap tbOld (c .before .before .s2 .given .1))
 
 pub old-told-spec : {M : Type 1} → statement M
 old-told-spec =
     tie.close
     (tie.spec
+    (λ c. search needs)
     (λ c. search needs)
     (λ c. search needs)
     returns
