@@ -1,5 +1,5 @@
 -- The request's sentences and the answer are one: 29 exactly where the stamp is bad, else the window of its interval.
-use Prim.Native.Nat.{ℕ, _≤_, _<_}
+use Prim.Native.Nat.{ℕ}
 use mathlib.Core.Path.{_≡_, refl, sym, ap, subst, _∙_}
 use mathlib.Core.Bool.{Bool, true, false}
 use mathlib.Core.Logic.{_↔_, _⊎_, inl, inr, ⊎-elim}
@@ -7,12 +7,11 @@ use native.Mathlib.Omega.{arith}
 use borrow.Author.Tests.{ltb-true, ltb-false, leb-true, leb-false}
 use lib.Dec.{ltb, leb}
 use Rattle.laws.specs.First.{whenOf}
-use Rattle.stamps.specs.Stamp.{dateOf, microsOf, momentOf, stampBad, stampCode}
+use Rattle.stamps.specs.Stamp.{dateOf, microsOf, stampBad, stampCode}
 use Rattle.stamps.specs.Window.{oldWindowOf, stampedOf, stampedNumber}
 use Rattle.stamps.specs.Meaning.{BadStamp, GoodStamp, IsWindow}
 use Rattle.stamps.specs.declared.OldWindow.{OldWindow}
-use Rattle.stamps.specs.declared.Stamped.{Stamped}
-use Rattle.stamps.specs.declared.Stamped.the-variants.{Refused, Within}
+use Rattle.stamps.specs.declared.Stamped.the-variants.{Within}
 use Rattle.stamps.proofs.Answers.{early-bad, late-bad, else-good}
 use Rattle.stamps.proofs.Rounding.{low-is, high-is, low-only, high-only}
 
