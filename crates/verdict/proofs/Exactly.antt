@@ -1,5 +1,5 @@
--- A response passes exactly when document 01's sentence holds of it, and its window is then its own: the row of checks
--- and the sentence are one. The way from the code to the sentence asks that the two packets are bytes.
+-- A response passes exactly when document 01's sentence holds of it, and its window and its key are then its own: the
+-- row of checks and the sentence are one. The way from the code to the sentence asks that the two packets are bytes.
 use Prim.Native.Nat.{ℕ}
 use mathlib.Core.Path.{_≡_, refl, sym, ap}
 use mathlib.Core.Bool.{Bool, false, not}
@@ -7,12 +7,14 @@ use mathlib.Core.List.{List}
 use mathlib.Core.Logic.{_↔_}
 use borrow.Author.Tests.{eq-eqb, le-ltb, ltb-false, not-false}
 use Rattle.refusal.specs.Refusal.{passed, refusals}
+use Rattle.refusal.specs.declared.Refusal.{Refusal}
 use Rattle.laws.specs.Bytes.{Bytes}
 use Rattle.laws.proofs.Any.{any-not, any-none, any-parts}
 use Rattle.laws.proofs.First.{says-0, is-last, test-false, is-empty, none-quiet, row-quiet, test-quiet}
 use Rattle.laws.proofs.Same.{same-refl, same-true}
 use Rattle.message.specs.Tags.{NONC}
 use Rattle.message.specs.Values.{valueOf}
+use Rattle.wire.specs.Blank.{zeros32}
 use Rattle.wire.specs.Packet.{body}
 use Rattle.wire.specs.Request.{requestBad, requestCode}
 use Rattle.wire.specs.Response.{midpIn, mintIn, maxtIn}
@@ -20,12 +22,12 @@ use Rattle.wire.proofs.GoodRequest.{good-request, request-good}
 use Rattle.wire.proofs.GoodResponse.{good-response, response-good}
 use Rattle.wire.proofs.Versions.{version-test}
 use Rattle.verdict.specs.Check.{versionUnasked, versionDowngraded, nonceDiffers, pathMisses, timeOutside}
-use Rattle.verdict.specs.Check.{answersCode, agreementCode, checkCode, windowIn, verdictOf}
+use Rattle.verdict.specs.Check.{answersCode, agreementCode, checkCode, windowIn, pubkIn, verdictOf, keyOf}
 use Rattle.verdict.specs.Passes.{Passes}
-use Rattle.verdict.specs.declared.Verdict.the-variants.{Valid}
+use Rattle.verdict.specs.declared.Verdict.the-variants.{Valid, Refused}
 use Rattle.verdict.specs.declared.Window.{Window}
 use Rattle.verdict.proofs.Downgrade.{no-downgrade}
-use Rattle.verdict.proofs.Lent.{lent-good, by-valid, valid-by}
+use Rattle.verdict.proofs.Lent.{lent-good, by-valid, valid-by, by-refused, key-by, no-key}
 
 module _ (q p : List ℕ) (d s : Bool) where
   -- where the code is 0, each check passed, and its fact holds
@@ -121,7 +123,17 @@ module _ (q p : List ℕ) (d s : Bool) where
     λ ok. valid-by (checkCode q p d s) _ (passes-code ok),
   )
 
-  -- and no other window comes out than its own
+  -- and no other window comes out than its own: MIDP and RADI of its SREP, MINT and MAXT of its DELE;
   pub window-own : (w : Window) → verdictOf q p d s ≡ Valid w → w ≡ windowIn (body p)
   unfolding verdictOf
   window-own w e = by-valid (checkCode q p d s) _ w e .1
+
+  -- beside a window stands the PUBK of its own DELE,
+  pub key-own : (w : Window) → verdictOf q p d s ≡ Valid w → keyOf q p d s ≡ pubkIn (body p)
+  unfolding verdictOf keyOf
+  key-own w e = key-by (checkCode q p d s) _ (by-valid (checkCode q p d s) _ w e .0)
+
+  -- and beside a refusal 32 zero bytes
+  pub key-hidden : (why : Refusal) → verdictOf q p d s ≡ Refused why → keyOf q p d s ≡ zeros32
+  unfolding verdictOf keyOf
+  key-hidden why e = no-key (checkCode q p d s) _ (by-refused (checkCode q p d s) _ why e)

@@ -3,11 +3,6 @@ use mathlib.Core.Path.{refl, sym, _∙_}
 use Rattle.laws.proofs.Once.{Settles}
 use Rattle.verdict.proofs.checking.check_response.Kinds as check-response-kinds
 use Rattle.verdict.proofs.checking.check_response.Reads as check-response-reads
-use Rattle.verdict.proofs.windows.window_at.Kinds as window-at-kinds
-use Rattle.verdict.proofs.windows.window_at.Reads as window-at-reads
 
 pub check-response-once : Settles check-response-kinds.ps check-response-kinds.r check-response-reads.Learnt
 check-response-once κs a x u y v p q = (p .1 ∙ sym (q .1), refl)
-
-pub window-at-once : Settles window-at-kinds.ps window-at-kinds.r window-at-reads.Learnt
-window-at-once κs a x u y v p q = (p ∙ sym q, refl)

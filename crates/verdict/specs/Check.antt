@@ -6,17 +6,19 @@ use lib.Dec.{eqb, ltb}
 use Rattle.hash.specs.Hashes.{leafOf}
 use Rattle.laws.specs.Any.{any}
 use Rattle.laws.specs.Same.{same}
-use Rattle.message.specs.Tags.{VER, NONC, PATH, ROOT}
+use Rattle.message.specs.Tags.{VER, NONC, PATH, PUBK, ROOT}
 use Rattle.message.specs.Values.{valueOf}
 use Rattle.refusal.specs.Refusal.{first, when}
 use Rattle.refusal.specs.declared.Refusal.{Refusal}
 use Rattle.tree.specs.PathCheck.{leadsOf}
+use Rattle.wire.specs.Blank.{zeros32}
 use Rattle.wire.specs.Packet.{body}
 use Rattle.wire.specs.Request.{requestBad}
-use Rattle.wire.specs.Response.{srep, indxIn, verIn, versIn, radiIn, midpIn, mintIn, maxtIn, responseCode}
+use Rattle.wire.specs.Response.{srep, dele, indxIn, verIn, versIn, radiIn, midpIn, mintIn, maxtIn, responseCode}
 use Rattle.wire.specs.Versions.{lacksVersion}
 use Rattle.verdict.specs.Downgrade.{downgrades}
 use Rattle.verdict.specs.Window.{windowOf}
+use Rattle.verdict.specs.declared.Checked.{Checked}
 use Rattle.verdict.specs.declared.Verdict.{Verdict}
 use Rattle.verdict.specs.declared.Verdict.the-variants.{Valid, Refused}
 use Rattle.verdict.specs.declared.Window.{Window}
@@ -69,9 +71,13 @@ checkCode q p d s = first (when (requestBad q) 14 ∷ responseCode p ∷ agreeme
 
 -- ---- the answer
 
--- the window of a response, of its message
+-- the window of a response, of its message, with MINT and MAXT of its own DELE (request P9)
 unfoldable pub windowIn : List ℕ → Window
-windowIn b = windowOf (midpIn b) (radiIn b)
+windowIn b = windowOf (midpIn b) (radiIn b) (mintIn b) (maxtIn b)
+
+-- the delegated key of a response, of its message: PUBK of its own DELE
+abbrev pub pubkIn : List ℕ → List ℕ
+pubkIn b = valueOf (dele b) PUBK
 
 -- the answer by its refusal: the window w where nothing is refused
 abbrev pub verdictBy : Refusal → Window → Verdict
@@ -80,6 +86,18 @@ verdictBy why w = cond (eqb (why .code) 0) (Valid w) (Refused why)
 -- what the check answers to the response packet p to the request packet q
 unfoldable pub verdictOf : List ℕ → List ℕ → Bool → Bool → Verdict
 verdictOf q p d s = verdictBy (checkCode q p d s) (windowIn (body p))
+
+-- the delegated key beside an answer, by its refusal: 32 zero bytes where something is refused (request P9)
+abbrev pub keyBy : Refusal → List ℕ → List ℕ
+keyBy why key = cond (eqb (why .code) 0) key zeros32
+
+-- the key that the check hands out
+unfoldable pub keyOf : List ℕ → List ℕ → Bool → Bool → List ℕ
+keyOf q p d s = keyBy (checkCode q p d s) (pubkIn (body p))
+
+-- the two, one beside the other
+abbrev pub checkedOf : List ℕ → List ℕ → Bool → Bool → Checked
+checkedOf q p d s = record { verdict = verdictOf q p d s; pubk = keyOf q p d s }
 
 -- document 01's number of an answer: 0 with the window, or the refusal's
 abbrev pub verdictNumber : Verdict → ℕ

@@ -1,6 +1,6 @@
--- When a response is valid (draft 19, 5.4; document 01; request P4): what a reader must believe is Window, Downgrade
--- and Check. Passes is document 01's sentence, with P4's lines, proved to hold, of packets of bytes, exactly where no
--- code of Check applies.
+-- When a response is valid, and what it then says (draft 19, 5.4; document 01; requests P4 and P9): what a reader must
+-- believe is Window, Downgrade and Check. Passes is document 01's sentence, with P4's lines, proved to hold, of packets
+-- of bytes, exactly where no code of Check applies.
 pub mod Window
 pub mod Downgrade
 pub mod Check

@@ -1,4 +1,5 @@
--- The window of a valid response (document 01, "When a response is valid").
+-- The window of a valid response (document 01, "When a response is valid"), and with it the times for which its key is
+-- trusted (request P9; draft 19, 5.2.6).
 use Prim.Native.Nat.{ℕ, _+_, _-_, _^_, min}
 use Rattle.verdict.specs.declared.Window.{Window}
 
@@ -10,5 +11,14 @@ lowOf midp radi = midp - radi
 abbrev pub highOf : ℕ → ℕ → ℕ
 highOf midp radi = min (2 ^ 64 - 1) (midp + radi)
 
-abbrev pub windowOf : ℕ → ℕ → Window
-windowOf midp radi = record { midp = midp; radi = radi; low = lowOf midp radi; high = highOf midp radi }
+-- MINT and MAXT stand as they are
+abbrev pub windowOf : ℕ → ℕ → ℕ → ℕ → Window
+windowOf midp radi mint maxt =
+    record {
+      midp = midp;
+      radi = radi;
+      low = lowOf midp radi;
+      high = highOf midp radi;
+      mint = mint;
+      maxt = maxt;
+    }

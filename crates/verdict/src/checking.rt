@@ -1,8 +1,10 @@
 // The response check: 14 for the request, then 1 to 13.
 ghost use mathlib.Core.Path.{_≡_};
-ghost use Rattle.verdict.specs.Check.{checkCode, verdictOf, verdictNumber};
+ghost use Rattle.verdict.specs.Check.{checkCode, checkedOf, verdictNumber};
+use super::Checked;
 use super::Verdict;
 use super::agreement::agreement_code;
+use super::windows::key_in;
 use super::windows::window_in;
 use refusal::Refusal;
 use refusal::codes;
@@ -18,16 +20,25 @@ pub fn check_response<'a>(
     response: &'a [u8],
     delegation: bool,
     signature: bool,
-) -> Verdict
-    ensures { λ r. ⌜ verdictNumber r
+) -> Checked
+    ensures { λ r. ⌜ verdictNumber (r .verdict)
         ≡ checkCode (now (request .entry)) (now (response .entry)) delegation signature .code ⌝ }
-    ensures { λ r. ⌜ r ≡ verdictOf (now (request .entry)) (now (response .entry)) delegation signature ⌝ }
+    ensures { λ r. ⌜ r ≡ checkedOf (now (request .entry)) (now (response .entry)) delegation signature ⌝ }
 {
     let c = check_code(request, response, delegation, signature);
     if c.code != 0 {
-        return Verdict::Refused(c);
+        return Checked {
+            verdict: Verdict::Refused(c),
+            pubk: [0u8; 32],
+        };
     }
-    Verdict::Valid(window_in(body_of(response)))
+    let m = body_of(response);
+    let w = window_in(m);
+    let key = key_in(m);
+    Checked {
+        verdict: Verdict::Valid(w),
+        pubk: key,
+    }
 }
 
 // Codes 14 and 1 to 13 of a response.

@@ -1,22 +1,28 @@
-// Windows. No sum or difference wraps, whatever MIDP and RADI are.
+// What comes out of a response that passes: its window and its key. No sum or difference wraps, whatever MIDP and RADI
+// are.
 ghost use mathlib.Core.Path.{_≡_};
 ghost use Rattle.wire.specs.Facts.{Shaped};
 ghost use Rattle.verdict.specs.Window.{lowOf, highOf, windowOf};
-ghost use Rattle.verdict.specs.Check.{windowIn};
+ghost use Rattle.verdict.specs.Check.{windowIn, pubkIn};
 use super::Window;
+use message::tags::MAXT;
 use message::tags::MIDP;
+use message::tags::MINT;
+use message::tags::PUBK;
 use message::tags::RADI;
 use message::tags::SREP;
 use message::value_of;
+use wire::dele_of;
 use wire::fields::number32;
 use wire::fields::number64;
+use wire::fields::value32;
 
 // The largest time.
 const LAST: u64 = 0xffff_ffff_ffff_ffff;
 
-// The window of a time and its radius.
-pub fn window_at(midp: u64, radi: u32) -> Window
-    ensures { λ r. ⌜ r ≡ windowOf midp radi ⌝ }
+// The window of a time and its radius, with the times for which its key is trusted.
+fn window_at(midp: u64, radi: u32, mint: u64, maxt: u64) -> Window
+    ensures { λ r. ⌜ r ≡ windowOf midp radi mint maxt ⌝ }
 {
     let wide = radi as u64;
     Window {
@@ -24,6 +30,8 @@ pub fn window_at(midp: u64, radi: u32) -> Window
         radi: radi,
         low: low_end(midp, wide),
         high: high_end(midp, wide),
+        mint: mint,
+        maxt: maxt,
     }
 }
 
@@ -51,5 +59,18 @@ pub fn window_in(m: &[u8]) -> Window
     ensures { λ r. ⌜ r ≡ windowIn (now (m .entry)) ⌝ }
 {
     let srep = value_of(m, SREP);
-    window_at(number64(srep, MIDP), number32(srep, RADI))
+    let midp = number64(srep, MIDP);
+    let radi = number32(srep, RADI);
+    let dele = dele_of(m);
+    let mint = number64(dele, MINT);
+    let maxt = number64(dele, MAXT);
+    window_at(midp, radi, mint, maxt)
+}
+
+// The delegated key of a response's message.
+pub fn key_in(m: &[u8]) -> [u8; 32]
+    requires { ⌜ Shaped (now m) ⌝ }
+    ensures { λ r. ⌜ r ≡ pubkIn (now (m .entry)) ⌝ }
+{
+    value32(dele_of(m), PUBK)
 }
