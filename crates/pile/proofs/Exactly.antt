@@ -20,16 +20,18 @@ use Rattle.laws.proofs.Least.{nowhere, nowhere-at}
 use Rattle.laws.proofs.Same.{same-refl, same-true}
 use Rattle.laws.proofs.Zeros.{zeros-at, zeros-all}
 use Rattle.refusal.specs.Refusal.{refusals}
-use Rattle.verdict.specs.declared.Verdict.the-variants.{Valid}
+use Rattle.refusal.specs.declared.Refusal.{Refusal}
+use Rattle.verdict.specs.declared.Verdict.the-variants.{Valid, Refused}
 use Rattle.verdict.specs.declared.Window.{Window}
 use Rattle.verdict.proofs.Exactly.{passes-code, code-exactly}
-use Rattle.verdict.proofs.Lent.{lent-good, by-valid, valid-by}
+use Rattle.verdict.proofs.Lent.{lent-good, by-valid, valid-by, by-refused, key-by, no-key}
+use Rattle.wire.specs.Blank.{zeros32}
 use Rattle.wire.specs.Request.{requestBad, requestCode}
 use Rattle.wire.proofs.GoodRequest.{good-request, request-good}
 use Rattle.pile.specs.Pile.{recordsIn, recordAt, requestLength, responseLength, requestPacket, responsePacket}
 use Rattle.pile.specs.Pile.{saidYes, aboveOne, lengthBad, answerBad, pileBad, pileCode}
 use Rattle.pile.specs.Valid.{areaBad, recordBad, recordCode, recordVerdict, verdictAt, windowAt}
-use Rattle.pile.specs.Valid.{nothingAt, judgeCode, judgementOf}
+use Rattle.pile.specs.Valid.{pubkAt, nothingAt, judgeCode, judgementOf}
 use Rattle.pile.specs.Links.{nonceLinks, unreadable, follows, unlinkable, linkedOf, firstRandZero}
 use Rattle.pile.specs.Meaning.{WholePile, GoodPile, Undamaged, ValidRecord, ZeroRand}
 use Rattle.pile.specs.Meaning.{IsLinked, LinkReadable, LinkHolds, LinkedAt}
@@ -212,6 +214,18 @@ module _ (pile answers : List ℕ) (k : ℕ) where
   pub window-of-its-own : (w : Window) → judgementOf pile answers k .verdict ≡ Valid w → w ≡ windowAt pile k
   unfolding judgementOf
   window-of-its-own w e = by-valid (judgeCode pile answers k) _ w e .1
+
+  -- beside a window stands its response's own key,
+  pub key-of-its-own : (w : Window) → judgementOf pile answers k .verdict ≡ Valid w
+      → judgementOf pile answers k .pubk ≡ pubkAt pile k
+  unfolding judgementOf
+  key-of-its-own w e = key-by (judgeCode pile answers k) _ (by-valid (judgeCode pile answers k) _ w e .0)
+
+  -- and beside a refusal 32 zero bytes
+  pub no-key-told : (why : Refusal) → judgementOf pile answers k .verdict ≡ Refused why
+      → judgementOf pile answers k .pubk ≡ zeros32
+  unfolding judgementOf
+  no-key-told why e = no-key (judgeCode pile answers k) _ (by-refused (judgeCode pile answers k) _ why e)
 
 -- ---- links
 

@@ -1,5 +1,5 @@
 -- What is said of one record (document 01, "Piles and reports", and the order of codes): 16, then 14 and 1 to 13, else
--- its window. Its rand plays no part in that.
+-- its window, with the delegated key beside it (request P9). Its rand plays no part in that.
 -- Where there is no record to judge it is 15: document 01 has no code for a place past the last.
 use Prim.Native.Nat.{ℕ, _+_, _*_}
 use mathlib.Core.Bool.{Bool, not}
@@ -11,7 +11,8 @@ use Rattle.laws.specs.Pasted.{part}
 use Rattle.laws.specs.Zeros.{zeros}
 use Rattle.refusal.specs.Refusal.{first, when}
 use Rattle.refusal.specs.declared.Refusal.{Refusal}
-use Rattle.verdict.specs.Check.{checkCode, windowIn, verdictBy}
+use Rattle.verdict.specs.Check.{checkCode, windowIn, pubkIn, verdictBy, keyBy}
+use Rattle.verdict.specs.declared.Checked.{Checked}
 use Rattle.verdict.specs.declared.Verdict.{Verdict}
 use Rattle.verdict.specs.declared.Window.{Window}
 use Rattle.wire.specs.Packet.{body}
@@ -39,13 +40,24 @@ recordCode r d s = first (when (recordBad r) 16 ∷ checkCode (requestPacket r) 
 unfoldable pub recordVerdict : List ℕ → Bool → Bool → Verdict
 recordVerdict r d s = verdictBy (recordCode r d s) (windowIn (body (responsePacket r)))
 
--- of record k, with its delegation's answer and its response's
+-- the verdict, and beside it the delegated key, 32 zero bytes on a refusal
+abbrev pub recordChecked : List ℕ → Bool → Bool → Checked
+recordChecked r d s =
+    record { verdict = recordVerdict r d s; pubk = keyBy (recordCode r d s) (pubkIn (body (responsePacket r))) }
+
+-- of record k, with its delegation's answer and its response's: the verdict alone, and with the key
 abbrev pub verdictAt : List ℕ → List ℕ → ℕ → Verdict
 verdictAt pile answers k = recordVerdict (recordAt pile k) (saidYes answers (2 * k)) (saidYes answers (2 * k + 1))
 
--- the window of record k's response
+abbrev pub checkedAt : List ℕ → List ℕ → ℕ → Checked
+checkedAt pile answers k = recordChecked (recordAt pile k) (saidYes answers (2 * k)) (saidYes answers (2 * k + 1))
+
+-- the window and the key of record k's response
 abbrev pub windowAt : List ℕ → ℕ → Window
 windowAt pile k = windowIn (body (responsePacket (recordAt pile k)))
+
+abbrev pub pubkAt : List ℕ → ℕ → List ℕ
+pubkAt pile k = pubkIn (body (responsePacket (recordAt pile k)))
 
 -- the pile or its answers are bad, or k is past the last record
 unfoldable pub nothingAt : List ℕ → List ℕ → ℕ → Bool
@@ -59,6 +71,11 @@ judgeCode pile answers k =
     ∷ recordCode (recordAt pile k) (saidYes answers (2 * k)) (saidYes answers (2 * k + 1))
     ∷ [])
 
--- what the judge answers: the place that it was asked for, and the verdict
+-- what the judge answers: the place that it was asked for, the verdict, and the key beside it
 unfoldable pub judgementOf : List ℕ → List ℕ → ℕ → Judgement
-judgementOf pile answers k = record { place = k; verdict = verdictBy (judgeCode pile answers k) (windowAt pile k) }
+judgementOf pile answers k =
+    record {
+      place = k;
+      verdict = verdictBy (judgeCode pile answers k) (windowAt pile k);
+      pubk = keyBy (judgeCode pile answers k) (pubkAt pile k);
+    }

@@ -1,9 +1,9 @@
-// What is said of one record of a pile: 16, 14, 1 to 13, or its window.
+// What is said of one record of a pile: 16, 14, 1 to 13, or its window and its key.
 ghost use mathlib.Core.Path.{_≡_};
 ghost use Prim.Native.Nat.{_+_, _*_, _≤_, _<_};
 ghost use lib.ListN.{length};
 ghost use Rattle.pile.specs.Pile.{saidYes};
-ghost use Rattle.pile.specs.Valid.{recordVerdict, verdictAt, nothingAt, judgeCode, judgementOf};
+ghost use Rattle.pile.specs.Valid.{recordChecked, verdictAt, checkedAt, nothingAt, judgeCode, judgementOf};
 ghost use Rattle.verdict.specs.Check.{verdictNumber};
 use super::Judgement;
 use super::damage::record_bad;
@@ -14,6 +14,7 @@ use super::records::request_of;
 use super::records::response_of;
 use refusal::codes;
 use refusal::refuse;
+use verdict::Checked;
 use verdict::Verdict;
 use verdict::check_response;
 
@@ -27,12 +28,16 @@ pub fn judge<'a>(pile: &'a [u8], answers: &'a [u8], k: usize) -> Judgement
         return Judgement {
             place: k,
             verdict: Verdict::Refused(refusal),
+            pubk: [0u8; 32],
         };
     }
-    let v = verdict_at(pile, answers, k);
+    let c = checked_at(pile, answers, k);
+    let v = c.verdict;
+    let key = c.pubk;
     Judgement {
         place: k,
         verdict: v,
+        pubk: key,
     }
 }
 
@@ -51,18 +56,31 @@ pub fn verdict_at<'a>(pile: &'a [u8], answers: &'a [u8], k: usize) -> Verdict
     requires { ⌜ (4096 * k + 4096 ≤ length (now pile)) × (2 * k + 2 ≤ length (now answers)) ⌝ }
     ensures { λ r. ⌜ r ≡ verdictAt (now (pile .entry)) (now (answers .entry)) k ⌝ }
 {
-    let delegation = said_yes(answers, 2 * k);
-    let signature = said_yes(answers, 2 * k + 1);
-    verdict_on(record_at(pile, k), delegation, signature)
+    let c = checked_at(pile, answers, k);
+    c.verdict
 }
 
-// The verdict on a record: 16 before the response is looked at.
-fn verdict_on(r: &[u8], delegation: bool, signature: bool) -> Verdict
+// The same with the key beside it.
+fn checked_at<'a>(pile: &'a [u8], answers: &'a [u8], k: usize) -> Checked
+    requires { ⌜ (4096 * k + 4096 ≤ length (now pile)) × (2 * k + 2 ≤ length (now answers)) ⌝ }
+    ensures { λ r. ⌜ r ≡ checkedAt (now (pile .entry)) (now (answers .entry)) k ⌝ }
+{
+    let delegation = said_yes(answers, 2 * k);
+    let signature = said_yes(answers, 2 * k + 1);
+    checked_on(record_at(pile, k), delegation, signature)
+}
+
+// What is said of a record: 16 before the response is looked at.
+fn checked_on(r: &[u8], delegation: bool, signature: bool) -> Checked
     requires { ⌜ length (now r) ≡ 4096 ⌝ }
-    ensures { λ x. ⌜ x ≡ recordVerdict (now (r .entry)) delegation signature ⌝ }
+    ensures { λ x. ⌜ x ≡ recordChecked (now (r .entry)) delegation signature ⌝ }
 {
     if record_bad(r) {
-        return Verdict::Refused(refuse(codes::RECORD));
+        let refusal = refuse(codes::RECORD);
+        return Checked {
+            verdict: Verdict::Refused(refusal),
+            pubk: [0u8; 32],
+        };
     }
     check_response(request_of(r), response_of(r), delegation, signature)
 }

@@ -16,8 +16,10 @@ pub use piles::pile_code;
 pub use records::RECORD;
 use verdict::Verdict;
 
-// What is said of one record: its place, from 0, and its window or its refusal.
+// What is said of one record: its place, from 0, its window or its refusal, and the delegated key, 32 zero bytes on a
+// refusal.
 pub struct Judgement {
     pub place: usize,
     pub verdict: Verdict,
+    pub pubk: [u8; 32],
 }

@@ -1,23 +1,16 @@
 -- `pile::judging::verdict_at` meets its contract.
+use mathlib.Core.Path.{ap}
+use Rattle.verdict.specs.declared.Checked.{Checked}
 use borrow.Author.Needs.{needs}
 use Rattle.pile.proofs.judging.verdict_at.Statement.{statement}
 use Rattle.pile.proofs.judging.verdict_at.Tie as tie
 
 returns : tie.Need-returns
-returns c =
-    let c2 = c .before .before in
-    rw (c .before .record-at .ensures .0, c2 .said-yes2 .ensures, c2 .before .said-yes .ensures)
-    at (c .verdict-on .ensures)
+returns c = ap (λ (x : Checked). x .verdict) (c .checked-at .ensures)
 
 pub verdict-at-spec : {M : Type 1} → statement M
 verdict-at-spec =
     tie.close
     (tie.spec
-    (λ c. search needs)
-    (λ c κs. search needs)
-    (λ c. search needs)
-    (λ c. search needs)
-    (λ c κs. search needs)
-    (λ c κs. search needs)
     (λ c κs. search needs)
     returns)
