@@ -9,7 +9,6 @@ use lib.IntN.{pos, negsuc, _-ℤ_, _+ℤ_}
 use lib.Signed.{ltZ}
 use borrow.Author.Tests.{ltb-true, le-ltb}
 use Rattle.runs.proofs.Told.{ltb-same}
-use Rattle.verdict.specs.declared.Window.{Window}
 use Rattle.runs.specs.Clash.{clash}
 
 -- t < m - r in whole numbers is t + r < m
@@ -22,6 +21,7 @@ below t m (suc r) = go (ltb m (suc r)) refl
     go true e = sym (le-ltb (t + suc r) m (omega (arith, ltb-true m (suc r) e)))
     go false e = ltb-same t (m - suc r) (t + suc r) m (λ l. omega arith) (λ l. omega arith)
 
--- MIDP_a - RADI_a > MIDP_b + RADI_b
-pub clash-whole : (a b : Window) → clash a b ≡ ltZ (pos (b .midp) +ℤ pos (b .radi)) (pos (a .midp) -ℤ pos (a .radi))
-clash-whole a b = sym (below (b .midp + b .radi) (a .midp) (a .radi))
+-- MIDP - RADI, of the earlier, is above MIDP + RADI of the later
+pub clash-whole : (midp radi later-midp later-radi : ℕ)
+    → clash midp radi later-midp later-radi ≡ ltZ (pos later-midp +ℤ pos later-radi) (pos midp -ℤ pos radi)
+clash-whole midp radi later-midp later-radi = sym (below (later-midp + later-radi) midp radi)

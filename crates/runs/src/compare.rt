@@ -1,20 +1,19 @@
-// Two windows, and two verdicts, compared.
+// What was said of the time twice, and two verdicts, compared.
 ghost use mathlib.Core.Path.{_≡_};
 ghost use Rattle.runs.specs.Clash.{clash, valid, contradicting};
 use verdict::Verdict;
-use verdict::Window;
 
-// Whether a, the earlier, contradicts b: a at its earliest is later than b at its latest. Only MIDP and RADI are read.
-// The two radii are compared with the difference of the times, since MIDP - RADI may lie below 0 and MIDP + RADI above
-// 2^64 - 1.
-pub fn contradicts(a: Window, b: Window) -> bool
-    ensures { λ r. ⌜ r ≡ clash a b ⌝ }
+// Whether what was said earlier contradicts what was said later: the one at its earliest is later than the other at its
+// latest. A window is told by its MIDP and RADI, so that nobody has to make up the rest of one. The two radii are
+// compared with the difference of the times, since MIDP - RADI may lie below 0 and MIDP + RADI above 2^64 - 1.
+pub fn contradicts(midp: u64, radi: u32, later_midp: u64, later_radi: u32) -> bool
+    ensures { λ r. ⌜ r ≡ clash midp radi «later_midp» «later_radi» ⌝ }
 {
-    if a.midp <= b.midp {
+    if midp <= later_midp {
         return false;
     }
-    let radii = a.radi as u64 + b.radi as u64;
-    let back = a.midp - b.midp;
+    let radii = radi as u64 + later_radi as u64;
+    let back = midp - later_midp;
     radii < back
 }
 
@@ -24,7 +23,7 @@ pub fn both_contradict(v: Verdict, w: Verdict) -> bool
 {
     match v {
         Verdict::Valid(a) => match w {
-            Verdict::Valid(b) => contradicts(a, b),
+            Verdict::Valid(b) => contradicts(a.midp, a.radi, b.midp, b.radi),
             Verdict::Refused(_) => false,
         },
         Verdict::Refused(_) => false,

@@ -1,10 +1,15 @@
 -- `runs::compare::both_contradict` meets its contract. Each arm knows its variant.
+use mathlib.Core.Path.{sym, ap₂, _∙_}
+use Rattle.runs.specs.Clash.{contradicting}
 use borrow.Author.Needs.{needs}
 use Rattle.runs.proofs.compare.both_contradict.Statement.{statement}
 use Rattle.runs.proofs.compare.both_contradict.Tie as tie
 
 returns : tie.Need-returns
-returns c = cc
+returns c =
+    let w = c .before .before in
+    let v = w .before .before .before in
+    c .contradicts .ensures ∙ sym (ap₂ contradicting (v .v .given .1) (w .w .given .1))
 
 pub both-contradict-spec : {M : Type 1} → statement M
 both-contradict-spec =

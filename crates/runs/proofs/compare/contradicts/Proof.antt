@@ -11,26 +11,20 @@ use Rattle.runs.proofs.compare.contradicts.Tie as tie
 
 returns : tie.Need-returns
 returns c =
-    let start = c .before .before .before in
-    let a = start .args .a in
-    let b = start .args .b in
-    sym (le-ltb (b .midp + b .radi + a .radi) (a .midp) (omega arith))
+    let a = c .before .args in
+    sym (le-ltb (a .later-midp + a .later-radi + a .radi) (a .midp) (omega arith))
 
 returns-2 : tie.Need-returns-2
 returns-2 c =
-    let start = c .before .before .before .before .before .before .before in
-    let a = start .args .a in
-    let b = start .args .b in
-    ltb-same (a .radi + b .radi) (a .midp - b .midp) (b .midp + b .radi + a .radi) (a .midp)
-    (λ l. omega arith) (λ l. omega arith)
+    let a = c .before .args in
+    ltb-same (a .radi + a .later-radi) (a .midp - a .later-midp) (a .later-midp + a .later-radi + a .radi)
+    (a .midp) (λ l. omega arith) (λ l. omega arith)
 
 pub contradicts-spec : {M : Type 1} → statement M
 contradicts-spec =
     tie.close
     (tie.spec
     returns
-    (λ c. search needs)
-    (λ c. search needs)
     (λ c. search needs)
     (λ c. search needs)
     returns-2)
