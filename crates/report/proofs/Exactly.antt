@@ -16,7 +16,7 @@ use Rattle.pile.specs.Valid.{windowAt}
 use Rattle.pile.specs.Meaning.{ValidRecord, IsLinked, ZeroRand}
 use Rattle.laws.specs.Bytes.{Bytes}
 use Rattle.pile.proofs.Exactly.{valid-judged, valid-exactly, window-of-its-own, valid-link-exactly, rand-exactly}
-use Rattle.runs.specs.Clash.{clash, valid, contradicting}
+use Rattle.runs.specs.Clash.{windowsClash, valid, contradicting}
 use Rattle.runs.specs.Convict.{Contradiction}
 use Rattle.report.specs.Report.{judged, joined, refused, loose, Reports}
 use Rattle.report.specs.Meaning.{IsReport, Accepts}
@@ -49,7 +49,7 @@ module _ (pile answers : List ℕ) where
 
   -- two valid records contradict as their windows do,
   pub clash-tested : (i j : ℕ) → ValidRecord pile answers i → ValidRecord pile answers j
-      → contradicting (judged pile answers i) (judged pile answers j) ≡ clash (windowAt pile i) (windowAt pile j)
+      → contradicting (judged pile answers i) (judged pile answers j) ≡ windowsClash (windowAt pile i) (windowAt pile j)
   clash-tested i j u w = rw (valid-judged pile answers i u, valid-judged pile answers j w)
 
   -- and the second of two is linked exactly where document 01 calls it so

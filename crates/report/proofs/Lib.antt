@@ -1,5 +1,5 @@
 -- Laws that belong to no one function. What the crate claims of itself stands in ReportNumbers, Exactly, CutReports,
--- Stands, Agree and Once.
+-- Stands, Agree, Unread and Once.
 pub mod SameArrays
 pub mod Says
 pub mod Runs
@@ -11,4 +11,5 @@ pub mod CutRecords
 pub mod CutReports
 pub mod Stands
 pub mod Agree
+pub mod Unread
 pub mod Once

@@ -1,6 +1,6 @@
 -- From the arrays that hold verdicts and flags to the pile that they are of: what the check says of the ones it says of
 -- the other.
-use mathlib.Core.Path.{_≡_, sym, subst, ap, _∙_}
+use mathlib.Core.Path.{_≡_, sym, subst, ap}
 use mathlib.Core.Bool.{Bool, not}
 use mathlib.Core.Logic.{_↔_}
 use Prim.Native.Nat.{ℕ, _<_}
@@ -8,9 +8,9 @@ use native.Mathlib.Omega.{arith}
 use lib.Dec.{T}
 use Rattle.laws.specs.Least.{IsFirst, Never}
 use Rattle.verdict.specs.declared.Verdict.{Verdict}
-use Rattle.runs.specs.Clash.{valid}
+use Rattle.runs.specs.Alike.{Alike}
 use Rattle.runs.specs.Convict.{Contradiction}
-use Rattle.runs.proofs.SamePile.{same-least}
+use Rattle.runs.proofs.SamePile.{same-least, alike-same, alike-sym, alike-valid, alike-refused, alike-contradicting}
 use Rattle.report.specs.Report.{refused, loose, Says}
 use Rattle.report.specs.declared.Report.{Report}
 use Rattle.report.specs.declared.Report.the-variants.{Pair, Bad, Record, Unlinked, Clear}
@@ -27,21 +27,24 @@ module _ (p q : ℕ → Bool) (n : ℕ) (e : (i : ℕ) → i < n → p i ≡ q i
     earlier = λ i l t. f .earlier i l (subst T (sym (e i (omega (arith, f .inside)))) t);
   }
 
--- two piles of n records with the same verdicts
-pair-moved : (v w : ℕ → Verdict) (n : ℕ) → ((i : ℕ) → i < n → v i ≡ w i) → (i j : ℕ)
+-- two piles of n records of which the verdicts differ in MINT and MAXT at the most
+pair-moved : (v w : ℕ → Verdict) (n : ℕ) → ((i : ℕ) → i < n → Alike (v i) (w i)) → (i j : ℕ)
     → Contradiction v n i j → Contradiction w n i j
 pair-moved v w n e i j h = record {
   order = h .order;
   inside = h .inside;
-  holds = rw (← (e i (omega (arith, h .order, h .inside))), ← (e j (h .inside))) (h .holds);
+  holds =
+      subst T
+      (alike-contradicting (v i) (w i) (v j) (w j) (e i (omega (arith, h .order, h .inside))) (e j (h .inside)))
+      (h .holds);
 }
 
--- and with the same flags
+-- and the flags in nothing
 module _
     (v w : ℕ → Verdict) (l k : ℕ → Bool) (n : ℕ)
-    (e : (i : ℕ) → i < n → v i ≡ w i) (f : (i : ℕ) → i < n → l i ≡ k i) where
+    (e : (i : ℕ) → i < n → Alike (v i) (w i)) (f : (i : ℕ) → i < n → l i ≡ k i) where
   same-refused : (i : ℕ) → i < n → refused v i ≡ refused w i
-  same-refused i u = ap (λ (x : Verdict). not (valid x)) (e i u)
+  same-refused i u = ap not (alike-valid (v i) (w i) (e i u))
 
   same-loose : (i : ℕ) → i < n → loose l i ≡ loose k i
   same-loose i u = ap not (f i u)
@@ -53,12 +56,20 @@ module _
   none-loose = never-moved (loose l) (loose k) n same-loose
 
   same-pairs : (i j : ℕ) → Contradiction v n i j ↔ Contradiction w n i j
-  same-pairs i j = (pair-moved v w n e i j, pair-moved w v n (λ a u. sym (e a u)) i j)
+  same-pairs i j = (pair-moved v w n e i j, pair-moved w v n (λ a u. alike-sym (v a) (w a) (e a u)) i j)
 
-  pub says-moved : (r : Report) → Says v l n r → Says w k n r
-  says-moved (Pair i j) s = (none-refused (s .0), none-loose (s .1), same-least same-pairs (s .2))
-  says-moved Bad s = s
-  says-moved (Record why i) s =
-      (first-moved (refused v) (refused w) n same-refused i (s .0), sym (e i (s .0 .inside)) ∙ s .1)
-  says-moved (Unlinked i) s = (none-refused (s .0), first-moved (loose l) (loose k) n same-loose i (s .1))
-  says-moved Clear s = (none-refused (s .0), none-loose (s .1), λ i j h. s .2 i j (same-pairs i j .1 h))
+  pub says-alike : (r : Report) → Says v l n r → Says w k n r
+  says-alike (Pair i j) s = (none-refused (s .0), none-loose (s .1), same-least same-pairs (s .2))
+  says-alike Bad s = s
+  says-alike (Record why i) s =
+      (
+        first-moved (refused v) (refused w) n same-refused i (s .0),
+        alike-refused (v i) (w i) why (e i (s .0 .inside)) (s .1),
+      )
+  says-alike (Unlinked i) s = (none-refused (s .0), first-moved (loose l) (loose k) n same-loose i (s .1))
+  says-alike Clear s = (none-refused (s .0), none-loose (s .1), λ i j h. s .2 i j (same-pairs i j .1 h))
+
+-- and so where the verdicts are the same
+pub says-moved : (v w : ℕ → Verdict) (l k : ℕ → Bool) (n : ℕ) → ((i : ℕ) → i < n → v i ≡ w i)
+    → ((i : ℕ) → i < n → l i ≡ k i) → (r : Report) → Says v l n r → Says w k n r
+says-moved v w l k n e f = says-alike v w l k n (λ i u. alike-same (e i u)) f

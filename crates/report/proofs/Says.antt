@@ -91,7 +91,7 @@ module _ (pile answers : List ℕ) where
   good-says g Clear s = (g, s)
 
   -- and the other way round
-  says-of : GoodPile pile answers → (r : Report) → Reports pile answers r → SaysOf pile answers r
+  pub says-of : GoodPile pile answers → (r : Report) → Reports pile answers r → SaysOf pile answers r
   says-of g (Pair i j) s = s .1
   says-of g Bad s = absurd (s g)
   says-of g (Record x k) s = s .1

@@ -6,7 +6,7 @@ use lib.Dec.{T}
 use Rattle.pile.specs.Pile.{recordsIn, recordAt}
 use Rattle.pile.specs.Valid.{windowAt}
 use Rattle.pile.specs.Meaning.{ValidRecord, IsLinked, ZeroRand}
-use Rattle.runs.specs.Clash.{clash}
+use Rattle.runs.specs.Clash.{windowsClash}
 use Rattle.report.specs.Taking.{runBytes, runAnswers}
 use Rattle.report.specs.declared.Report.{Report}
 use Rattle.report.specs.declared.Report.the-variants.{Pair, Bad, Record, Unlinked, Clear}
@@ -21,7 +21,7 @@ pub record IsReport (pile answers : List ℕ) : Type 0 where
   pub j : ℕ
   pub order : i < j
   pub inside : j < recordsIn pile
-  pub contradict : T (clash (windowAt pile i) (windowAt pile j))
+  pub contradict : T (windowsClash (windowAt pile i) (windowAt pile j))
 
 -- the run from record i to record j of a pile, cut out, is a report with its own answers
 pub record ReportIn (pile answers : List ℕ) (i j : ℕ) : Type 0 where

@@ -1,7 +1,5 @@
 -- `verdict::checking::check_response` meets its contract.
-use mathlib.Core.Path.{sym, ap, _∙_}
-use Rattle.laws.proofs.First.{quiet-of}
-use Rattle.refusal.specs.Refusal.{refusals}
+use mathlib.Core.Path.{ap, _∙_}
 use Rattle.verdict.specs.Check.{windowIn, pubkIn}
 use Rattle.verdict.proofs.Lent.{checked-body, refused-clauses, valid-clauses}
 use borrow.Author.Needs.{needs}
