@@ -14,7 +14,7 @@ use Rattle.runs.specs.Convict.{Convicts, verdictIn}
 use Rattle.runs.specs.declared.Span.{Span}
 use Rattle.runs.specs.declared.Span.the-variants.{Places, Nothing}
 use Rattle.runs.proofs.Find.{runOf, run-exists}
-use Rattle.runs.proofs.SamePile.{same-answer}
+use Rattle.runs.proofs.SamePile.{alike-sym, alike-answer}
 use Rattle.report.specs.Report.{judged}
 use Rattle.report.specs.Taking.{ConvictsIn, Takes}
 use Rattle.report.specs.declared.Taken.{Taken}
@@ -44,7 +44,8 @@ cuts vs pile answers room h l =
     let v = judged pile answers in
     takes pile answers room (h .good) l (runOn vs)
     (subst (λ (m : ℕ). Answers (Convicts v (linkedOf pile) m) (runOn vs)) (sym (h .many))
-    (same-answer (verdictIn vs) v (λ k. true) (linkedOf pile) n (λ k u. sym (h .same k u))
+    (alike-answer (verdictIn vs) v (λ k. true) (linkedOf pile) n
+    (λ k u. alike-sym (v k) (verdictIn vs k) (h .same k u))
     (λ k z u. sym (h .links k z u)) (runOn vs) (finds vs)))
 
 -- the run is from i to j, and there is none

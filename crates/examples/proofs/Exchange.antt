@@ -28,7 +28,8 @@ use Rattle.wire.proofs.Versions.{version-test}
 use Rattle.verdict.specs.Check.{versionUnasked, versionDowngraded, nonceDiffers, pathMisses, answersCode, checkCode}
 use Rattle.verdict.specs.Check.{windowIn}
 use Rattle.verdict.specs.Downgrade.{askedAbove, downgrades}
-use Rattle.examples.specs.Claims.{_±_, Before10, Climbs, Late}
+use Rattle.verdict.specs.Window.{windowOf}
+use Rattle.examples.specs.Claims.{Before10, Climbs, Late}
 use Rattle.examples.proofs.Checking.{answers-left}
 use Rattle.examples.proofs.MadeRequest.{one-version, version-held, request, ask-packet, ask-good}
 use Rattle.examples.proofs.MadeResponse.{Answer, Sound, srepFields, deleFields, certFields, zeroPath}
@@ -156,7 +157,7 @@ module _ (a : Answer) (ok : Sound a) where
   checked none low h d s =
       answers-left q p before-10 (leads none low) (omega (arith, mint-is)) d s (omega (arith, midp-is, maxt-is))
 
-  -- its window is what it says
-  pub window-is : windowIn (body p) ≡ a .midp ± a .radi
+  -- its window is what it says, with MINT 0
+  pub window-is : windowIn (body p) ≡ windowOf (a .midp) (a .radi) 0 (a .maxt)
   unfolding windowIn
-  window-is = rw (midp-is, radi-is)
+  window-is = rw (midp-is, radi-is, mint-is, maxt-is)

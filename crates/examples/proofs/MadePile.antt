@@ -21,6 +21,7 @@ use Rattle.pile.specs.Links.{linkedOf}
 use Rattle.pile.specs.Meaning.{GoodPile, IsLinked, LinkReadable}
 use Rattle.pile.proofs.Exactly.{judged-at, readable-link-exactly}
 use Rattle.runs.specs.Convict.{verdictIn}
+use Rattle.runs.proofs.SamePile.{alike-same}
 use Rattle.report.specs.Report.{judged}
 use Rattle.examples.specs.Claims.{_±_}
 use Rattle.examples.specs.Spoken.{SomePile, Reply, verdictOn, verdictsOn, fits, allFit}
@@ -193,7 +194,7 @@ module _ (rs : List Reply) (fit : T (allFit rs)) where
         holds = record {
           good = good;
           many = many ∙ sym (length-verdicts rs);
-          same = λ k h. same k (rw (length-verdicts rs) at h);
+          same = λ k h. alike-same (same k (rw (length-verdicts rs) at h));
           links = λ k z h. linked k z (rw (length-verdicts rs) at h);
         };
       };

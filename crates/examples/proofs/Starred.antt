@@ -15,7 +15,7 @@ use Rattle.refusal.specs.declared.Refusal.{Refusal}
 use Rattle.message.specs.Frame.{lengthBad, countBad, edge, frameCode}
 use Rattle.tree.specs.Tree.{depthOf}
 use Rattle.batch.specs.Leaves.{countOf}
-use Rattle.runs.specs.Clash.{clash}
+use Rattle.runs.specs.Clash.{windowsClash}
 use Rattle.report.specs.Taking.{takenNumber}
 use Rattle.report.specs.declared.Taken.the-variants.{NoRun}
 use Rattle.examples.specs.Claims.{Row, low-end, high-end, contradicts, run, no-run, depth, path, indx, at-maxt}
@@ -33,7 +33,7 @@ batch n d = eqb (countOf (32 * n)) n && eqb (depthOf n) d
 abbrev test : Row → Bool
 test (low-end w n) = eqb (w .low) n
 test (high-end w n) = eqb (w .high) n
-test (contradicts a b answer) = Bool·beq (clash a b) answer
+test (contradicts a b answer) = Bool·beq (windowsClash a b) answer
 test (run vs i j) = isFrom (runOn vs) i j
 test (no-run vs code) = isNone (runOn vs) && eqb (takenNumber NoRun) code
 test (depth n d) = batch n d && ltb 0 n

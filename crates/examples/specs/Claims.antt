@@ -4,7 +4,7 @@
 use mathlib.Core.Path.{_≡_}
 use mathlib.Core.Bool.{Bool, true, false}
 use mathlib.Core.List.{List}
-use Prim.Native.Nat.{ℕ, _+_, _*_, _≤_, _<_}
+use Prim.Native.Nat.{ℕ, _+_, _*_, _-_, _^_, _≤_, _<_}
 use lib.ListN.{length}
 use Rattle.message.specs.Frame.{count, tagAt}
 use Rattle.message.specs.Rules.{messageCode}
@@ -28,7 +28,8 @@ use Rattle.verdict.specs.declared.Window.{Window}
 use Rattle.pile.specs.Pile.{recordsIn}
 use Rattle.pile.specs.Links.{linkedOf}
 use Rattle.pile.specs.Meaning.{GoodPile}
-use Rattle.runs.specs.Clash.{clash}
+use Rattle.runs.specs.Alike.{Alike}
+use Rattle.runs.specs.Clash.{windowsClash}
 use Rattle.runs.specs.Spans.{Answers}
 use Rattle.runs.specs.Convict.{Convicts, verdictIn}
 use Rattle.runs.specs.declared.Span.{Span}
@@ -38,10 +39,10 @@ use Rattle.report.specs.Taking.{Takes, takenNumber}
 use Rattle.report.specs.declared.Taken.{Taken}
 use Rattle.report.specs.declared.Taken.the-variants.{Run, NoRun}
 
--- the window of a response that says MIDP and RADI
+-- the window of a response that says MIDP and RADI; MINT and MAXT, of which no example speaks, are as wide as can be
 infix 80 _±_
 abbrev pub _±_ : ℕ → ℕ → Window
-midp ± radi = windowOf midp radi
+midp ± radi = windowOf midp radi 0 (2 ^ 64 - 1)
 
 -- ---- the kinds of examples
 
@@ -74,11 +75,11 @@ pub data Row : Type 0 where
 
 -- ---- what they are about
 
--- a good pile with these verdicts on its records, each after the first linked
+-- a good pile with these verdicts on its records, whatever their MINT and MAXT (request P9), each after the first linked
 pub record Linked (pile answers : List ℕ) (verdicts : List Verdict) : Type 0 where
   pub good : GoodPile pile answers
   pub many : recordsIn pile ≡ length verdicts
-  pub same : (k : ℕ) → k < length verdicts → judged pile answers k ≡ verdictIn verdicts k
+  pub same : (k : ℕ) → k < length verdicts → Alike (judged pile answers k) (verdictIn verdicts k)
   pub links : (k : ℕ) → 0 < k → k < length verdicts → linkedOf pile k ≡ true
 
 -- what the search for a run answers where all are linked,
@@ -138,7 +139,7 @@ pub record Refuses (m : List ℕ) (code : ℕ) : Type 0 where
 abbrev pub Claim : Row → Type 0
 Claim (low-end w n) = w .low ≡ n
 Claim (high-end w n) = w .high ≡ n
-Claim (contradicts a b answer) = clash a b ≡ answer
+Claim (contradicts a b answer) = windowsClash a b ≡ answer
 Claim (run verdicts i j) = Finds verdicts (Places i j) × CutterSays verdicts (Run i j)
 Claim (no-run verdicts code) = Finds verdicts Nothing × CutterSays verdicts NoRun × (takenNumber NoRun ≡ code)
 Claim (depth leaves d) =

@@ -61,11 +61,10 @@ module _
   pub says-alike : (r : Report) → Says v l n r → Says w k n r
   says-alike (Pair i j) s = (none-refused (s .0), none-loose (s .1), same-least same-pairs (s .2))
   says-alike Bad s = s
-  says-alike (Record why i) s =
-      (
-        first-moved (refused v) (refused w) n same-refused i (s .0),
-        alike-refused (v i) (w i) why (e i (s .0 .inside)) (s .1),
-      )
+  says-alike (Record why i) s = (
+    first-moved (refused v) (refused w) n same-refused i (s .0),
+    alike-refused (v i) (w i) why (e i (s .0 .inside)) (s .1),
+  )
   says-alike (Unlinked i) s = (none-refused (s .0), first-moved (loose l) (loose k) n same-loose i (s .1))
   says-alike Clear s = (none-refused (s .0), none-loose (s .1), λ i j h. s .2 i j (same-pairs i j .1 h))
 
