@@ -1,0 +1,88 @@
+-- The two questions as sentences: first of any numbers and keys, and then of what the response check answered.
+use Prim.Native.Nat.{ℕ, _≤_}
+use mathlib.Core.Path.{_≡_, refl, sym, subst, ap, ap₂, _∙_}
+use mathlib.Core.Bool.{Bool, true, false, _&&_, true≢false}
+use mathlib.Core.List.{List}
+use mathlib.Core.Logic.{_↔_}
+use borrow.Author.Tests.{eq-eqb, eqb-true, le-leb, leb-true}
+use Rattle.laws.specs.Bytes.{Bytes}
+use Rattle.laws.proofs.Same.{same-refl, same-true}
+use Rattle.wire.specs.Packet.{body}
+use Rattle.wire.specs.Response.{maxtIn}
+use Rattle.verdict.specs.Check.{checkCode, windowIn, pubkIn, verdictOf, keyOf, verdictNumber}
+use Rattle.verdict.specs.Passes.{Passes}
+use Rattle.verdict.specs.declared.Verdict.the-variants.{Valid}
+use Rattle.verdict.specs.declared.Window.{Window}
+use Rattle.verdict.proofs.Exactly.{code-exactly, window-own}
+use Rattle.verdict.proofs.Lent.{verdict-says, key-by}
+use Rattle.reuse.specs.Reuse.{mayUse, sameDelegation}
+
+-- of two tests that hold at once, each by itself
+both : (a b : Bool) → (a && b) ≡ true → (a ≡ true) × (b ≡ true)
+both true b e = (refl, e)
+both false b e = absurd (true≢false (sym e))
+
+-- a window may be used exactly where the answer is valid and the time is MAXT or earlier
+pub use-exactly : (number maxt time : ℕ) → mayUse number maxt time ≡ true ↔ ((number ≡ 0) × (time ≤ maxt))
+unfolding mayUse
+use-exactly number maxt time = (
+  λ e. let p = both _ _ e in (eqb-true _ _ (p .0), leb-true _ _ (p .1)),
+  λ h. ap₂ _&&_ (eq-eqb number 0 (h .0)) (le-leb time maxt (h .1)),
+)
+
+-- two answers come from one delegation exactly where both are valid and the keys are the same bytes
+pub delegation-exactly : (first : ℕ) (pubk : List ℕ) (second : ℕ) (other : List ℕ)
+    → sameDelegation first pubk second other ≡ true ↔ ((first ≡ 0) × (second ≡ 0) × (pubk ≡ other))
+unfolding sameDelegation
+delegation-exactly first pubk second other = (
+  λ e.
+      let p = both _ _ e in
+      let q = both _ _ (p .1) in
+      (eqb-true _ _ (p .0), eqb-true _ _ (q .0), same-true _ _ (q .1)),
+  λ h. rw (eq-eqb first 0 (h .0), eq-eqb second 0 (h .1), h .2) (same-refl other),
+)
+
+-- ---- of the answers of the check
+
+-- the number of an answer, 0 where the response passes, and then the key is its own
+module _ (q p : List ℕ) (d s : Bool) where
+  abbrev number : ℕ
+  number = verdictNumber (verdictOf q p d s)
+
+  number-is : number ≡ checkCode q p d s .code
+  unfolding verdictOf
+  number-is = verdict-says (checkCode q p d s) _
+
+  passed : Bytes q → Bytes p → number ≡ 0 ↔ Passes q p d s
+  passed b c = (λ z. code-exactly q p d s b c .0 (sym number-is ∙ z), λ ok. number-is ∙ code-exactly q p d s b c .1 ok)
+
+  key-is : number ≡ 0 → keyOf q p d s ≡ pubkIn (body p)
+  unfolding keyOf
+  key-is z = key-by (checkCode q p d s) _ (sym number-is ∙ z)
+
+  -- a window that was handed out may be used exactly up to the MAXT of the response's own DELE
+  pub window-until : (w : Window) (time : ℕ) → verdictOf q p d s ≡ Valid w
+      → mayUse number (w .maxt) time ≡ true ↔ (time ≤ maxtIn (body p))
+  unfolding windowIn
+  window-until w time e =
+      let own : w .maxt ≡ maxtIn (body p) = ap (λ (x : Window). x .maxt) (window-own q p d s w e) in (
+        λ u. subst (λ (m : ℕ). time ≤ m) own (use-exactly _ _ _ .0 u .1),
+        λ h. use-exactly _ _ _ .1 (ap verdictNumber e, subst (λ (m : ℕ). time ≤ m) (sym own) h),
+      )
+
+-- two answers come from one delegation exactly where both responses pass and have one PUBK
+pub one-delegation : (q p : List ℕ) (d s : Bool) (r o : List ℕ) (e t : Bool) → Bytes q → Bytes p → Bytes r → Bytes o
+    → sameDelegation (number q p d s) (keyOf q p d s) (number r o e t) (keyOf r o e t) ≡ true
+    ↔ (Passes q p d s × Passes r o e t × (pubkIn (body p) ≡ pubkIn (body o)))
+one-delegation q p d s r o e t q-bytes p-bytes r-bytes o-bytes = (
+  λ same.
+      let h = delegation-exactly _ _ _ _ .0 same in (
+        passed q p d s q-bytes p-bytes .0 (h .0),
+        passed r o e t r-bytes o-bytes .0 (h .1),
+        sym (key-is q p d s (h .0)) ∙ h .2 ∙ key-is r o e t (h .1),
+      ),
+  λ h.
+      let z = passed q p d s q-bytes p-bytes .1 (h .0) in
+      let y = passed r o e t r-bytes o-bytes .1 (h .1) in
+      delegation-exactly _ _ _ _ .1 (z, y, key-is q p d s z ∙ h .2 ∙ sym (key-is r o e t y)),
+)

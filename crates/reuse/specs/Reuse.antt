@@ -1,0 +1,16 @@
+-- What a console asks of answers that it kept (request P9). An answer is told by document 01's number of it, which is 0
+-- where it is valid, and by what the question reads.
+use Prim.Native.Nat.{ℕ}
+use mathlib.Core.Bool.{Bool, _&&_}
+use mathlib.Core.List.{List}
+use lib.Dec.{eqb, leb}
+use Rattle.laws.specs.Same.{same}
+
+-- The window of an answer may still be used at a time: there is a window, and the time is not past MAXT. MAXT itself
+-- counts as not past, since it is the maximum timestamp for which the key is trusted (draft 19, 5.2.6).
+unfoldable pub mayUse : ℕ → ℕ → ℕ → Bool
+mayUse number maxt time = eqb number 0 && leb time maxt
+
+-- Two answers come from one delegation: both are valid, and their delegated keys are equal.
+unfoldable pub sameDelegation : ℕ → List ℕ → ℕ → List ℕ → Bool
+sameDelegation first pubk second other = eqb first 0 && (eqb second 0 && same pubk other)
