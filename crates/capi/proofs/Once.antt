@@ -55,6 +55,10 @@ use Rattle.capi.proofs.building.tb_path_from.Kinds as tb-path-from-kind
 use Rattle.capi.proofs.building.tb_path_from.Reads as tb-path-from-reads
 use Rattle.capi.proofs.judging.tb_check_response.Kinds as tb-check-response-kinds
 use Rattle.capi.proofs.judging.tb_check_response.Reads as tb-check-response-reads
+use Rattle.capi.proofs.reusing.tb_may_use.Kinds as tb-may-use-kinds
+use Rattle.capi.proofs.reusing.tb_may_use.Reads as tb-may-use-reads
+use Rattle.capi.proofs.reusing.tb_same_delegation.Kinds as tb-same-delegation-kinds
+use Rattle.capi.proofs.reusing.tb_same_delegation.Reads as tb-same-delegation-reads
 use Rattle.capi.proofs.finding.tb_find_server.Kinds as tb-find-server-kinds
 use Rattle.capi.proofs.finding.tb_find_server.Reads as tb-find-server-reads
 use Rattle.capi.proofs.stamping.tb_old_window.Kinds as tb-old-window-kinds
@@ -165,6 +169,13 @@ tb-path-from-once κs a x u y v p q =
 
 pub tb-check-response-once : Settles tb-check-response-kinds.ps tb-check-response-kinds.r tb-check-response-reads.Learnt
 tb-check-response-once κs a x u y v p q = (p ∙ sym q, refl)
+
+pub tb-may-use-once : Settles tb-may-use-kinds.ps tb-may-use-kinds.r tb-may-use-reads.Learnt
+tb-may-use-once κs a x u y v p q = (p ∙ sym q, refl)
+
+pub tb-same-delegation-once :
+    Settles tb-same-delegation-kinds.ps tb-same-delegation-kinds.r tb-same-delegation-reads.Learnt
+tb-same-delegation-once κs a x u y v p q = (p ∙ sym q, refl)
 
 pub tb-find-server-once : Settles tb-find-server-kinds.ps tb-find-server-kinds.r tb-find-server-reads.Learnt
 tb-find-server-once κs a x u y v p q = (p ∙ sym q, refl)

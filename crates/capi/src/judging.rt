@@ -1,7 +1,7 @@
 // The response check for hosts.
 ghost use mathlib.Core.Path.{_≡_};
 ghost use lib.Dec.{eqb};
-ghost use Rattle.verdict.specs.Check.{verdictOf};
+ghost use Rattle.verdict.specs.Check.{checkedOf};
 ghost use Rattle.told.specs.Judging.{tbVerdict};
 use told::TbVerdict;
 use told::yes;
@@ -16,7 +16,7 @@ pub extern "C" fn tb_check_response<'a>(
     signature: u32,
 ) -> TbVerdict
     ensures { λ r. ⌜ r
-        ≡ tbVerdict (verdictOf (now (request .entry)) (now (response .entry)) (eqb delegation 1) (eqb signature 1)) ⌝ }
+        ≡ tbVerdict (checkedOf (now (request .entry)) (now (response .entry)) (eqb delegation 1) (eqb signature 1)) ⌝ }
 {
     told::verdict_told(verdict::check_response(request, response, yes(delegation), yes(signature)))
 }

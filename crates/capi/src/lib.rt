@@ -9,5 +9,6 @@ mod judging;
 mod pieces;
 mod piling;
 mod reading;
+mod reusing;
 mod stamping;
 mod writing;

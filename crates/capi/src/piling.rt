@@ -4,7 +4,6 @@ ghost use Rattle.pile.specs.Pile.{pileCode};
 ghost use Rattle.pile.specs.Valid.{judgementOf};
 ghost use Rattle.pile.specs.Links.{linkedOf, firstRandZero};
 ghost use Rattle.runs.specs.Clash.{clash};
-ghost use Rattle.verdict.specs.Window.{windowOf};
 ghost use Rattle.told.specs.Piling.{tbJudged};
 ghost use Rattle.capi.specs.Piling.{Checks, Cuts};
 use told::TbCut;
@@ -51,11 +50,9 @@ pub extern "C" fn tb_contradicts(
     later_midp: u64,
     later_radi: u32,
 ) -> bool
-    ensures { λ r. ⌜ r ≡ clash (windowOf «earlier_midp» «earlier_radi») (windowOf «later_midp» «later_radi») ⌝ }
+    ensures { λ r. ⌜ r ≡ clash «earlier_midp» «earlier_radi» «later_midp» «later_radi» ⌝ }
 {
-    let earlier = verdict::window_at(earlier_midp, earlier_radi);
-    let later = verdict::window_at(later_midp, later_radi);
-    runs::contradicts(earlier, later)
+    runs::contradicts(earlier_midp, earlier_radi, later_midp, later_radi)
 }
 
 // Whether a pile is a report, and the pair that it names.

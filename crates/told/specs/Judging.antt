@@ -1,11 +1,15 @@
--- A verdict, as a struct for C.
+-- What the response check answers, as a struct for C.
+use Prim.Native.Nat.{ℕ}
+use mathlib.Core.List.{List}
 use Rattle.verdict.specs.Check.{verdictNumber, verdictAt}
+use Rattle.verdict.specs.declared.Checked.{Checked}
 use Rattle.verdict.specs.declared.Verdict.{Verdict}
 use Rattle.verdict.specs.declared.Verdict.the-variants.{Valid, Refused}
 use Rattle.told.specs.declared.TbVerdict.{TbVerdict}
 
-abbrev pub tbVerdict : Verdict → TbVerdict
-tbVerdict (Valid w) =
+-- a verdict, and the key beside it as it is: the check hands out zeros beside a refusal (`key-hidden`)
+abbrev pub verdictWith : Verdict → List ℕ → TbVerdict
+verdictWith (Valid w) key =
     record {
       code = verdictNumber (Valid w);
       radi = w .radi;
@@ -13,8 +17,11 @@ tbVerdict (Valid w) =
       midp = w .midp;
       low = w .low;
       high = w .high;
+      mint = w .mint;
+      maxt = w .maxt;
+      pubk = key;
     }
-tbVerdict (Refused why) =
+verdictWith (Refused why) key =
     record {
       code = verdictNumber (Refused why);
       radi = 0;
@@ -22,4 +29,10 @@ tbVerdict (Refused why) =
       midp = 0;
       low = 0;
       high = 0;
+      mint = 0;
+      maxt = 0;
+      pubk = key;
     }
+
+abbrev pub tbVerdict : Checked → TbVerdict
+tbVerdict c = verdictWith (c .verdict) (c .pubk)

@@ -7,19 +7,30 @@ use Rattle.report.specs.declared.Report.{Report}
 use Rattle.report.specs.declared.Report.the-variants.{Pair, Bad, Record, Unlinked, Clear}
 use Rattle.report.specs.declared.Taken.{Taken}
 use Rattle.report.specs.declared.Taken.the-variants as taken
-use Rattle.told.specs.Judging.{tbVerdict}
+use Rattle.told.specs.Judging.{verdictWith}
 use Rattle.told.specs.declared.TbVerdict.{TbVerdict}
 use Rattle.told.specs.declared.TbJudged.{TbJudged}
 use Rattle.told.specs.declared.TbReported.{TbReported}
 use Rattle.told.specs.declared.TbCut.{TbCut}
 
--- what is said of one record: its verdict, and its place beside it
+-- what is said of one record: its verdict with the key, and its place beside it
 abbrev pub placed : ℕ → TbVerdict → TbJudged
 placed k v =
-    record { code = v .code; radi = v .radi; place = k; at = v .at; midp = v .midp; low = v .low; high = v .high }
+    record {
+      code = v .code;
+      radi = v .radi;
+      place = k;
+      at = v .at;
+      midp = v .midp;
+      low = v .low;
+      high = v .high;
+      mint = v .mint;
+      maxt = v .maxt;
+      pubk = v .pubk;
+    }
 
 abbrev pub tbJudged : Judgement → TbJudged
-tbJudged j = placed (j .place) (tbVerdict (j .verdict))
+tbJudged j = placed (j .place) (verdictWith (j .verdict) (j .pubk))
 
 -- a refusal of a report, with the record and the byte that it carries, and 0 where it carries none
 abbrev pub refusedAt : ℕ → ℕ → ℕ → TbReported

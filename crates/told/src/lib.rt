@@ -75,6 +75,9 @@ pub struct TbVerdict {
     pub midp: u64,
     pub low: u64,
     pub high: u64,
+    pub mint: u64,
+    pub maxt: u64,
+    pub pubk: [u8; 32],
 }
 
 // What `tb_root` answers.
@@ -118,6 +121,9 @@ pub struct TbJudged {
     pub midp: u64,
     pub low: u64,
     pub high: u64,
+    pub mint: u64,
+    pub maxt: u64,
+    pub pubk: [u8; 32],
 }
 
 // What `tb_check_report` answers: the place of the record that is to blame for the code, or the two records that

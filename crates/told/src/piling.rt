@@ -4,7 +4,7 @@ ghost use Rattle.told.specs.Piling.{tbJudged, refusedAt, tbReported, not
 use super::TbCut;
 use super::TbJudged;
 use super::TbReported;
-use super::judging::verdict_told;
+use super::judging::verdict_with;
 use pile::Judgement;
 use report::Report;
 use report::Taken;
@@ -14,7 +14,9 @@ pub fn judgement_told(j: Judgement) -> TbJudged
     ensures { λ r. ⌜ r ≡ tbJudged j ⌝ }
 {
     let v = j.verdict;
-    let told = verdict_told(v);
+    let key = j.pubk;
+    let told = verdict_with(v, key);
+    let pubk = told.pubk;
     TbJudged {
         code: told.code,
         radi: told.radi,
@@ -23,6 +25,9 @@ pub fn judgement_told(j: Judgement) -> TbJudged
         midp: told.midp,
         low: told.low,
         high: told.high,
+        mint: told.mint,
+        maxt: told.maxt,
+        pubk: pubk,
     }
 }
 

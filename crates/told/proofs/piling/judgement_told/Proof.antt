@@ -6,7 +6,9 @@ use Rattle.told.proofs.piling.judgement_told.Statement.{statement}
 use Rattle.told.proofs.piling.judgement_told.Tie as tie
 
 returns : tie.Need-returns
-returns c = ap (placed (c .before .args .j .place)) (c .verdict-told .ensures)
+returns c =
+    let w = c .before in
+    ap (placed (w .before .before .args .j .place)) (w .verdict-with .ensures)
 
 pub judgement-told-spec : {M : Type 1} → statement M
 judgement-told-spec =
