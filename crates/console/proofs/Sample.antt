@@ -1,4 +1,4 @@
--- Document 01's example 5 in print, letter by letter.
+-- Document 01's example 5 in print, letter by letter, with MINT 0 and MAXT 2000 in each DELE (request P9).
 use mathlib.Core.Path.{_≡_, refl}
 use mathlib.Core.List.{_++_}
 use Prim.Native.Nat.{ℕ, zero, suc}
@@ -7,19 +7,20 @@ use Rattle.refusal.specs.Refusal.{refusal, refusalAt}
 use Rattle.verdict.specs.Window.{windowOf}
 use Rattle.verdict.specs.declared.Verdict.{Verdict}
 use Rattle.verdict.specs.declared.Verdict.the-variants.{Valid, Refused}
-use Rattle.console.specs.Text.{decimalIn, spaced, labelled, windowLine, placeText, refusalLine}
+use Rattle.console.specs.Text.{decimalIn, spaced, twoSpaced, labelled, windowLine, placeText, refusalLine}
 use Rattle.console.specs.Text.{recordLine, recordLines, runLine, countLine}
 
 -- 1000±10, 1500±10, 1495±1, 1400±10
 abbrev pub four : ℕ → Verdict
-four zero = Valid (windowOf 1000 10)
-four (suc zero) = Valid (windowOf 1500 10)
-four (suc (suc zero)) = Valid (windowOf 1495 1)
-four (suc (suc (suc k))) = Valid (windowOf 1400 10)
+four zero = Valid (windowOf 1000 10 0 2000)
+four (suc zero) = Valid (windowOf 1500 10 0 2000)
+four (suc (suc zero)) = Valid (windowOf 1495 1 0 2000)
+four (suc (suc (suc k))) = Valid (windowOf 1400 10 0 2000)
 
 pub example5 : countLine 4 ++ recordLines four 4 ++ runLine 2 3
-    ≡ ascii "records 4\n0 ok 990 1010\n1 ok 1490 1510\n2 ok 1494 1496\n3 ok 1390 1410\nrun 2 3\n"
-unfolding decimalIn spaced labelled windowLine recordLines runLine
+    ≡ ascii
+    "records 4\n0 ok 990 1010 0 2000\n1 ok 1490 1510 0 2000\n2 ok 1494 1496 0 2000\n3 ok 1390 1410 0 2000\nrun 2 3\n"
+unfolding decimalIn spaced twoSpaced labelled windowLine recordLines runLine
 example5 = refl
 
 -- a bad record's line

@@ -26,6 +26,10 @@ decimal n = decimalIn 20 n
 unfoldable pub spaced : ℕ → List ℕ
 spaced n = ascii " " ++ decimal n
 
+-- two numbers, each behind a space
+unfoldable pub twoSpaced : ℕ → ℕ → List ℕ
+twoSpaced x y = spaced x ++ spaced y
+
 -- a word, a number and the end of the line
 unfoldable pub labelled : List ℕ → ℕ → List ℕ
 labelled word n = word ++ spaced n ++ ascii "\n"
@@ -38,9 +42,9 @@ countLine n = labelled (ascii "records") n
 abbrev pub refusedLine : ℕ → List ℕ
 refusedLine code = labelled (ascii "refused") code
 
--- `0 ok 990 1010`
-unfoldable pub windowLine : ℕ → ℕ → ℕ → List ℕ
-windowLine k low high = decimal k ++ ascii " ok" ++ spaced low ++ spaced high ++ ascii "\n"
+-- `0 ok 990 1010 0 2000`: the ends of the window, and then MINT and MAXT (request P9)
+unfoldable pub windowLine : ℕ → ℕ → ℕ → ℕ → ℕ → List ℕ
+windowLine k low high mint maxt = decimal k ++ ascii " ok" ++ twoSpaced low high ++ twoSpaced mint maxt ++ ascii "\n"
 
 -- the place that a code carries, behind a space; of a code that carries none nothing (request P8)
 unfoldable pub placeText : ℕ → ℕ → List ℕ
@@ -53,7 +57,7 @@ refusalLine k code place =
 
 -- record k: its window, or its refusal
 abbrev pub recordLine : ℕ → Verdict → List ℕ
-recordLine k (Valid w) = windowLine k (w .low) (w .high)
+recordLine k (Valid w) = windowLine k (w .low) (w .high) (w .mint) (w .maxt)
 recordLine k (Refused why) = refusalLine k (why .code) (why .at)
 
 -- the first n records, which have the verdicts v
@@ -63,7 +67,7 @@ recordLines v (suc n) = recordLines v n ++ recordLine n (v n)
 
 -- `run 2 3`
 unfoldable pub runLine : ℕ → ℕ → List ℕ
-runLine first last = ascii "run" ++ spaced first ++ spaced last ++ ascii "\n"
+runLine first last = ascii "run" ++ twoSpaced first last ++ ascii "\n"
 
 -- the count and a line for each record
 abbrev pub recordsText : List ℕ → List ℕ → List ℕ

@@ -5,9 +5,11 @@ ghost use Rattle.laws.specs.Written.{Puts};
 ghost use Rattle.console.specs.Text.{labelled, windowLine, placeText, refusalLine, recordLine, runLine};
 use super::pieces::put_number;
 use super::pieces::put_spaced;
+use super::pieces::put_two;
 use super::pieces::put_word;
 use refusal::codes;
 use verdict::Verdict;
+use verdict::Window;
 
 // A word and a number.
 pub fn put_labelled(out: &mut [u8], at: usize, word: &[u8], x: u64) -> usize
@@ -20,16 +22,17 @@ pub fn put_labelled(out: &mut [u8], at: usize, word: &[u8], x: u64) -> usize
     put_word(out, b, b"\n")
 }
 
-// Record k with the ends of its window.
-fn put_window(out: &mut [u8], at: usize, k: usize, low: u64, high: u64) -> usize
-    requires { ⌜ at + 71 ≤ length (now out) ⌝ }
-    ensures { λ r. ⌜ Puts (now (out .entry)) at (windowLine k low high) (now (out .exit)) r ⌝ }
-    ensures { λ r. ⌜ r ≤ at + 71 ⌝ }
+// Record k with its window.
+fn put_window(out: &mut [u8], at: usize, k: usize, w: Window) -> usize
+    requires { ⌜ at + 108 ≤ length (now out) ⌝ }
+    ensures { λ r. ⌜ Puts (now (out .entry)) at (windowLine k (w .low) (w .high) (w .mint) (w .maxt))
+        (now (out .exit)) r ⌝ }
+    ensures { λ r. ⌜ r ≤ at + 108 ⌝ }
 {
     let a = put_number(out, at, k as u64);
     let b = put_word(out, a, b" ok");
-    let c = put_spaced(out, b, low);
-    let d = put_spaced(out, c, high);
+    let c = put_two(out, b, w.low, w.high);
+    let d = put_two(out, c, w.mint, w.maxt);
     put_word(out, d, b"\n")
 }
 
@@ -63,12 +66,12 @@ fn put_place(out: &mut [u8], at: usize, code: u8, place: usize) -> usize
 
 // Record k with its verdict.
 pub fn put_record(out: &mut [u8], at: usize, k: usize, v: Verdict) -> usize
-    requires { ⌜ at + 71 ≤ length (now out) ⌝ }
+    requires { ⌜ at + 108 ≤ length (now out) ⌝ }
     ensures { λ r. ⌜ Puts (now (out .entry)) at (recordLine k v) (now (out .exit)) r ⌝ }
-    ensures { λ r. ⌜ r ≤ at + 71 ⌝ }
+    ensures { λ r. ⌜ r ≤ at + 108 ⌝ }
 {
     match v {
-        Verdict::Valid(w) => put_window(out, at, k, w.low, w.high),
+        Verdict::Valid(w) => put_window(out, at, k, w),
         Verdict::Refused(why) => put_refusal(out, at, k, why.code, why.at),
     }
 }
@@ -80,7 +83,6 @@ pub fn put_run(out: &mut [u8], at: usize, first: usize, last: usize) -> usize
     ensures { λ r. ⌜ r ≤ at + 46 ⌝ }
 {
     let a = put_word(out, at, b"run");
-    let b = put_spaced(out, a, first as u64);
-    let c = put_spaced(out, b, last as u64);
-    put_word(out, c, b"\n")
+    let b = put_two(out, a, first as u64, last as u64);
+    put_word(out, b, b"\n")
 }

@@ -2,7 +2,7 @@
 ghost use Prim.Native.Nat.{_+_, _≤_};
 ghost use lib.ListN.{length};
 ghost use Rattle.laws.specs.Written.{Puts};
-ghost use Rattle.console.specs.Text.{decimal, spaced};
+ghost use Rattle.console.specs.Text.{decimal, spaced, twoSpaced};
 use octets::put;
 
 // A word.
@@ -33,4 +33,14 @@ pub fn put_spaced(out: &mut [u8], at: usize, x: u64) -> usize
 {
     let digits = put_word(out, at, b" ");
     put_number(out, digits, x)
+}
+
+// Two numbers, each behind a space.
+pub fn put_two(out: &mut [u8], at: usize, x: u64, y: u64) -> usize
+    requires { ⌜ at + 42 ≤ length (now out) ⌝ }
+    ensures { λ r. ⌜ Puts (now (out .entry)) at (twoSpaced x y) (now (out .exit)) r ⌝ }
+    ensures { λ r. ⌜ r ≤ at + 42 ⌝ }
+{
+    let a = put_spaced(out, at, x);
+    put_spaced(out, a, y)
 }

@@ -60,7 +60,7 @@ fn put_records<'a>(pile: &'a [u8], answers: &'a [u8], out: &mut [u8]) -> usize
     requires { ⌜ (recordsIn (now pile) ≤ 16) × (2048 ≤ length (now out)) ⌝ }
     ensures { λ r. ⌜ Puts (now (out .entry)) 0 (recordsText (now (pile .entry)) (now (answers .entry)))
         (now (out .exit)) r ⌝ }
-    ensures { λ r. ⌜ r ≤ 1165 ⌝ }
+    ensures { λ r. ⌜ r ≤ 1757 ⌝ }
 {
     let n = pile.len() / RECORD;
     let at = put_labelled(out, 0, b"records", n as u64);
@@ -69,10 +69,10 @@ fn put_records<'a>(pile: &'a [u8], answers: &'a [u8], out: &mut [u8]) -> usize
 
 // A line for each of the first n records.
 fn put_lines<'a>(pile: &'a [u8], answers: &'a [u8], n: usize, out: &mut [u8], at: usize) -> usize
-    requires { ⌜ (n ≤ 16) × (at + 1136 ≤ length (now out)) ⌝ }
+    requires { ⌜ (n ≤ 16) × (at + 1728 ≤ length (now out)) ⌝ }
     ensures { λ r. ⌜ Puts (now (out .entry)) at (recordLines (judged (now (pile .entry)) (now (answers .entry))) n)
         (now (out .exit)) r ⌝ }
-    ensures { λ r. ⌜ r ≤ at + 1136 ⌝ }
+    ensures { λ r. ⌜ r ≤ at + 1728 ⌝ }
 {
     let mut end = at;
     for k in 0..n {

@@ -1,5 +1,6 @@
 -- `console::lines::put_record` meets its contract, by the verdict.
 use mathlib.Core.Path.{sym, ap}
+use native.Mathlib.Omega.{arith}
 use Rattle.verdict.specs.declared.Verdict.{Verdict}
 use Rattle.console.specs.Text.{recordLine}
 use Rattle.laws.proofs.Written.{puts-as}
@@ -19,7 +20,7 @@ returns-2 c =
     let v = c .before .before .before .before .before .v2 .given .1 in
     let p = c .before .before .put-refusal .ensures in
     let k = c .before .before .before .before .before .before .before .before .args .k in
-    (puts-as (ap (λ (w : Verdict). recordLine k w) (sym v)) (p .0), p .1)
+    (puts-as (ap (λ (w : Verdict). recordLine k w) (sym v)) (p .0), omega (arith, p .1))
 
 pub put-record-spec : {M : Type 1} → statement M
 put-record-spec =

@@ -9,21 +9,17 @@ use Rattle.console.proofs.lines.put_run.Tie as tie
 returns : tie.Need-returns
 unfolding runLine
 returns c =
-    let p1 =
-    c .before .before .before .before .before .before .before .before .before .before .before .before .before .before
-    .before .put-word .ensures in
-    let p2 =
-    c .before .before .before .before .before .before .before .before .before .before .before .put-spaced .ensures in
-    let p3 = c .before .before .before .before .before .before .before .put-spaced2 .ensures in
-    let p4 = c .before .before .put-word2 .ensures in
-    (puts-more (puts-more (puts-more p1 (p2 .0)) (p3 .0)) p4, omega (arith, p1 .ends, p2 .1, p3 .1, p4 .ends))
+    let d = c .before .before .before .before .before .before .before in
+    let p1 = d .before .before .before .before .put-word .ensures in
+    let p2 = d .put-two .ensures in
+    let p3 = c .before .before .put-word2 .ensures in
+    (puts-more (puts-more p1 (p2 .0)) p3, omega (arith, p1 .ends, p2 .1, p3 .ends))
 
 pub put-run-spec : {M : Type 1} → statement M
 put-run-spec =
     tie.close
     (tie.spec
     (λ c. search needs)
-    (λ c κs. search needs)
     (λ c κs. search needs)
     (λ c κs. search needs)
     (λ c. search needs)

@@ -9,15 +9,13 @@ use Rattle.console.proofs.lines.put_window.Tie as tie
 returns : tie.Need-returns
 unfolding windowLine
 returns c =
-    let p1 =
-    c .before .before .before .before .before .before .before .before .before .before .before .before .before .before
-    .before .before .before .before .before .before .put-number .ensures in
-    let p2 =
-    c .before .before .before .before .before .before .before .before .before .before .before .before .before .before
-    .before .put-word .ensures in
-    let p3 =
-    c .before .before .before .before .before .before .before .before .before .before .before .put-spaced .ensures in
-    let p4 = c .before .before .before .before .before .before .before .put-spaced2 .ensures in
+    let f = c .before .before .before .before .before .before .before in
+    let p4 = f .put-two2 .ensures in
+    let e = f .before .before .before .before in
+    let p3 = e .put-two .ensures in
+    let d = e .before .before .before .before in
+    let p2 = d .put-word .ensures in
+    let p1 = d .before .before .before .before .before .put-number .ensures in
     let p5 = c .before .before .put-word2 .ensures in (
       puts-more (puts-more (puts-more (puts-more (p1 .0) p2) (p3 .0)) (p4 .0)) p5,
       omega (arith, p1 .1, p2 .ends, p3 .1, p4 .1, p5 .ends),

@@ -1,4 +1,4 @@
--- `console::verdicts::put_lines` meets its contract. The lines of the records that were passed are put, each of 71
+-- `console::verdicts::put_lines` meets its contract. The lines of the records that were passed are put, each of 108
 -- bytes at most.
 use mathlib.Core.Path.{_≡_, ap}
 use mathlib.Core.List.{_++_}
@@ -23,7 +23,7 @@ lines-more v k =
 
 abbrev Inv-loop : tie.InvT-loop
 Inv-loop pile answers n out₀ at end₀ k₀ out end k =
-    (k ≤ n) × (end ≤ at + 71 * k) × Puts out₀ at (recordLines (judged pile answers) k) out end
+    (k ≤ n) × (end ≤ at + 108 * k) × Puts out₀ at (recordLines (judged pile answers) k) out end
 
 abbrev μ-loop : tie.MeasureT-loop
 μ-loop pile answers n out₀ at end₀ k₀ out end k = n - k
