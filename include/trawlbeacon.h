@@ -358,7 +358,9 @@ struct tb_wrote tb_response_text(const uint8_t *packet, size_t packet_len, uint8
                                  size_t out_len);
 
 /* What a valid response tells: the time is from low to high. low is midp - radi, but not below 0,
- * and high is midp + radi, but not above 2^64 - 1. */
+ * and high is midp + radi, but not above 2^64 - 1. pubk is the delegated key that signed it, and
+ * mint and maxt are the first and the last second for which that key is trusted; midp is not before
+ * the one or after the other, while low and high may be. On a refusal pubk is zeros. */
 struct tb_verdict {
     uint32_t code;
     uint32_t radi;
@@ -366,6 +368,9 @@ struct tb_verdict {
     uint64_t midp;
     uint64_t low;
     uint64_t high;
+    uint64_t mint;
+    uint64_t maxt;
+    uint8_t pubk[32];
 };
 
 /* Checks a response against the request that it answers. delegation and signature say whether the
@@ -374,6 +379,18 @@ struct tb_verdict {
 struct tb_verdict tb_check_response(const uint8_t *request, size_t request_len,
                                     const uint8_t *response, size_t response_len,
                                     uint32_t delegation, uint32_t signature);
+
+/* Whether the window of an answer that was kept may still be used at a time: code is 0, and the time
+ * is not past maxt. maxt itself is the last second that counts. That the time is not before mint is
+ * not asked: low may be before it too. code and maxt are those of a tb_verdict or a tb_judged; of a
+ * refused one the answer is no at every time. */
+bool tb_may_use(uint32_t code, uint64_t maxt, uint64_t time);
+
+/* Whether two answers come from one delegation: both codes are 0, and the keys are equal. code and
+ * pubk are those of a tb_verdict or a tb_judged; refused ones have equal keys, zeros, and come from
+ * none. */
+bool tb_same_delegation(uint32_t first_code, const uint8_t first_pubk[32], uint32_t second_code,
+                        const uint8_t second_pubk[32]);
 
 /* ---- Trees ----
  *
@@ -468,8 +485,9 @@ struct tb_found tb_find_server(const uint8_t *owner, size_t owner_len, const uin
 uint32_t tb_pile_code(const uint8_t *pile, size_t pile_len, const uint8_t *answers,
                       size_t answers_len);
 
-/* What is said of one record: its window, as tb_verdict tells it, or a refusal. place is the place
- * that was asked for, also on a refusal; at is a byte of the record's response packet. */
+/* What is said of one record: its window and its key, as tb_verdict tells them, or a refusal. place
+ * is the place that was asked for, also on a refusal; at is a byte of the record's response
+ * packet. */
 struct tb_judged {
     uint32_t code;
     uint32_t radi;
@@ -478,6 +496,9 @@ struct tb_judged {
     uint64_t midp;
     uint64_t low;
     uint64_t high;
+    uint64_t mint;
+    uint64_t maxt;
+    uint8_t pubk[32];
 };
 
 /* Judges the record at a place. Links and rands play no part. The codes are 15, also where there is
@@ -495,7 +516,8 @@ bool tb_linked(const uint8_t *pile, size_t pile_len, size_t place);
 bool tb_first_rand_zero(const uint8_t *pile, size_t pile_len);
 
 /* Whether what a server said earlier contradicts what was said later: earlier_midp - earlier_radi
- * is above later_midp + later_radi, in whole numbers that neither wrap nor stop. */
+ * is above later_midp + later_radi, in whole numbers that neither wrap nor stop. mint, maxt and the
+ * keys play no part. */
 bool tb_contradicts(uint64_t earlier_midp, uint32_t earlier_radi, uint64_t later_midp,
                     uint32_t later_radi);
 

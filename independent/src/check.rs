@@ -1,5 +1,5 @@
 //! Whether a response is valid (draft 19, section 5.4), and the window of time that a valid one
-//! tells.
+//! tells, with the key that signed it; and what a client asks of answers that it kept.
 //!
 //! The two signatures are for the caller to check: here they are a yes or a no each.
 
@@ -7,7 +7,8 @@ use crate::refusal::Refusal;
 use crate::response::Response;
 use crate::{hash, request, response, tree};
 
-/// What a valid response tells: the true time is from `low` to `high`.
+/// What a valid response tells: the true time is from `low` to `high`, by a key that may sign from
+/// `mint` to `maxt`.
 #[derive(Clone, Copy, Debug, PartialEq, Eq)]
 pub struct Window {
     /// MIDP.
@@ -18,20 +19,46 @@ pub struct Window {
     pub low: u64,
     /// MIDP + RADI, or the last second of all where that is beyond it.
     pub high: u64,
+    /// MINT.
+    pub mint: u64,
+    /// MAXT.
+    pub maxt: u64,
 }
 
-impl Window {
-    /// The window of this midpoint and radius. In 128 bits no sum or difference of theirs can wrap.
-    pub fn around(midp: u64, radi: u32) -> Self {
-        let (low, high) =
-            (i128::from(midp) - i128::from(radi), i128::from(midp) + i128::from(radi));
-        let within =
-            |time: i128| u64::try_from(time.clamp(0, u64::MAX.into())).expect("it was clamped");
-        Window { midp, radi, low: within(low), high: within(high) }
+/// The ends of the window of this midpoint and radius. In 128 bits no sum or difference of theirs
+/// can wrap.
+fn ends(midp: u64, radi: u32) -> (u64, u64) {
+    let (low, high) = (i128::from(midp) - i128::from(radi), i128::from(midp) + i128::from(radi));
+    let within =
+        |time: i128| u64::try_from(time.clamp(0, u64::MAX.into())).expect("it was clamped");
+    (within(low), within(high))
+}
+
+/// What a valid response tells, and the delegated key that signed it.
+#[derive(Clone, Copy, Debug, PartialEq, Eq)]
+pub struct Valid {
+    /// The window.
+    pub window: Window,
+    /// PUBK.
+    pub pubk: [u8; 32],
+}
+
+/// Whether a client may still use what `answer` told at this second: there was no refusal, and the
+/// last second of the key is not over.
+pub fn usable(answer: &Result<Valid, Refusal>, second: u64) -> bool {
+    match answer {
+        Ok(valid) => second.saturating_sub(valid.window.maxt) == 0,
+        Err(_) => false,
     }
 }
 
-/// The window that `response_packet` tells, where it is a valid answer to `request_packet`.
+/// Whether two answers were both signed under one delegated key.
+pub fn one_key(answer: &Result<Valid, Refusal>, other: &Result<Valid, Refusal>) -> bool {
+    let keys = [answer, other].map(|answer| answer.ok().map(|valid| valid.pubk));
+    keys[0].is_some() && keys[0] == keys[1]
+}
+
+/// What `response_packet` tells, where it is a valid answer to `request_packet`.
 ///
 /// `delegation` says whether the signature in CERT is the long-term key's, and `signature` whether
 /// that of SREP is the delegated key's.
@@ -40,7 +67,7 @@ pub fn check(
     response_packet: &[u8],
     delegation: bool,
     signature: bool,
-) -> Result<Window, Refusal> {
+) -> Result<Valid, Refusal> {
     let request = request::read(request_packet).map_err(|_| Refusal::Request)?;
     let response = response::read(response_packet)?;
     let Response { outer, srep, dele, .. } = &response;
@@ -60,7 +87,12 @@ pub fn check(
     ];
     match rules.iter().find(|rule| !rule.0) {
         Some((_, refusal)) => Err(*refusal),
-        None => Ok(Window::around(srep.midp, srep.radi)),
+        None => {
+            let (midp, radi) = (srep.midp, srep.radi);
+            let (low, high) = ends(midp, radi);
+            let window = Window { midp, radi, low, high, mint: dele.mint, maxt: dele.maxt };
+            Ok(Valid { window, pubk: dele.pubk })
+        }
     }
 }
 
@@ -68,7 +100,7 @@ pub fn check(
 mod tests {
     use super::*;
     use crate::pieces::{put, Pieces};
-    use crate::tag::{INDX, MAXT, MIDP, MINT, NONC, PATH, RADI, ROOT, TYPE, VERS};
+    use crate::tag::{INDX, MAXT, MIDP, MINT, NONC, PATH, PUBK, RADI, ROOT, TYPE, VERS};
     use crate::value::list;
     use crate::{packet, write};
 
@@ -89,18 +121,45 @@ mod tests {
     }
 
     #[test]
-    fn a_valid_response_tells_its_window() {
-        let (request, response) = pair();
-        let window = check(&request, &response.packet(), true, true);
-        assert_eq!(window, Ok(Window { midp: 256, radi: 5, low: 251, high: 261 }));
+    fn a_valid_response_tells_its_window_and_its_key() {
+        let (request, mut response) = pair();
+        put(&mut response.dele, MINT, &200u64.to_le_bytes());
+        put(&mut response.dele, MAXT, &300u64.to_le_bytes());
+        let told = check(&request, &response.packet(), true, true);
+        let window = Window { midp: 256, radi: 5, low: 251, high: 261, mint: 200, maxt: 300 };
+        assert_eq!(told, Ok(Valid { window, pubk: [15; 32] }));
+    }
+
+    #[test]
+    fn an_answer_may_be_used_up_to_maxt() {
+        let (request, mut response) = pair();
+        put(&mut response.dele, MAXT, &300u64.to_le_bytes());
+        let told = |signature| check(&request, &response.clone().packet(), true, signature);
+        for (second, due) in [(0, true), (256, true), (300, true), (301, false)] {
+            assert_eq!(usable(&told(true), second), due, "{second}");
+            assert!(!usable(&told(false), second), "a refused answer at {second}");
+        }
+        assert!(!usable(&told(true), u64::MAX));
+    }
+
+    #[test]
+    fn one_key_signs_two_answers_where_both_are_valid() {
+        let (request, mut response) = pair();
+        let told = |response: &Pieces, signature| {
+            check(&request, &response.clone().packet(), true, signature)
+        };
+        let (first, refused) = (told(&response, true), told(&response, false));
+        assert!(one_key(&first, &first));
+        assert!(!one_key(&first, &refused) && !one_key(&refused, &first));
+        assert!(!one_key(&refused, &refused));
+        put(&mut response.dele, MAXT, &300u64.to_le_bytes());
+        assert!(one_key(&first, &told(&response, true)));
+        put(&mut response.dele, PUBK, &[16; 32]);
+        assert!(!one_key(&first, &told(&response, true)));
     }
 
     #[test]
     fn windows_end_where_time_does() {
-        let ends = |midp, radi| {
-            let Window { low, high, .. } = Window::around(midp, radi);
-            (low, high)
-        };
         assert_eq!(ends(3, 10), (0, 13));
         assert_eq!(ends(0, 0), (0, 0));
         assert_eq!(ends(10, 10), (0, 20));

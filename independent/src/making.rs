@@ -7,9 +7,10 @@
 use crate::hash::{self, Hash};
 use crate::pieces::{put, Pieces};
 use crate::pile::{at, RECORD};
-use crate::tag::{INDX, MIDP, NONC, PATH, RADI, ROOT, VERS, ZZZZ};
+use crate::tag::{INDX, MAXT, MIDP, MINT, NONC, PATH, PUBK, RADI, ROOT, VERS, ZZZZ};
 use crate::value::list;
 use crate::{packet, tree, write, VERSION};
+use std::ops::RangeInclusive;
 
 /// A pile and the answers beside it.
 #[derive(Clone, Debug, PartialEq, Eq)]
@@ -34,6 +35,12 @@ pub struct Link {
     pub midp: u64,
     /// RADI.
     pub radi: u32,
+    /// PUBK.
+    pub pubk: [u8; 32],
+    /// MINT.
+    pub mint: u64,
+    /// MAXT.
+    pub maxt: u64,
     /// VER of the request: the versions that the client knows.
     pub asked: Vec<u32>,
     /// VERS: those that the server knows.
@@ -61,6 +68,9 @@ impl Link {
             nonce: None,
             midp,
             radi,
+            pubk: [15; 32],
+            mint: 0,
+            maxt: u64::MAX,
             asked: vec![VERSION],
             listed: vec![VERSION],
             siblings: 0,
@@ -99,6 +109,9 @@ impl Link {
         put(&mut pieces.srep, RADI, &self.radi.to_le_bytes());
         put(&mut pieces.srep, VERS, &list(&self.listed));
         put(&mut pieces.srep, ROOT, &root);
+        put(&mut pieces.dele, PUBK, &self.pubk);
+        put(&mut pieces.dele, MINT, &self.mint.to_le_bytes());
+        put(&mut pieces.dele, MAXT, &self.maxt.to_le_bytes());
         pad(&mut pieces, self.response_size);
         pieces
     }
@@ -147,10 +160,19 @@ pub fn chain(links: &[Link]) -> Made {
 }
 
 /// The pile of plain records with these midpoints and radii, all valid and linked, and the first
-/// rand zero.
+/// rand zero. Every key may sign at any time.
 pub fn pile_of(windows: &[(u64, u32)]) -> Made {
-    let links =
-        windows.iter().enumerate().map(|(i, (midp, radi))| Link::new(i as u8, *midp, *radi));
+    pile_within(0..=u64::MAX, windows)
+}
+
+/// The same, where every key may sign at these times.
+pub fn pile_within(times: RangeInclusive<u64>, windows: &[(u64, u32)]) -> Made {
+    let (mint, maxt) = times.into_inner();
+    let links = windows.iter().enumerate().map(|(i, (midp, radi))| Link {
+        mint,
+        maxt,
+        ..Link::new(i as u8, *midp, *radi)
+    });
     chain(&links.collect::<Vec<_>>())
 }
 

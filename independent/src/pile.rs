@@ -4,7 +4,7 @@
 //! A pile is 1 to 16 records of 4,096 bytes with nothing around them. Beside it come two answers a
 //! record, those to the questions about its signatures.
 
-use crate::check::{self, Window};
+use crate::check::{self, Valid};
 use crate::hash;
 use crate::packet;
 use crate::place::{self, Place};
@@ -103,8 +103,8 @@ pub struct Answered<'a> {
 }
 
 impl Answered<'_> {
-    /// The window of the record, where it is valid.
-    pub fn judge(self) -> Result<Window, Refusal> {
+    /// What the record tells, where it is valid.
+    pub fn judge(self) -> Result<Valid, Refusal> {
         let (request, response) = self.record.packets()?;
         check::check(request, response, self.delegation, self.signature)
     }
@@ -142,8 +142,8 @@ pub fn read<'a>(pile: &'a [u8], answers: &[u8]) -> Result<Vec<Answered<'a>>, Ref
     Ok(records.into_iter().zip(answers.chunks(2)).map(answered).collect())
 }
 
-/// What each record tells: its window, or why it is not valid.
-pub fn judge_all(pile: &[u8], answers: &[u8]) -> Result<Vec<Result<Window, Refusal>>, Refusal> {
+/// What each record tells: its window and its key, or why it is not valid.
+pub fn judge_all(pile: &[u8], answers: &[u8]) -> Result<Vec<Result<Valid, Refusal>>, Refusal> {
     Ok(read(pile, answers)?.into_iter().map(Answered::judge).collect())
 }
 
@@ -164,6 +164,7 @@ pub fn first_rand_zero(pile: &[u8]) -> bool {
 #[cfg(test)]
 mod tests {
     use super::*;
+    use crate::check::Window;
     use crate::making::{self, Link, Made};
 
     /// A pile of `count` valid records, each linked to the one before it.
@@ -216,8 +217,9 @@ mod tests {
     fn each_record_is_judged_by_itself() {
         let mut made = good(4);
         assert_eq!(codes(&made), [0; 4]);
-        let window = judge_all(&made.pile, &made.answers).unwrap()[3];
-        assert_eq!(window, Ok(Window { midp: 1003, radi: 5, low: 998, high: 1008 }));
+        let told = judge_all(&made.pile, &made.answers).unwrap()[3];
+        let window = Window { midp: 1003, radi: 5, low: 998, high: 1008, mint: 0, maxt: u64::MAX };
+        assert_eq!(told, Ok(Valid { window, pubk: [15; 32] }));
         // The first letter of the mark, of a request and of a response.
         made.pile[at::REQUEST] ^= 1;
         made.pile[2 * RECORD + at::RESPONSE] ^= 1;

@@ -1,18 +1,24 @@
 //! Reports: piles that convict a server by themselves (draft 19, section 8.2; house rules), and the
 //! cutter, which takes the shortest run of records out of a pile that does so.
 
-use crate::check::Window;
 use crate::pile::{self, Answered};
 use crate::refusal::Refusal;
 use crate::write;
 use std::ops::RangeInclusive;
 
+/// What is compared of a record: MIDP and RADI, and nothing else.
+pub type Time = (u64, u32);
+
 /// Whether the server that told `later` cannot be right where that of `earlier` is: the earlier
 /// one's window lies wholly above the later one's. These are whole numbers, of which neither is cut
 /// at the ends of time, as those of a window are.
-pub fn contradicts(earlier: &Window, later: &Window) -> bool {
-    i128::from(earlier.midp) - i128::from(earlier.radi)
-        > i128::from(later.midp) + i128::from(later.radi)
+pub fn contradicts(earlier: Time, later: Time) -> bool {
+    i128::from(earlier.0) - i128::from(earlier.1) > i128::from(later.0) + i128::from(later.1)
+}
+
+/// What a record tells of the time, where it is valid.
+fn time(record: Answered) -> Result<Time, Refusal> {
+    record.judge().map(|valid| (valid.window.midp, valid.window.radi))
 }
 
 /// Why a pile is no report, and at which record, where it is for one.
@@ -38,18 +44,18 @@ impl NoReport {
 /// other the closest, and of equally close ones the first.
 pub fn check(pile: &[u8], answers: &[u8]) -> Result<(usize, usize), NoReport> {
     let records = pile::read(pile, answers).map_err(NoReport::of)?;
-    let judged = records.iter().enumerate().map(|(place, record)| (place, record.judge()));
-    let windows: Result<Vec<Window>, _> = judged
+    let judged = records.iter().enumerate().map(|(place, record)| (place, time(*record)));
+    let times: Result<Vec<Time>, _> = judged
         .map(|(place, verdict)| verdict.map_err(|refusal| NoReport::at(place, refusal)))
         .collect();
-    let windows = windows?;
+    let times = times?;
     if !pile::first_rand_zero(pile) {
         return Err(NoReport::at(0, Refusal::Link));
     }
     if let Some(before) = records.windows(2).position(|pair| !follows(pair)) {
         return Err(NoReport::at(before + 1, Refusal::Link));
     }
-    closest_pair(&windows).ok_or(NoReport::of(Refusal::NoContradiction))
+    closest_pair(&times).ok_or(NoReport::of(Refusal::NoContradiction))
 }
 
 /// Whether the second of two neighbours is linked to the first.
@@ -63,14 +69,14 @@ fn pairs(count: usize) -> impl Iterator<Item = (usize, usize)> {
     (1..count).flat_map(move |apart| (0..count - apart).map(move |first| (first, first + apart)))
 }
 
-fn closest_pair(windows: &[Window]) -> Option<(usize, usize)> {
-    pairs(windows.len()).find(|(first, second)| contradicts(&windows[*first], &windows[*second]))
+fn closest_pair(times: &[Time]) -> Option<(usize, usize)> {
+    pairs(times.len()).find(|(first, second)| contradicts(times[*first], times[*second]))
 }
 
 /// What a run is chosen by: each record was checked once, and each link.
 struct Evidence {
-    /// The window of each record that is valid.
-    windows: Vec<Option<Window>>,
+    /// What each record tells that is valid.
+    times: Vec<Option<Time>>,
     /// Whether each record is linked to the one before it, which the first is to none.
     linked: Vec<bool>,
 }
@@ -79,7 +85,7 @@ impl Evidence {
     fn gather(records: &[Answered]) -> Self {
         let links = records.windows(2).map(follows);
         Evidence {
-            windows: records.iter().map(|record| record.judge().ok()).collect(),
+            times: records.iter().map(|record| time(*record).ok()).collect(),
             linked: std::iter::once(false).chain(links).collect(),
         }
     }
@@ -88,15 +94,15 @@ impl Evidence {
     /// zero.
     fn convict(&self, run: RangeInclusive<usize>) -> bool {
         let links = run.start() + 1..=*run.end();
-        let windows: Option<Vec<Window>> = self.windows[run].iter().copied().collect();
+        let times: Option<Vec<Time>> = self.times[run].iter().copied().collect();
         let linked = self.linked[links].iter().all(|linked| *linked);
-        linked && windows.map_or(false, |windows| closest_pair(&windows).is_some())
+        linked && times.map_or(false, |times| closest_pair(&times).is_some())
     }
 
     /// The shortest run that convicts, and of equally short ones the first. No record does so
     /// alone.
     fn run(&self) -> Option<(usize, usize)> {
-        pairs(self.windows.len()).find(|(first, last)| self.convict(*first..=*last))
+        pairs(self.times.len()).find(|(first, last)| self.convict(*first..=*last))
     }
 }
 
@@ -121,12 +127,8 @@ pub fn cut(pile: &[u8], answers: &[u8], out: &mut [u8]) -> Result<(usize, usize)
 #[cfg(test)]
 mod tests {
     use super::*;
-    use crate::making::{pile_of, Made};
+    use crate::making::{chain, pile_of, Link, Made};
     use crate::pile::{at, RECORD};
-
-    fn around((midp, radi): (u64, u32)) -> Window {
-        Window::around(midp, radi)
-    }
 
     /// The code and the place of a refused report.
     fn refused(Made { pile, answers }: &Made) -> (u32, Option<usize>) {
@@ -173,13 +175,23 @@ mod tests {
             ((u64::MAX, u32::MAX), (u64::MAX, u32::MAX), false),
             ((0, u32::MAX), (0, 0), false),
         ] {
-            assert_eq!(
-                contradicts(&around(earlier), &around(later)),
-                due,
-                "{earlier:?} then {later:?}"
-            );
+            assert_eq!(contradicts(earlier, later), due, "{earlier:?} then {later:?}");
         }
-        assert_eq!(around((3, 10)).low, 0);
+    }
+
+    /// What the keys are, and when they may sign, is not asked.
+    #[test]
+    fn the_run_is_the_same_under_other_delegations() {
+        let windows = [(1000, 10), (1500, 10), (1495, 1), (1400, 10)];
+        let link = |(i, (midp, radi)): (usize, &(u64, u32))| Link {
+            pubk: [i as u8; 32],
+            mint: midp - i as u64,
+            maxt: midp + 3 * i as u64,
+            ..Link::new(i as u8, *midp, *radi)
+        };
+        let made = chain(&windows.iter().enumerate().map(link).collect::<Vec<_>>());
+        assert_eq!(cut_from(&made), cut_from(&pile_of(&windows)));
+        assert_eq!(cut_from(&made), Some((2, 3)));
     }
 
     /// Examples 5 to 7 of the document.

@@ -99,7 +99,7 @@ fn nonce(packet: &[u8]) -> Result<Hash, Refusal> {
 #[cfg(test)]
 mod tests {
     use super::*;
-    use crate::check::{check, Window};
+    use crate::check::{check, Valid, Window};
     use crate::hash::{empty_place, leaf, parent};
     use crate::{response, write};
 
@@ -155,14 +155,15 @@ mod tests {
     /// One signature serves them all, since SREP is the same.
     #[test]
     fn every_response_of_a_batch_is_valid() {
-        let window = Window { midp: 1000, radi: 7, low: 993, high: 1007 };
+        let window = Window { midp: 1000, radi: 7, low: 993, high: 1007, mint: 900, maxt: 1100 };
+        let valid = Valid { window, pubk: [4; 32] };
         for count in (1..=65).chain([511, 512, 513, 900, MOST_LEAVES - 1, MOST_LEAVES]) {
             let requests = requests(count);
             let packets = server().answer(&requests).unwrap();
             assert_eq!(packets.len(), count);
             let srep = response::read(&packets[0]).unwrap().outer.srep;
             for (request, packet) in requests.iter().zip(&packets) {
-                assert_eq!(check(request, packet, true, true), Ok(window));
+                assert_eq!(check(request, packet, true, true), Ok(valid));
                 assert_eq!(response::read(packet).unwrap().outer.srep, srep);
                 assert!(packet.len() <= request.len(), "{} bytes", packet.len());
             }

@@ -1,5 +1,6 @@
 //! What is printed of a pile: a line for each record, and the run that convicts.
 
+use crate::check::Window;
 use crate::{pile, report};
 
 /// The lines for a pile and its answers, each with its end.
@@ -11,7 +12,10 @@ pub fn lines(pile: &[u8], answers: &[u8]) -> String {
     let mut lines = format!("records {}\n", records.len());
     for (number, record) in records.iter().enumerate() {
         lines += &match (record.judge(), record.place()) {
-            (Ok(window), _) => format!("{number} ok {} {}\n", window.low, window.high),
+            (Ok(valid), _) => {
+                let Window { low, high, mint, maxt, .. } = valid.window;
+                format!("{number} ok {low} {high} {mint} {maxt}\n")
+            }
             (Err(refusal), None) => format!("{number} refused {}\n", refusal.code()),
             (Err(refusal), Some(place)) => {
                 format!("{number} refused {} {}\n", refusal.code(), place.at)
@@ -30,9 +34,12 @@ mod tests {
 
     #[test]
     fn the_lines_are_those_of_the_document() {
-        let mut made = making::pile_of(&[(1000, 10), (1500, 10), (1495, 1), (1400, 10)]);
-        let head = "records 4\n0 ok 990 1010\n1 ok 1490 1510\n2 ok 1494 1496\n";
-        assert_eq!(lines(&made.pile, &made.answers), format!("{head}3 ok 1390 1410\nrun 2 3\n"));
+        let mut made =
+            making::pile_within(0..=2000, &[(1000, 10), (1500, 10), (1495, 1), (1400, 10)]);
+        let head = "records 4\n0 ok 990 1010 0 2000\n1 ok 1490 1510 0 2000\n\
+            2 ok 1494 1496 0 2000\n";
+        let last = "3 ok 1390 1410 0 2000\nrun 2 3\n";
+        assert_eq!(lines(&made.pile, &made.answers), format!("{head}{last}"));
         made.answers[7] = 0;
         assert_eq!(lines(&made.pile, &made.answers), format!("{head}3 refused 13\nrun none\n"));
         assert_eq!(lines(&[], &[]), "refused 15\n");

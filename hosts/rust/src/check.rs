@@ -1,4 +1,4 @@
-//! The check of a response against its request.
+//! The check of a response against its request, and what is asked of answers that were kept.
 
 use crate::{raw, PacketRefusal};
 
@@ -13,10 +13,24 @@ pub struct Window {
     pub low: u64,
     /// MIDP + RADI, or 2^64 - 1 where that is above it.
     pub high: u64,
+    /// MINT: the first second for which the delegated key is trusted. `midp` is not before it, while
+    /// `low` may be.
+    pub mint: u64,
+    /// MAXT: the last second for which it is. `midp` is not after it, while `high` may be.
+    pub maxt: u64,
 }
 
-/// The window of `response`, where it is a valid answer to `request`. The refusals are 14 and then
-/// 1 to 13. A place is one in the response: of a bad request none is told.
+/// What a valid answer hands out: its window, and beside it the key that signed it.
+#[derive(Clone, Copy, Debug, PartialEq, Eq)]
+pub struct Checked {
+    /// The window.
+    pub window: Window,
+    /// PUBK: the delegated key.
+    pub pubk: [u8; 32],
+}
+
+/// The window and the key of `response`, where it is a valid answer to `request`. The refusals are
+/// 14 and then 1 to 13. A place is one in the response: of a bad request none is told.
 ///
 /// The caller checks both signatures with what [`signed_parts`](crate::signed_parts) hands out:
 /// `delegation` says whether the delegation's verifies, over
@@ -27,7 +41,7 @@ pub fn check_response(
     response: &[u8],
     delegation: bool,
     signature: bool,
-) -> Result<Window, PacketRefusal> {
+) -> Result<Checked, PacketRefusal> {
     // SAFETY: see raw.
     let verdict = unsafe {
         raw::tb_check_response(
@@ -40,6 +54,30 @@ pub fn check_response(
         )
     };
     PacketRefusal::check(verdict.code, verdict.at)?;
-    let raw::tb_verdict { midp, radi, low, high, .. } = verdict;
-    Ok(Window { midp, radi, low, high })
+    let raw::tb_verdict { midp, radi, low, high, mint, maxt, pubk, .. } = verdict;
+    Ok(Checked { window: Window { midp, radi, low, high, mint, maxt }, pubk })
+}
+
+/// Whether a window that was kept may still be used at a time: the time is not past MAXT, which is
+/// itself the last second that counts. That it is not before MINT is not asked.
+///
+/// ```
+/// use trawlbeacon::{may_use, Window};
+///
+/// let window = Window { midp: 1000, radi: 10, low: 990, high: 1010, mint: 0, maxt: 2000 };
+/// assert!(may_use(&window, 2000));
+/// assert!(!may_use(&window, 2001));
+/// ```
+#[must_use]
+pub fn may_use(window: &Window, time: u64) -> bool {
+    // A window is that of an answer with code 0.
+    // SAFETY: no pointer is passed.
+    unsafe { raw::tb_may_use(0, window.maxt, time) }
+}
+
+/// Whether two valid answers come from one delegation: their keys are equal.
+#[must_use]
+pub fn same_delegation(first: &Checked, second: &Checked) -> bool {
+    // SAFETY: see raw.
+    unsafe { raw::tb_same_delegation(0, &first.pubk, 0, &second.pubk) }
 }

@@ -1,7 +1,7 @@
 //! What a host gathers: records, and the pile of them beside what it found out about their
 //! signatures.
 
-use crate::{piles, Cut, PacketRefusal, Pair, Refusal, ReportRefusal, Window};
+use crate::{piles, Checked, Cut, PacketRefusal, Pair, Refusal, ReportRefusal};
 use crate::{LONGEST_PACKET, MOST_RECORDS, RECORD_LENGTH};
 
 /// Where the parts of a record are. Its first 32 bytes are the key.
@@ -119,7 +119,7 @@ impl Pile {
     }
 
     /// What [`judge`](crate::judge) says of a record.
-    pub fn judge(&self, place: usize) -> Result<Window, PacketRefusal> {
+    pub fn judge(&self, place: usize) -> Result<Checked, PacketRefusal> {
         piles::judge(&self.bytes, &self.answers, place)
     }
 

@@ -43,7 +43,7 @@ mod signing;
 mod stamps;
 mod trees;
 
-pub use check::{check_response, Window};
+pub use check::{check_response, may_use, same_delegation, Checked, Window};
 pub use gathering::{Pile, Record};
 pub use packets::{
     read_request, read_response, write_request, Request, Response, LONGEST_PACKET, REQUEST_LENGTH,

@@ -8,7 +8,7 @@
 
 use core::fmt;
 
-use crate::{raw, PacketRefusal, Refusal, Window};
+use crate::{raw, Checked, PacketRefusal, Refusal, Window};
 
 /// Bytes of a record of a pile. Numbers in it are least significant byte first.
 ///
@@ -107,8 +107,8 @@ pub fn pile_code(pile: &[u8], answers: &[u8]) -> Result<(), Refusal> {
     Refusal::check(unsafe { raw::tb_pile_code(from, pile.len(), told, answers.len()) })
 }
 
-/// The window of the record at `place`, where it is valid. The refusals are 15, also where the pile
-/// has no such record, then 16, 14 and 1 to 13. Its rand and its links play no part.
+/// The window and the key of the record at `place`, where it is valid. The refusals are 15, also
+/// where the pile has no such record, then 16, 14 and 1 to 13. Its rand and its links play no part.
 ///
 /// ```
 /// use trawlbeacon::{judge, Refusal, RECORD_LENGTH};
@@ -118,13 +118,13 @@ pub fn pile_code(pile: &[u8], answers: &[u8]) -> Result<(), Refusal> {
 /// assert_eq!(refused(0), Err(Refusal::Request));
 /// assert_eq!(refused(1), Err(Refusal::Pile));
 /// ```
-pub fn judge(pile: &[u8], answers: &[u8], place: usize) -> Result<Window, PacketRefusal> {
+pub fn judge(pile: &[u8], answers: &[u8], place: usize) -> Result<Checked, PacketRefusal> {
     let (from, told) = (pile.as_ptr(), answers.as_ptr());
     // SAFETY: see raw.
     let judged = unsafe { raw::tb_judge(from, pile.len(), told, answers.len(), place) };
     PacketRefusal::check(judged.code, judged.at)?;
-    let raw::tb_judged { midp, radi, low, high, .. } = judged;
-    Ok(Window { midp, radi, low, high })
+    let raw::tb_judged { midp, radi, low, high, mint, maxt, pubk, .. } = judged;
+    Ok(Checked { window: Window { midp, radi, low, high, mint, maxt }, pubk })
 }
 
 /// Whether the record at `place` is linked: the NONC of its request is H(whole response packet of
@@ -145,21 +145,20 @@ pub fn first_rand_zero(pile: &[u8]) -> bool {
     unsafe { raw::tb_first_rand_zero(pile.as_ptr(), pile.len()) }
 }
 
-/// Whether two windows contradict each other, of which `earlier` was told before `later`:
-/// MIDP - RADI of the earlier one is above MIDP + RADI of the later one, in whole numbers. Their
-/// ends, which stop at 0 and at 2^64 - 1, play no part.
+/// Whether two windows contradict each other, of which `earlier` was told before `later`, each by
+/// its MIDP and RADI: MIDP - RADI of the earlier one is above MIDP + RADI of the later one, in whole
+/// numbers. What else a window has plays no part, and is not asked for.
 ///
 /// ```
-/// use trawlbeacon::{contradicts, Window};
+/// use trawlbeacon::contradicts;
 ///
-/// let earlier = Window { midp: 1000, radi: 5, low: 995, high: 1005 };
-/// assert!(!contradicts(&earlier, &Window { midp: 990, radi: 5, low: 985, high: 995 }));
-/// assert!(contradicts(&earlier, &Window { midp: 990, radi: 4, low: 986, high: 994 }));
+/// assert!(!contradicts((1000, 5), (990, 5)));
+/// assert!(contradicts((1000, 5), (990, 4)));
 /// ```
 #[must_use]
-pub fn contradicts(earlier: &Window, later: &Window) -> bool {
+pub fn contradicts(earlier: (u64, u32), later: (u64, u32)) -> bool {
     // SAFETY: no pointer is passed.
-    unsafe { raw::tb_contradicts(earlier.midp, earlier.radi, later.midp, later.radi) }
+    unsafe { raw::tb_contradicts(earlier.0, earlier.1, later.0, later.1) }
 }
 
 /// The pair that a report names. A pile is a report where each record is valid, the first rand is

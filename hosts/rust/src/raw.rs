@@ -105,6 +105,12 @@ pub struct tb_verdict {
     pub low: u64,
     /// The high end of the window.
     pub high: u64,
+    /// MINT.
+    pub mint: u64,
+    /// MAXT.
+    pub maxt: u64,
+    /// PUBK.
+    pub pubk: [u8; 32],
 }
 
 /// What [`tb_root`] answers.
@@ -171,6 +177,12 @@ pub struct tb_judged {
     pub low: u64,
     /// The high end of the window.
     pub high: u64,
+    /// MINT.
+    pub mint: u64,
+    /// MAXT.
+    pub maxt: u64,
+    /// PUBK.
+    pub pubk: [u8; 32],
 }
 
 /// What [`tb_check_report`] answers.
@@ -282,6 +294,15 @@ extern "C" {
         delegation: u32,
         signature: u32,
     ) -> tb_verdict;
+    /// Whether the window of an answer may still be used at a time.
+    pub fn tb_may_use(code: u32, maxt: u64, time: u64) -> bool;
+    /// Whether two answers come from one delegation.
+    pub fn tb_same_delegation(
+        first_code: u32,
+        first_pubk: &[u8; 32],
+        second_code: u32,
+        second_pubk: &[u8; 32],
+    ) -> bool;
 
     /// Whether a path leads from a leaf to a root.
     pub fn tb_leads(

@@ -14,7 +14,7 @@ use support::packets::number;
 use support::pairs::Question;
 use support::tally::Tally;
 use support::Xorshift;
-use trawlbeacon::{Placed, Rooted, Window, MOST_LEAVES, MOST_ROWS_LENGTH, REQUEST_LENGTH};
+use trawlbeacon::{Checked, Placed, Rooted, Window, MOST_LEAVES, MOST_ROWS_LENGTH, REQUEST_LENGTH};
 
 const SENT: &str = "as sent";
 const TURNED: &str = "INDX bit turned";
@@ -43,16 +43,16 @@ struct Sent {
     indx: u32,
     path: Vec<Hash>,
     root: Hash,
-    window: Window,
+    checked: Checked,
 }
 
 impl Sent {
     /// INDX, PATH and ROOT are taken from the packet, by what reads responses.
-    fn new(request: &[u8], pieces: Pieces, window: Window) -> Self {
+    fn new(request: &[u8], pieces: Pieces, checked: Checked) -> Self {
         let packet = pieces.clone().packet();
         let response = response::read(&packet).expect("the server sends responses");
         let (indx, path, root) = (response.outer.indx, response.outer.path, response.srep.root);
-        Sent { request: request.to_vec(), pieces, indx, path, root, window }
+        Sent { request: request.to_vec(), pieces, indx, path, root, checked }
     }
 
     fn with_indx(&self, indx: u32) -> Pieces {
@@ -111,27 +111,30 @@ impl Comparison {
         write::padded_request(&self.random.array(), &self.random.array(), padding)
     }
 
-    /// What some server sends for these requests. The window that is due is by its own numbers.
+    /// What some server sends for these requests. What is due is by its own numbers and its key.
     fn sent(&mut self, requests: &[Vec<u8>]) -> Vec<Sent> {
         let server = self.server();
         let (midp, radi, wide) = (server.midp, server.radi, u64::from(server.radi));
         let (low, high) = (midp.saturating_sub(wide), midp.saturating_add(wide));
-        let window = Window { midp, radi, low, high };
+        let window = Window { midp, radi, low, high, mint: server.mint, maxt: server.maxt };
+        let checked = Checked { window, pubk: server.pubk };
         let pieces = server.pieces(requests).expect("these are 1 to 1,024 good requests");
         let pairs = requests.iter().zip(pieces);
-        pairs.map(|(request, pieces)| Sent::new(request, pieces, window)).collect()
+        pairs.map(|(request, pieces)| Sent::new(request, pieces, checked)).collect()
     }
 
-    /// Has both sides check a response to the request. Where it is taken, its window must be right.
+    /// Has both sides check a response to the request. Where it is taken, its window and its key must
+    /// be right.
     fn ask(&mut self, column: &str, sent: &Sent, pieces: Pieces, due: u32) {
         let (request, response) = (sent.request.clone(), pieces.packet());
         let question = Question { request, response, delegation: true, signature: true };
         let both = question.ask();
         self.tally.answer(column, &both, Some(due), || question.show());
-        if due == 0 && both.ours != Ok(sent.window) {
-            let Window { midp, radi, .. } = sent.window;
+        if due == 0 && both.ours != Ok(sent.checked) {
             self.tally.differs(format!(
-                "the window is not that of MIDP {midp} RADI {radi}, for {}",
+                "{:?} instead of {:?}, for {}",
+                both.ours,
+                sent.checked,
                 question.show()
             ));
         }

@@ -1,8 +1,9 @@
 //! Responses checked against requests by the proved library and by the independent implementation:
-//! every code and every window must be the same.
+//! every code, every window and every key must be the same.
 //!
 //! Where the rules that a pair breaks are known, so is the code that is due, and then both sides
-//! are held to it as well; where it breaks none, they are held to the window that its fields make.
+//! are held to it as well; where it breaks none, they are held to the window that its fields make,
+//! and to its MINT, MAXT and PUBK.
 
 mod support;
 
@@ -13,7 +14,7 @@ use support::packets::{number, radius, versions_near, Kind, Level, ResponseField
 use support::pairs::{Pair, Question, RULES};
 use support::tally::Tally;
 use support::{hex, Xorshift};
-use trawlbeacon::Window;
+use trawlbeacon::Checked;
 
 const CHECKS: &str = "checks";
 const VALID: &str = "valid";
@@ -38,7 +39,7 @@ struct Comparison {
 
 impl Comparison {
     /// Returns both answers.
-    fn ask(&mut self, question: &Question, due: Option<u32>) -> Both<Result<Window, Bad>> {
+    fn ask(&mut self, question: &Question, due: Option<u32>) -> Both<Result<Checked, Bad>> {
         let both = question.ask();
         self.tally.answer(CHECKS, &both, due, || question.show());
         if let Some(wrong) = question.unseen_fields(&both.ours) {
@@ -59,12 +60,12 @@ impl Comparison {
         if due != 0 {
             return;
         }
-        let window = pair.window();
-        if told != Ok(window) {
-            self.tally.differs(format!("{told:?} instead of {window:?} for {}", question.show()));
+        let checked = pair.checked();
+        if told != Ok(checked) {
+            self.tally.differs(format!("{told:?} instead of {checked:?} for {}", question.show()));
         }
         self.depths.count(VALID, pair.response.path.len() as u32);
-        let (midp, radi) = (u128::from(window.midp), u128::from(window.radi));
+        let (midp, radi) = (u128::from(checked.window.midp), u128::from(checked.window.radi));
         self.cut[0] += usize::from(radi > midp);
         self.cut[1] += usize::from(midp + radi > u64::MAX.into());
     }
@@ -335,7 +336,7 @@ fn unaligned(seen: &mut Comparison) {
             let (request, response) = ([front, request].concat(), [front_too, response].concat());
             let told =
                 trawlbeacon::check_response(&request[start..], &response[15 - start..], true, true);
-            assert_eq!(told, Ok(pair.window()), "start {start}, request {}", hex(&request));
+            assert_eq!(told, Ok(pair.checked()), "start {start}, request {}", hex(&request));
             seen.tally.count(CHECKS, 0);
         }
     }
@@ -398,7 +399,7 @@ fn windows_are_what_their_numbers_say() {
     for _ in 0..2_000 {
         (pair.response.midp, pair.response.radi) = (number(&mut random), radius(&mut random));
         let both = pair.question().ask();
-        assert_eq!((both.ours, both.independent), (Ok(pair.window()), Ok(pair.window())));
+        assert_eq!((both.ours, both.independent), (Ok(pair.checked()), Ok(pair.checked())));
     }
     println!(
         "windows: 2000 midpoints and radii, both sides compared with the sum and the difference"

@@ -61,7 +61,7 @@ fn told(
     packet: &[u8],
 ) -> Result<Window, Refusal> {
     let (delegation, signature) = answer(&asked.key, packet);
-    Ok(trawlbeacon::check_response(&asked.request, packet, delegation, signature)?)
+    Ok(trawlbeacon::check_response(&asked.request, packet, delegation, signature)?.window)
 }
 
 /// A host asks the server with this key.
@@ -169,7 +169,9 @@ fn a_hidden_key_deceives_who_reads_keys_and_signatures_at_fixed_places() {
     let midp = 1_776_000_000;
     let forged = with_a_hidden_key(&asked, &seen, &attacker, midp);
     assert_eq!(parts_at_fixed_places(&seen.key, &forged), (true, true));
-    let window = Window { midp, radi: 3, low: midp - 3, high: midp + 3 };
+    let response::Dele { mint, maxt, .. } =
+        response::shaped(&seen.response).expect("it is a response").dele;
+    let window = Window { midp, radi: 3, low: midp - 3, high: midp + 3, mint, maxt };
     assert_eq!(told(parts_at_fixed_places, &asked, &forged), Ok(window));
     assert_eq!(by_the_parts(&seen.key, &forged), (true, false));
     assert_eq!(told(by_the_parts, &asked, &forged), Err(Refusal::Signature));
@@ -183,7 +185,8 @@ fn a_hidden_response_deceives_who_reads_texts_at_fixed_places() {
     for midp in [0, 1_000_000_000, 4_000_000_000, u64::MAX - 3] {
         let forged = with_a_hidden_response(&asked, &seen, midp);
         assert_eq!(all_at_fixed_places(&seen.key, &forged), (true, true));
-        let window = Window { midp, radi: 3, low: midp.saturating_sub(3), high: midp + 3 };
+        let (low, high) = (midp.saturating_sub(3), midp + 3);
+        let window = Window { midp, radi: 3, low, high, mint: 0, maxt: u64::MAX };
         assert_eq!(told(all_at_fixed_places, &asked, &forged), Ok(window));
         assert_eq!(by_the_parts(&seen.key, &forged), (false, false));
         assert_eq!(told(by_the_parts, &asked, &forged), Err(Refusal::Delegation));

@@ -10,7 +10,7 @@ use support::answers::{self, Answer, Bad};
 use support::hex;
 use support::pairs::Question;
 use support::pile_answers::{Asked, Reported};
-use trawlbeacon::{Request, Response, Run, Window, RECORD_LENGTH};
+use trawlbeacon::{Checked, Request, Response, Run, Window, RECORD_LENGTH};
 
 /// MIDP and RADI of each response.
 const WINDOWS: [(u64, u32); 3] = [(1_773_685_571, 3), (1_773_599_171, 3), (1_773_599_171, 3)];
@@ -105,13 +105,14 @@ fn question(request: &Entry, response: &Entry, delegation: bool, signature: bool
 fn both_sides_find_each_response_valid() {
     let entries = appendix::entries();
     for (index, entry) in entries.iter().enumerate() {
-        let window = agreed(question(entry, entry, true, true).ask(), "both signatures right");
+        let checked = agreed(question(entry, entry, true, true).ask(), "both signatures right");
         let (midp, radi) = WINDOWS[index];
-        assert_eq!(
-            window,
-            Window { midp, radi, low: midp - u64::from(radi), high: midp + u64::from(radi) }
-        );
-        println!("entry {index}: valid, from {} to {}", window.low, window.high);
+        let (low, high) = (midp - u64::from(radi), midp + u64::from(radi));
+        let shaped = response::shaped(&entry.response).expect("it is a response");
+        let response::Dele { pubk, mint, maxt, .. } = shaped.dele;
+        let window = Window { midp, radi, low, high, mint, maxt };
+        assert_eq!(checked, Checked { window, pubk });
+        println!("entry {index}: valid, from {low} to {high}, by a key from {mint} to {maxt}");
         for (delegation, signature, due) in
             [(false, true, 12), (true, false, 13), (false, false, 12)]
         {
@@ -130,7 +131,7 @@ fn both_sides_find_each_response_valid() {
     }
     println!(
         "draft 19, appendix B: 3 responses, the windows that both sides tell compared with their \
-         MIDP and RADI"
+         MIDP and RADI, and what they tell of the key with their DELE"
     );
 }
 

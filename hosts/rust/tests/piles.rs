@@ -15,7 +15,7 @@ use support::pile_answers::{Asked, Reported};
 use support::piles::{self, Tie, Truth, Wish, BROKEN};
 use support::tally::Tally;
 use support::{hex, Xorshift};
-use trawlbeacon::{Run, Window};
+use trawlbeacon::{Checked, Run, Window};
 
 const PILES: &str = "piles";
 const RECORDS: &str = "records";
@@ -41,7 +41,7 @@ impl Due {
     }
 
     /// The byte of a refusal is for the independent side to say.
-    fn verdict(&self, place: usize, at: Option<usize>) -> Option<Result<Window, Bad>> {
+    fn verdict(&self, place: usize, at: Option<usize>) -> Option<Result<Checked, Bad>> {
         let verdict = match self {
             Due::Known(truth) => truth.verdicts.get(place).copied().unwrap_or(Err(15)),
             Due::Refused => Err(15),
@@ -184,7 +184,7 @@ impl Comparison {
         let mut windows = Vec::new();
         for place in 0..=count {
             let both = asked.judge(place, &judged);
-            windows.extend(both.ours.ok());
+            windows.extend(both.ours.ok().map(|checked| checked.window));
             let at = both.independent.err().and_then(|bad| bad.at);
             self.same(RECORDS, asked, &both, due.verdict(place, at));
         }
@@ -197,10 +197,10 @@ impl Comparison {
     }
 
     fn ask_pair(&mut self, asked: Asked, earlier: &Window, later: &Window) {
-        let around = |window: &Window| independent::check::Window::around(window.midp, window.radi);
+        let times = [earlier, later].map(|window| (window.midp, window.radi));
         let both = Both {
-            ours: trawlbeacon::contradicts(earlier, later),
-            independent: report::contradicts(&around(earlier), &around(later)),
+            ours: trawlbeacon::contradicts(times[0], times[1]),
+            independent: report::contradicts(times[0], times[1]),
         };
         let due = piles::contradicts(earlier, later);
         let told = self.same_bool("contradicts", asked, both, Some(due));

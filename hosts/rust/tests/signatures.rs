@@ -37,8 +37,8 @@ fn both_signatures_of_each_response_of_the_report_verify() {
     for (index, Entry { key, request, response, .. }) in entries.iter().enumerate() {
         let (delegation, signature) = by_the_parts(key, response);
         assert_eq!((delegation, signature), (true, true), "entry {index}");
-        let window = trawlbeacon::check_response(request, response, delegation, signature);
-        assert!(window.is_ok(), "entry {index}: {window:?}");
+        let checked = trawlbeacon::check_response(request, response, delegation, signature);
+        assert!(checked.is_ok(), "entry {index}: {checked:?}");
         for other in entries.iter().filter(|other| other.key != *key) {
             assert_eq!(by_the_parts(&other.key, response), (false, true), "another server's key");
         }

@@ -3,7 +3,7 @@
 //! files, a pair a line.
 
 use independent::appendix;
-use independent::making::{self, pile_of, Link, Made};
+use independent::making::{self, pile_of, pile_within, Link, Made};
 use independent::pieces::put;
 use independent::pile::RECORD;
 use independent::tag::{MAXT, NONC, ROOT, SIG, TYPE};
@@ -92,6 +92,24 @@ fn versions() -> Made {
     making::chain(&links.collect::<Vec<_>>())
 }
 
+/// Records whose keys may sign for some time only: up to MIDP, from it on, at that one second, or
+/// long before and after it. No two have the same key.
+fn delegations() -> Made {
+    let records = [
+        (1000, 10, 0, 1000),
+        (1500, 10, 1500, u64::MAX),
+        (1495, 1, 1495, 1495),
+        (1400, 10, 7, 20_000_000_000),
+    ];
+    let links = records.iter().enumerate().map(|(i, (midp, radi, mint, maxt))| Link {
+        pubk: [i as u8; 32],
+        mint: *mint,
+        maxt: *maxt,
+        ..Link::new(i as u8, *midp, *radi)
+    });
+    making::chain(&links.collect::<Vec<_>>())
+}
+
 /// Two records that contradict each other, with one between them that was not linked.
 fn unlinked() -> Made {
     let mut made = pile_of(&[(100, 1), (95, 20), (80, 1)]);
@@ -103,7 +121,7 @@ fn samples() -> Vec<(&'static str, Made)> {
     let one = pile_of(&[(1000, 5)]);
     let longer = Made { pile: [&one.pile[..], &[0]].concat(), ..one.clone() };
     vec![
-        ("example5", pile_of(&[(1000, 10), (1500, 10), (1495, 1), (1400, 10)])),
+        ("example5", pile_within(0..=2000, &[(1000, 10), (1500, 10), (1495, 1), (1400, 10)])),
         ("example6", pile_of(&[(100, 1), (90, 1), (80, 1)])),
         ("example7", pile_of(&[(100, 1), (95, 20), (80, 1)])),
         ("codes", every_code()),
@@ -118,6 +136,7 @@ fn samples() -> Vec<(&'static str, Made)> {
         ("beyond", beyond()),
         ("unlinked", unlinked()),
         ("versions", versions()),
+        ("delegations", delegations()),
         ("norun", pile_of(&[(80, 1), (90, 1), (100, 1)])),
     ]
 }

@@ -15,11 +15,11 @@ mod ed25519;
 use independent::appendix;
 use std::process::ExitCode;
 use std::{env, fs};
-use trawlbeacon::{PacketRefusal, Window, LONGEST_TEXT, REQUEST_LENGTH};
+use trawlbeacon::{Checked, PacketRefusal, Window, LONGEST_TEXT, REQUEST_LENGTH};
 
 /// Checks a response to a request, from the server with this long-term key. Keys, signatures and
 /// texts come from the library alone.
-fn check(key: &[u8; 32], request: &[u8], response: &[u8]) -> Result<Window, PacketRefusal> {
+fn check(key: &[u8; 32], request: &[u8], response: &[u8]) -> Result<Checked, PacketRefusal> {
     let parts = trawlbeacon::signed_parts(response)?;
     let mut text = [0; LONGEST_TEXT];
     let length = trawlbeacon::delegation_text(response, &mut text)?;
@@ -76,8 +76,8 @@ fn main() -> ExitCode {
         .map_err(PacketRefusal::from)
         .and_then(|_| check(&key, &request, &response));
     match told {
-        Ok(window) => {
-            println!("the time is from {} to {}", window.low, window.high);
+        Ok(Checked { window: Window { low, high, .. }, .. }) => {
+            println!("the time is from {low} to {high}");
             ExitCode::SUCCESS
         }
         Err(refusal) => {

@@ -10,7 +10,7 @@ use super::trees::Walk;
 use super::{hex, Xorshift};
 use independent::hash::{self, Hash};
 use independent::{check, packet, place};
-use trawlbeacon::{raw, Window};
+use trawlbeacon::{raw, Checked, Window};
 
 /// The rules that come after a response's own shape. Of 8 it is the one that asks for a request.
 pub const RULES: [u32; 6] = [8, 9, 10, 11, 12, 13];
@@ -92,11 +92,12 @@ impl Pair {
         }
     }
 
-    /// The window that must be told where the pair is valid, by the words of the document.
-    pub fn window(&self) -> Window {
-        let ResponseFields { midp, radi, .. } = self.response;
+    /// What must be told where the pair is valid, by the words of the document.
+    pub fn checked(&self) -> Checked {
+        let ResponseFields { midp, radi, mint, maxt, pubk, .. } = self.response;
         let wide = u64::from(radi);
-        Window { midp, radi, low: midp.saturating_sub(wide), high: midp.saturating_add(wide) }
+        let (low, high) = (midp.saturating_sub(wide), midp.saturating_add(wide));
+        Checked { window: Window { midp, radi, low, high, mint, maxt }, pubk }
     }
 
     /// Breaks one of [`RULES`].
@@ -187,33 +188,36 @@ fn flip(random: &mut Xorshift, hash: &mut Hash) {
     hash[random.below(32)] ^= 1 << random.below(8);
 }
 
-impl Said for Window {
+impl Said for Checked {
     fn say(&self) -> String {
-        format!("MIDP {} RADI {} from {} to {}", self.midp, self.radi, self.low, self.high)
+        let Window { midp, radi, low, high, mint, maxt } = self.window;
+        let key = hex(&self.pubk);
+        format!("MIDP {midp} RADI {radi} from {low} to {high}, key {key} from {mint} to {maxt}")
     }
 }
 
-/// The independent side's window, as ours has it.
-pub fn same_window(check::Window { midp, radi, low, high }: check::Window) -> Window {
-    Window { midp, radi, low, high }
+/// The independent side's answer, as ours has it.
+pub fn same_checked(check::Valid { window, pubk }: check::Valid) -> Checked {
+    let check::Window { midp, radi, low, high, mint, maxt } = window;
+    Checked { window: Window { midp, radi, low, high, mint, maxt }, pubk }
 }
 
 impl Question {
-    pub fn ask(&self) -> Both<Result<Window, Bad>> {
+    pub fn ask(&self) -> Both<Result<Checked, Bad>> {
         let Question { request, response, delegation, signature } = self;
         let independent = check::check(request, response, *delegation, *signature);
         let ours = trawlbeacon::check_response(request, response, *delegation, *signature);
         Both {
             ours: ours.map_err(Bad::from),
             independent: independent
-                .map(same_window)
+                .map(same_checked)
                 .map_err(|refusal| placed(refusal, place::in_response(response))),
         }
     }
 
     /// What is wrong with the fields that hosts/rust does not show, or not whole, where it answered
     /// `ours`.
-    pub fn unseen_fields(&self, ours: &Result<Window, Bad>) -> Option<String> {
+    pub fn unseen_fields(&self, ours: &Result<Checked, Bad>) -> Option<String> {
         let Question { request, response, delegation, signature } = self;
         let ((start, n), (start_too, m)) =
             ((request.as_ptr(), request.len()), (response.as_ptr(), response.len()));
@@ -224,12 +228,13 @@ impl Question {
         let verdict =
             unsafe { raw::tb_check_response(start, n, start_too, m, delegation, signature) };
         let due = match *ours {
-            Ok(Window { midp, radi, low, high }) => {
-                raw::tb_verdict { code: 0, radi, at: 0, midp, low, high }
+            Ok(Checked { window: Window { midp, radi, low, high, mint, maxt }, pubk }) => {
+                raw::tb_verdict { code: 0, radi, at: 0, midp, low, high, mint, maxt, pubk }
             }
             Err(Bad { code, at }) => {
-                let at = at.unwrap_or(0) as u64;
-                raw::tb_verdict { code, radi: 0, at, midp: 0, low: 0, high: 0 }
+                let (at, pubk) = (at.unwrap_or(0) as u64, [0; 32]);
+                let [midp, low, high, mint, maxt] = [0; 5];
+                raw::tb_verdict { code, radi: 0, at, midp, low, high, mint, maxt, pubk }
             }
         };
         (verdict != due).then(|| format!("tb_check_response answered {verdict:?}"))

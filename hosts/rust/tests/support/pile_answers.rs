@@ -1,12 +1,12 @@
 //! Questions about piles, put to both sides, and about the fields that no answer shows.
 
 use super::answers::{self, placed, Answer, Bad, Both, Said, Written};
-use super::pairs::same_window;
+use super::pairs::same_checked;
 use independent::check;
 use independent::place::Place;
 use independent::refusal::Refusal;
 use independent::{pile, report};
-use trawlbeacon::{raw, Pair, Run, Window};
+use trawlbeacon::{raw, Checked, Pair, Run};
 
 /// That a pile is one passes without another word.
 impl Said for () {
@@ -46,7 +46,7 @@ pub struct Asked<'a> {
 }
 
 /// What the independent side says of each record.
-pub type Judged = Result<Vec<Result<check::Window, Refusal>>, Refusal>;
+pub type Judged = Result<Vec<Result<check::Valid, Refusal>>, Refusal>;
 
 impl Asked<'_> {
     pub fn code(self) -> Both<Result<(), Bad>> {
@@ -65,7 +65,7 @@ impl Asked<'_> {
 
     /// What is said of the record at `place`, where the independent side said `judged`. Where there
     /// is no such record, code 15 is due.
-    pub fn judge(self, place: usize, judged: &Judged) -> Both<Result<Window, Bad>> {
+    pub fn judge(self, place: usize, judged: &Judged) -> Both<Result<Checked, Bad>> {
         let independent = match judged {
             Ok(judged) => judged.get(place).copied().unwrap_or(Err(Refusal::Pile)),
             Err(refusal) => Err(*refusal),
@@ -73,7 +73,7 @@ impl Asked<'_> {
         Both {
             ours: trawlbeacon::judge(self.pile, self.answers, place).map_err(Bad::from),
             independent: independent
-                .map(same_window)
+                .map(same_checked)
                 .map_err(|refusal| placed(refusal, self.place(place))),
         }
     }
@@ -137,7 +137,8 @@ impl Asked<'_> {
                 raw::tb_cut_run(start, n, start_too, m, out.as_mut_ptr(), out.len()),
             )
         };
-        let no_window = [judged.midp, judged.radi.into(), judged.low, judged.high] == [0; 4];
+        let raw::tb_judged { midp, radi, low, high, mint, maxt, pubk, .. } = judged;
+        let no_window = [midp, radi.into(), low, high, mint, maxt] == [0; 6] && pubk == [0; 32];
         let no_pair = (reported.first, reported.second) == (0, 0);
         let of_a_record = !matches!(reported.code, 0 | 15 | 18);
         let right = judged.place == place as u64

@@ -11,7 +11,7 @@ use super::Xorshift;
 use independent::hash::{self, Hash};
 use independent::making::{self, Made};
 use independent::packet;
-use trawlbeacon::Window;
+use trawlbeacon::{Checked, Window};
 
 /// How a record is tied to the one before it.
 #[derive(Clone, Copy, Debug, PartialEq, Eq)]
@@ -94,8 +94,8 @@ impl Wish {
 /// What must be said of a pile.
 #[derive(Clone, Default)]
 pub struct Truth {
-    /// The window of each record, or the code that it is refused with.
-    pub verdicts: Vec<Result<Window, u32>>,
+    /// The window and the key of each record, or the code that it is refused with.
+    pub verdicts: Vec<Result<Checked, u32>>,
     /// Whether each is linked to the one before it, which the first is to none.
     pub linked: Vec<bool>,
     pub first_rand_zero: bool,
@@ -119,7 +119,7 @@ impl Truth {
                     break;
                 }
                 match (&self.verdicts[first], &self.verdicts[last]) {
-                    (Ok(earlier), Ok(later)) if contradicts(earlier, later) => {
+                    (Ok(earlier), Ok(later)) if contradicts(&earlier.window, &later.window) => {
                         found.push((first, last))
                     }
                     (Ok(_), Ok(_)) => (),
@@ -201,7 +201,7 @@ impl Builder {
         let linked =
             tie == Tie::Linked && self.before.is_some() && asked && pair.request.nonc == nonce;
         self.before = packet_in(&record, RESPONSE);
-        self.truth.verdicts.push(due.map_or(Ok(pair.window()), Err));
+        self.truth.verdicts.push(due.map_or(Ok(pair.checked()), Err));
         self.truth.linked.push(linked);
         self.made.pile.extend(record);
         self.made.answers.extend([u8::from(delegation), u8::from(signature)]);
