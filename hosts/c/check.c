@@ -398,6 +398,21 @@ static void expect_verdict(const char *what, struct tb_verdict is, struct tb_ver
     expect_number(what, is.midp, should.midp);
     expect_number(what, is.low, should.low);
     expect_number(what, is.high, should.high);
+    expect_number(what, is.mint, should.mint);
+    expect_number(what, is.maxt, should.maxt);
+    expect_bytes(what, is.pubk, should.pubk, sizeof is.pubk);
+}
+
+/* What the draft's response tells, as its bytes say. */
+static struct tb_verdict drafts(const uint8_t *packet) {
+    struct tb_verdict valid = {.radi = 3,
+                               .midp = 1773685571,
+                               .low = 1773685568,
+                               .high = 1773685574,
+                               .mint = 1773080680,
+                               .maxt = 1776273880};
+    memcpy(valid.pubk, packet + PUBK_AT, sizeof valid.pubk);
+    return valid;
 }
 
 /* Numbers that are not 1, among them what a library may answer to say that it failed: each is a
@@ -458,7 +473,7 @@ static void expect_versions(const uint8_t *packet) {
     static const size_t in_request[] = {16, 20, 24, 28}, in_response[] = {32, 36, 184};
     uint8_t other[RESPONSE_LENGTH + 4], request[TB_REQUEST_LENGTH + 4] = {0};
     size_t n = TB_REQUEST_LENGTH, m = RESPONSE_LENGTH;
-    struct tb_verdict valid = {0, 3, 0, 1773685571, 1773685568, 1773685574}, version = {.code = 8};
+    struct tb_verdict valid = drafts(packet), version = {.code = 8};
     memcpy(other, packet, m);
     tb_write_request(KEY, packet + NONC_AT, request, n);
     other[VERS_AT] = 2;
@@ -485,7 +500,7 @@ static void expect_checks(const uint8_t *packet) {
     uint8_t request[TB_REQUEST_LENGTH] = {0};
     size_t n = sizeof request, m = RESPONSE_LENGTH;
     tb_write_request(KEY, packet + NONC_AT, request, n);
-    struct tb_verdict valid = {0, 3, 0, 1773685571, 1773685568, 1773685574};
+    struct tb_verdict valid = drafts(packet);
     expect_verdict("a valid response", tb_check_response(request, n, packet, m, 1, 1), valid);
     struct tb_verdict bad = {.code = 14}, cut = {.code = 3}, other = {.code = 9};
     expect_noes(request, n, packet, m);
@@ -564,13 +579,14 @@ static void expect_old_windows(void) {
 }
 
 /* Document 01's fifth example: what four records say of the time. The last contradicts the two
- * before it, and the run is 2 to 3. */
+ * before it, and the run is 2 to 3. The first and the third come from one delegation, by their keys;
+ * the last one's key is zeros, as the one that stands beside a refusal. */
 enum { RECORDS = 4, PILE_LENGTH = RECORDS * TB_RECORD_LENGTH };
 static const struct tb_verdict TIMES[RECORDS] = {
-    {0, 10, 0, 1000, 990, 1010},
-    {0, 10, 0, 1500, 1490, 1510},
-    {0, 1, 0, 1495, 1494, 1496},
-    {0, 10, 0, 1400, 1390, 1410},
+    {0, 10, 0, 1000, 990, 1010, 0, 2000, {1}},
+    {0, 10, 0, 1500, 1490, 1510, 1500, UINT64_MAX, {2}},
+    {0, 1, 0, 1495, 1494, 1496, 1495, 1495, {1}},
+    {0, 10, 0, 1400, 1390, 1410, 0, 2000, {0}},
 };
 static const uint8_t YES[2 * (TB_MOST_RECORDS + 1)] = {1, 1, 1, 1, 1, 1, 1, 1, 1, 1, 1, 1,
                                                        1, 1, 1, 1, 1, 1, 1, 1, 1, 1, 1, 1,
@@ -583,7 +599,7 @@ static void put_number(uint8_t *at, uint64_t number, size_t n) {
 
 /* Makes record k of a pile of the response: a request with the nonce that links it to the record
  * before, and the response with that nonce, with the request as the only leaf of its tree, and with
- * another time, which a delegation for all times allows. */
+ * another time and another delegation. */
 static void lay_record(uint8_t *record, size_t k, struct tb_verdict time) {
     uint8_t *rand = record + RAND_AT, *request = record + REQUEST_AT,
             *response = record + RESPONSE_AT, nonce[32] = {0};
@@ -599,13 +615,16 @@ static void lay_record(uint8_t *record, size_t k, struct tb_verdict time) {
     tb_leaf(request, TB_REQUEST_LENGTH, response + ROOT_AT);
     put_number(response + RADI_AT, time.radi, 4);
     put_number(response + MIDP_AT, time.midp, 8);
-    put_number(response + MINT_AT, 0, 8);
-    put_number(response + MAXT_AT, UINT64_MAX, 8);
+    put_number(response + MINT_AT, time.mint, 8);
+    put_number(response + MAXT_AT, time.maxt, 8);
+    memcpy(response + PUBK_AT, time.pubk, sizeof time.pubk);
 }
 
 static void expect_judged(const char *what, struct tb_judged is, uint64_t place,
                           struct tb_verdict should) {
-    struct tb_verdict verdict = {is.code, is.radi, is.at, is.midp, is.low, is.high};
+    struct tb_verdict verdict = {is.code, is.radi, is.at,   is.midp, is.low,
+                                 is.high, is.mint, is.maxt, {0}};
+    memcpy(verdict.pubk, is.pubk, sizeof verdict.pubk);
     expect_number(what, is.place, place);
     expect_verdict(what, verdict, should);
 }
@@ -677,6 +696,35 @@ static void expect_records(const uint8_t *pile) {
     expect_number("tb_contradicts below 0", tb_contradicts(3, 10, 0, 1), 0);
     expect_number("tb_contradicts above 2^64 - 1", tb_contradicts(UINT64_MAX, 0, UINT64_MAX - 1, 1),
                   0);
+}
+
+/* Until when each of the four windows may be used, and which two come from one delegation; a
+ * refused answer, with the same key and MAXT in its place, is never used and comes from none. */
+static void expect_reuse(const uint8_t *pile) {
+    for (size_t k = 0; k < RECORDS; k++) {
+        struct tb_judged is = tb_judge(pile, PILE_LENGTH, YES, 2 * RECORDS, k);
+        expect_number("tb_may_use at 0", tb_may_use(is.code, is.maxt, 0), 1);
+        expect_number("tb_may_use at MAXT", tb_may_use(is.code, is.maxt, is.maxt), 1);
+        expect_number("tb_may_use at the last second of all",
+                      tb_may_use(is.code, is.maxt, UINT64_MAX), is.maxt == UINT64_MAX);
+        if (is.maxt < UINT64_MAX)
+            expect_number("tb_may_use past MAXT", tb_may_use(is.code, is.maxt, is.maxt + 1), 0);
+        expect_number("tb_may_use of a refused answer", tb_may_use(13, is.maxt, 0), 0);
+        for (size_t i = 0; i < RECORDS; i++) {
+            struct tb_judged other = tb_judge(pile, PILE_LENGTH, YES, 2 * RECORDS, i);
+            bool one = i == k || i + k == 2;
+            expect_number("tb_same_delegation",
+                          tb_same_delegation(is.code, is.pubk, other.code, other.pubk), one);
+            expect_number("tb_same_delegation of a refused answer",
+                          tb_same_delegation(is.code, is.pubk, 13, is.pubk), 0);
+            expect_number("tb_same_delegation after a refused answer",
+                          tb_same_delegation(12, is.pubk, other.code, is.pubk), 0);
+        }
+    }
+    struct tb_judged refused = tb_judge(pile, PILE_LENGTH, YES, 2 * RECORDS, RECORDS);
+    expect_number("tb_may_use of no record", tb_may_use(refused.code, refused.maxt, 0), 0);
+    expect_number("tb_same_delegation of no record",
+                  tb_same_delegation(refused.code, refused.pubk, refused.code, refused.pubk), 0);
 }
 
 /* The run of the four records: where there is room for it, and where there would be only if out
@@ -763,6 +811,7 @@ static void expect_piles(void) {
     for (size_t k = 0; k < RECORDS; k++) lay_record(pile + k * TB_RECORD_LENGTH, k, TIMES[k]);
     expect_bad_piles(pile);
     expect_records(pile);
+    expect_reuse(pile);
     expect_run(pile);
     expect_reports(pile);
 }
