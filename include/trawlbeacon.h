@@ -50,7 +50,7 @@ extern "C" {
 
 /* The version of this header: a change of the first number breaks callers. */
 #define TB_VERSION_MAJOR 0
-#define TB_VERSION_MINOR 8
+#define TB_VERSION_MINOR 9
 
 /* ---- Codes ---- */
 

@@ -8,20 +8,18 @@ use crate::{raw, Refusal};
 /// and enters no pile and no report.
 ///
 /// ```
-/// use trawlbeacon::{contradicts, old_window, Window};
+/// use trawlbeacon::{contradicts, old_window};
 ///
 /// let old = old_window(40_587 << 40, 0)?;
-/// let window = Window { midp: 0, radi: 1, low: old.low, high: 1 };
-/// contradicts(&window, &window);
+/// contradicts((0, 1), (old.low, 1));
 /// # Ok::<(), trawlbeacon::Refusal>(())
 /// ```
 ///
 /// ```compile_fail,E0308
-/// use trawlbeacon::{contradicts, old_window, Window};
+/// use trawlbeacon::{contradicts, old_window};
 ///
 /// let old = old_window(40_587 << 40, 0)?;
-/// let window = Window { midp: 0, radi: 1, low: old.low, high: 1 };
-/// contradicts(&window, &old);
+/// contradicts((0, 1), old);
 /// # Ok::<(), trawlbeacon::Refusal>(())
 /// ```
 #[derive(Clone, Copy, Debug, PartialEq, Eq)]
