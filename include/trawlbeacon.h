@@ -380,10 +380,10 @@ struct tb_verdict tb_check_response(const uint8_t *request, size_t request_len,
                                     const uint8_t *response, size_t response_len,
                                     uint32_t delegation, uint32_t signature);
 
-/* Whether the window of an answer that was kept may still be used at a time: code is 0, and the time
- * is not past maxt. maxt itself is the last second that counts. That the time is not before mint is
- * not asked: low may be before it too. code and maxt are those of a tb_verdict or a tb_judged; of a
- * refused one the answer is no at every time. */
+/* Whether the window of an answer that was kept may still be used at a time: code is 0, and the
+ * time is not past maxt. maxt itself is the last second that counts. That the time is not before
+ * mint is not asked: low may be before it too. code and maxt are those of a tb_verdict or a
+ * tb_judged; of a refused one the answer is no at every time. */
 bool tb_may_use(uint32_t code, uint64_t maxt, uint64_t time);
 
 /* Whether two answers come from one delegation: both codes are 0, and the keys are equal. code and

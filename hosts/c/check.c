@@ -579,8 +579,8 @@ static void expect_old_windows(void) {
 }
 
 /* Document 01's fifth example: what four records say of the time. The last contradicts the two
- * before it, and the run is 2 to 3. The first and the third come from one delegation, by their keys;
- * the last one's key is zeros, as the one that stands beside a refusal. */
+ * before it, and the run is 2 to 3. The first and the third come from one delegation, by their
+ * keys; the last one's key is zeros, as the one that stands beside a refusal. */
 enum { RECORDS = 4, PILE_LENGTH = RECORDS * TB_RECORD_LENGTH };
 static const struct tb_verdict TIMES[RECORDS] = {
     {0, 10, 0, 1000, 990, 1010, 0, 2000, {1}},

@@ -1,5 +1,5 @@
-// Answers that a host kept, asked again. An answer is told by its code and by what the question reads of it, so that one
-// of `tb_check_response` and one of `tb_judge` do as well.
+// Answers that a host kept, asked again. An answer is told by its code and by what the question reads of it, so that
+// one of `tb_check_response` and one of `tb_judge` do as well.
 ghost use mathlib.Core.Path.{_≡_};
 ghost use Rattle.reuse.specs.Reuse.{mayUse, sameDelegation};
 

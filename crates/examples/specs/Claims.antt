@@ -75,7 +75,8 @@ pub data Row : Type 0 where
 
 -- ---- what they are about
 
--- a good pile with these verdicts on its records, whatever their MINT and MAXT (request P9), each after the first linked
+-- a good pile with these verdicts on its records, whatever their MINT and MAXT (request P9), each after the first
+-- linked
 pub record Linked (pile answers : List ℕ) (verdicts : List Verdict) : Type 0 where
   pub good : GoodPile pile answers
   pub many : recordsIn pile ≡ length verdicts

@@ -10,7 +10,8 @@ use Rattle.pile.specs.declared.Judgement.{Judgement}
 
 -- both clauses of the judge, from the verdict and the key that it hands out beside the place
 pub judge-clauses : (pile answers : List ℕ) (k : ℕ) {v : Verdict} {key : List ℕ}
-    → v ≡ verdictBy (judgeCode pile answers k) (windowAt pile k) → key ≡ keyBy (judgeCode pile answers k) (pubkAt pile k)
+    → v ≡ verdictBy (judgeCode pile answers k) (windowAt pile k)
+    → key ≡ keyBy (judgeCode pile answers k) (pubkAt pile k)
     → (verdictNumber v ≡ judgeCode pile answers k .code)
     × (_≡_ {A = Judgement} (record { place = k; verdict = v; pubk = key }) (judgementOf pile answers k))
 unfolding judgementOf

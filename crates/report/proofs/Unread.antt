@@ -1,6 +1,6 @@
 -- The report check and the cutter do not read MINT, MAXT and the key (request P9): of two good piles of which the
--- verdicts differ in MINT and MAXT at the most, and the links in nothing, the answers are the same. The key stands in no
--- verdict, so that there is nothing to say of it.
+-- verdicts differ in MINT and MAXT at the most, and the links in nothing, the answers are the same. The key stands in
+-- no verdict, so that there is nothing to say of it.
 use Prim.Native.Nat.{ℕ, _<_}
 use mathlib.Core.Path.{_≡_, subst}
 use mathlib.Core.List.{List}

@@ -114,8 +114,8 @@ pub same-answer : (v w : ℕ → Verdict) (l k : ℕ → Bool) (n : ℕ) → ((i
     → ((i : ℕ) → 0 < i → i < n → l i ≡ k i) → (r : Span) → Answers (Convicts v l n) r → Answers (Convicts w k n) r
 same-answer v w l k n e f = alike-answer v w l k n (λ i u. alike-same (e i u)) f
 
--- Demand 3 does not read MINT and MAXT (request P9): of two piles of which the verdicts differ in these at the most, and
--- the links in nothing, the run is the same. The key stands in no verdict.
+-- Demand 3 does not read MINT and MAXT (request P9): of two piles of which the verdicts differ in these at the most,
+-- and the links in nothing, the run is the same. The key stands in no verdict.
 pub same-run : (v w : ℕ → Verdict) (l k : ℕ → Bool) (n : ℕ) → ((i : ℕ) → i < n → Alike (v i) (w i))
     → ((i : ℕ) → 0 < i → i < n → l i ≡ k i)
     → (r s : Span) → Answers (Convicts v l n) r → Answers (Convicts w k n) s → r ≡ s

@@ -13,8 +13,8 @@ pub struct Window {
     pub low: u64,
     /// MIDP + RADI, or 2^64 - 1 where that is above it.
     pub high: u64,
-    /// MINT: the first second for which the delegated key is trusted. `midp` is not before it, while
-    /// `low` may be.
+    /// MINT: the first second for which the delegated key is trusted. `midp` is not before it,
+    /// while `low` may be.
     pub mint: u64,
     /// MAXT: the last second for which it is. `midp` is not after it, while `high` may be.
     pub maxt: u64,

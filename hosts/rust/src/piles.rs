@@ -146,8 +146,8 @@ pub fn first_rand_zero(pile: &[u8]) -> bool {
 }
 
 /// Whether two windows contradict each other, of which `earlier` was told before `later`, each by
-/// its MIDP and RADI: MIDP - RADI of the earlier one is above MIDP + RADI of the later one, in whole
-/// numbers. What else a window has plays no part, and is not asked for.
+/// its MIDP and RADI: MIDP - RADI of the earlier one is above MIDP + RADI of the later one, in
+/// whole numbers. What else a window has plays no part, and is not asked for.
 ///
 /// ```
 /// use trawlbeacon::contradicts;

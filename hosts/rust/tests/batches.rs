@@ -123,8 +123,8 @@ impl Comparison {
         pairs.map(|(request, pieces)| Sent::new(request, pieces, checked)).collect()
     }
 
-    /// Has both sides check a response to the request. Where it is taken, its window and its key must
-    /// be right.
+    /// Has both sides check a response to the request. Where it is taken, its window and its key
+    /// must be right.
     fn ask(&mut self, column: &str, sent: &Sent, pieces: Pieces, due: u32) {
         let (request, response) = (sent.request.clone(), pieces.packet());
         let question = Question { request, response, delegation: true, signature: true };
