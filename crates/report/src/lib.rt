@@ -7,6 +7,7 @@ mod scanning;
 
 pub use checking::check_report;
 pub use cutting::cut_run;
+pub use gathering::verdicts_of;
 use refusal::Refusal;
 
 // What is said of a pile: the two records that contradict, where it is a report, or why it is none. A refused record

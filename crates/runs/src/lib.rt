@@ -5,6 +5,7 @@ mod inspect;
 mod search;
 
 pub use compare::contradicts;
+pub use search::capped;
 pub use search::shortest_run;
 
 // The places of the first and the last record of what is sought, or that there is none.

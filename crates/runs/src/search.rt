@@ -30,7 +30,7 @@ pub fn shortest_run(verdicts: [Verdict; 16], linked: [bool; 16], n: usize) -> Sp
 }
 
 // n, and 16 where it is more.
-fn capped(n: usize) -> usize
+pub fn capped(n: usize) -> usize
     ensures { λ r. ⌜ r ≡ min n 16 ⌝ }
 {
     if n < 16 { n } else { 16 }

@@ -1,0 +1,66 @@
+-- The pass over records: what is known when k of them were taken and none contradicted an earlier one, and how that
+-- grows.
+use mathlib.Core.Path.{_≡_, refl, sym, ap, ap₂, subst, _∙_}
+use mathlib.Core.Bool.{Bool, true, false, _||_}
+use mathlib.Core.List.{[]}
+use Prim.Native.Nat.{ℕ, zero, suc, _+_, _≤_, _<_, max}
+use native.Mathlib.Nat.{le-antisymm}
+use native.Mathlib.Numerals.{add-one}
+use native.Mathlib.Omega.{arith}
+use Rattle.laws.specs.Least.{least, somewhere}
+use Rattle.laws.proofs.Least.{somewhere-here}
+use Rattle.verdict.specs.declared.Verdict.{Verdict}
+use Rattle.verdict.specs.declared.Verdict.the-variants.{Valid, Refused}
+use Rattle.tally.specs.EveryPair.{someBefore, everyPair}
+use Rattle.tally.specs.Kept.{lowEnd, mostOf, tallyOf, tallied}
+use Rattle.tally.specs.declared.Tally.{Tally}
+use Rattle.tally.specs.declared.Tallied.{Tallied}
+use Rattle.tally.proofs.Most.{somewhere-more, hit, hit-most}
+
+-- what a taken record says and leaves, whether it is refused or not
+says : (t : Tally) (b : Verdict) → tallied t b .contradicts ≡ hit (t .most) b
+says t (Valid w) = refl
+says t (Refused why) = refl
+
+leaves : (t : Tally) (b : Verdict) → tallied t b .tally .most ≡ max (t .most) (lowEnd b)
+leaves t (Valid w) = refl
+leaves t (Refused why) = omega arith
+
+-- no two of the first k records contradict, and t is what is kept of them
+pub record Quiet (v : ℕ → Verdict) (k : ℕ) (t : Tally) : Type 0 where
+  pub kept : t .most ≡ mostOf v k
+  pub none : everyPair v k ≡ false
+
+pub begin : (v : ℕ → Verdict) {t : Tally} → t ≡ tallyOf [] → Quiet v 0 t
+unfolding mostOf somewhere least
+begin v e = record { kept = ap (λ (x : Tally). x .most) e; none = refl }
+
+module _ {v : ℕ → Verdict} {k : ℕ} {t : Tally} (q : Quiet v k t) (r : Tallied) (e : r ≡ tallied t (v k)) where
+  -- record k says whether an earlier one contradicts it
+  told : r .contradicts ≡ someBefore v k (v k)
+  told =
+      ap (λ (x : Tallied). x .contradicts) e
+      ∙ says t (v k)
+      ∙ ap (λ (m : ℕ). hit m (v k)) (q .kept)
+      ∙ hit-most v k (v k)
+
+  pub caught : (n : ℕ) → k < n → r .contradicts ≡ true → true ≡ everyPair v n
+  caught n l c = sym (somewhere-here (λ j. someBefore v j (v j)) n k l (sym told ∙ c))
+
+  pub quiet-on : r .contradicts ≡ false → Quiet v (k + 1) (r .tally)
+  unfolding mostOf
+  quiet-on c = record {
+    kept =
+        ap (λ (x : Tallied). x .tally .most) e
+        ∙ leaves t (v k)
+        ∙ ap (λ (m : ℕ). max m (lowEnd (v k))) (q .kept)
+        ∙ ap (mostOf v) (sym (add-one k));
+    none =
+        ap (everyPair v) (add-one k)
+        ∙ somewhere-more (λ j. someBefore v j (v j)) k
+        ∙ ap₂ _||_ (q .none) (sym told ∙ c);
+  }
+
+-- all were taken
+pub quiet-end : {v : ℕ → Verdict} {k : ℕ} {t : Tally} → Quiet v k t → (n : ℕ) → k ≤ n → n ≤ k → false ≡ everyPair v n
+quiet-end {v} {k} q n l u = sym (subst (λ (m : ℕ). everyPair v m ≡ false) (le-antisymm l u) (q .none))

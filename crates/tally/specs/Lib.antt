@@ -1,0 +1,5 @@
+-- Contradiction in one pass (request P14). What a reader must believe is EveryPair and Kept.
+-- Whole is the pass in the request's own words, in whole numbers. It is proved to say what the every-pair check says.
+pub mod EveryPair
+pub mod Kept
+pub mod Whole
