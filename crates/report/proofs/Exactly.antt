@@ -66,7 +66,7 @@ rand-tested pile = (
   λ z. is-set (firstRandZero pile) .1 (rand-exactly pile .1 z),
 )
 
-joined-first : (pile : List ℕ) → joined pile 0 ≡ firstRandZero pile
+pub joined-first : (pile : List ℕ) → joined pile 0 ≡ firstRandZero pile
 unfolding joined
 joined-first pile = refl
 

@@ -78,7 +78,7 @@ alike-contradicting (Refused a) (Valid b) x y e f = absurd e
 -- is linked.
 module _ (v w : ℕ → Verdict) (l k : ℕ → Bool) (n : ℕ) where
   -- a run that convicts in the one convicts in the other,
-  still : ((i : ℕ) → i < n → Alike (v i) (w i)) → ((i : ℕ) → 0 < i → i < n → l i ≡ k i) → (a b : ℕ)
+  pub still : ((i : ℕ) → i < n → Alike (v i) (w i)) → ((i : ℕ) → 0 < i → i < n → l i ≡ k i) → (a b : ℕ)
       → Convicts v l n a b → Convicts w k n a b
   still e f a b c = record {
     inside = c .inside;
