@@ -16,7 +16,7 @@ use Rattle.pile.specs.Pile.{recordsIn}
 use Rattle.pile.specs.Links.{linkedOf}
 use Rattle.runs.specs.Clash.{valid}
 use Rattle.runs.specs.Convict.{Convicts, Contradiction}
-use Rattle.runs.proofs.SamePile.{still}
+use Rattle.runs.proofs.SamePile.{alike-same, still}
 use Rattle.report.specs.Report.{judged, joined, refused, loose, Reports}
 use Rattle.report.specs.Taking.{ConvictsIn, Takes}
 use Rattle.report.specs.declared.Report.{Report}
@@ -49,7 +49,7 @@ module _ {pile answers more said : List ℕ} (adds : Adds pile answers more said
   convicts-still i j c =
       wider (no-fewer adds)
       (still (judged pile answers) (judged (pile ++ more) (answers ++ said)) (linkedOf pile) (linkedOf (pile ++ more))
-      (recordsIn pile) (λ k u. sym (verdict-kept adds k u)) (λ k z u. sym (linked-kept adds k z u)) i j c)
+      (recordsIn pile) (λ k u. alike-same (sym (verdict-kept adds k u))) (λ k z u. sym (linked-kept adds k z u)) i j c)
 
   -- so that the cutter's run is no longer, and its answer never that there is none
   pub run-no-longer : (i j : ℕ) → ConvictsIn pile answers i j → (room : ℕ) (x : Taken)

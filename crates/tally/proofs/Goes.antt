@@ -29,8 +29,8 @@ most-more ws w =
     ap (mostOf (saidIn (ws ++ w ∷ []))) (length-append ws (w ∷ []) ∙ add-one (length ws))
     ∙ ap₂ max
     (most-same (saidIn (ws ++ w ∷ [])) (saidIn ws) (length ws)
-    (λ k l. ap Valid (List·getD-append ws (w ∷ []) (windowOf 0 0) k l)))
-    (ap (λ (x : Window). lowEnd (Valid x)) (getD-append-seam ws w [] (windowOf 0 0)))
+    (λ k l. ap Valid (List·getD-append ws (w ∷ []) (windowOf 0 0 0 0) k l)))
+    (ap (λ (x : Window). lowEnd (Valid x)) (getD-append-seam ws w [] (windowOf 0 0 0 0)))
 
 pub as-it-goes : (t : Tally) (midp radi : ℕ) → AsItGoes t midp radi (talliedOf t midp radi)
 as-it-goes t midp radi ws w e m r = (
@@ -45,7 +45,7 @@ both-clauses {t} {midp} {radi} e =
     (subst (λ (x : Tallied). AsItGoes t midp radi x) (sym e) (as-it-goes t midp radi), e)
 
 -- any number at all is the state after a window: that with this MIDP and no radius
-pub every-state : (t : Tally) → t ≡ tallyOf (windowOf (t .most) 0 ∷ [])
+pub every-state : (t : Tally) → t ≡ tallyOf (windowOf (t .most) 0 0 0 ∷ [])
 unfolding mostOf
 every-state t = ap (λ (x : ℕ). record { most = x }) (omega arith)
 

@@ -84,4 +84,4 @@ module _ (w : ℕ → Window) where
 
 -- of any list of windows
 pub one-pass-in : (ws : List Window) → onePassIn ws ≡ everyPairIn ws
-one-pass-in ws = one-pass (λ k. getD ws k (windowOf 0 0)) (length ws)
+one-pass-in ws = one-pass (λ k. getD ws k (windowOf 0 0 0 0)) (length ws)

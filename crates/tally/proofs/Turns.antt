@@ -12,7 +12,7 @@ use Rattle.laws.proofs.Least.{somewhere-here}
 use Rattle.verdict.specs.declared.Verdict.{Verdict}
 use Rattle.verdict.specs.declared.Verdict.the-variants.{Valid, Refused}
 use Rattle.tally.specs.EveryPair.{someBefore, everyPair}
-use Rattle.tally.specs.Kept.{lowEnd, mostOf, tallyOf, tallied}
+use Rattle.tally.specs.Kept.{lowEnd, mostOf, tallyOf, tallied, after, goes}
 use Rattle.tally.specs.declared.Tally.{Tally}
 use Rattle.tally.specs.declared.Tallied.{Tallied}
 use Rattle.tally.proofs.Most.{somewhere-more, hit, hit-most}
@@ -25,6 +25,22 @@ says t (Refused why) = refl
 leaves : (t : Tally) (b : Verdict) → tallied t b .tally .most ≡ max (t .most) (lowEnd b)
 leaves t (Valid w) = refl
 leaves t (Refused why) = omega arith
+
+-- taken one by one from the start, the records leave the largest low end of them,
+after-kept : (v : ℕ → Verdict) (n : ℕ) → after v n .most ≡ mostOf v n
+unfolding after mostOf
+after-kept v zero = refl
+after-kept v (suc n) =
+    leaves (after v n) (v n) ∙ ap (λ (m : ℕ). max m (lowEnd (v n))) (after-kept v n)
+
+-- and say of each whether an earlier one contradicts it: so it is known as it goes what the every-pair check says
+pub goes-says : (v : ℕ → Verdict) (n : ℕ) → goes v n ≡ everyPair v n
+unfolding goes somewhere least
+goes-says v zero = refl
+goes-says v (suc n) =
+    ap₂ _||_ (goes-says v n)
+    (says (after v n) (v n) ∙ ap (λ (m : ℕ). hit m (v n)) (after-kept v n) ∙ hit-most v n (v n))
+    ∙ sym (somewhere-more (λ j. someBefore v j (v j)) n)
 
 -- no two of the first k records contradict, and t is what is kept of them
 pub record Quiet (v : ℕ → Verdict) (k : ℕ) (t : Tally) : Type 0 where

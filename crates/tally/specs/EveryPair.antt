@@ -29,7 +29,7 @@ everyPair v n = somewhere (λ j. someBefore v j (v j)) n
 
 -- nothing is read past the end
 abbrev pub saidIn : List Window → ℕ → Verdict
-saidIn ws k = Valid (getD ws k (windowOf 0 0))
+saidIn ws k = Valid (getD ws k (windowOf 0 0 0 0))
 
 -- one of them contradicts the window w, which comes after them
 abbrev pub anEarlier : List Window → Window → Bool

@@ -2,7 +2,7 @@
 -- at 0, and 0 before any window. Whether it is none or one below 0 that the 0 stands for makes no difference
 -- (`from-zero`): no MIDP + RADI is below 0.
 use mathlib.Core.Path.{_≡_}
-use mathlib.Core.Bool.{Bool, false}
+use mathlib.Core.Bool.{Bool, false, _||_}
 use mathlib.Core.List.{List, [], _∷_, _++_}
 use Prim.Native.Nat.{ℕ, zero, suc, _+_, max}
 use lib.Dec.{ltb}
@@ -42,6 +42,17 @@ talliedOf t midp radi =
 abbrev pub tallied : Tally → Verdict → Tallied
 tallied t (Valid w) = talliedOf t (w .midp) (w .radi)
 tallied t (Refused why) = record { tally = t; contradicts = false }
+
+-- the state after the first n records, taken one by one from the start
+unfoldable pub after : (ℕ → Verdict) → ℕ → Tally
+after v zero = tallyOf []
+after v (suc n) = tallied (after v n) (v n) .tally
+
+-- one of the first n, taken so, was said to contradict an earlier one: what a host knows that judges as it goes. It is
+-- what the every-pair check says (`goes-says`).
+unfoldable pub goes : (ℕ → Verdict) → ℕ → Bool
+goes v zero = false
+goes v (suc n) = goes v n || tallied (after v n) (v n) .contradicts
 
 -- What a taker promises in the words of the every-pair check. Of whichever windows ws the state is, and for a window w
 -- with this MIDP and RADI: the answer says whether one of ws contradicts w, and what is left is the state after ws and w.

@@ -32,4 +32,4 @@ onePass w (suc (suc k)) = onePass w (suc k) || ltZ (latest (w (suc k))) (largest
 
 -- through a list
 abbrev pub onePassIn : List Window → Bool
-onePassIn ws = onePass (λ k. getD ws k (windowOf 0 0)) (length ws)
+onePassIn ws = onePass (λ k. getD ws k (windowOf 0 0 0 0)) (length ws)

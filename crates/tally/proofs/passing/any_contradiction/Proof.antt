@@ -28,9 +28,11 @@ returns c =
 loop-again : tie.Need-loop-again Inv-loop μ-loop
 loop-again c =
     let called = c .before .before in
-    let loop = called .before .before .before in
-    (omega arith, quiet-on (loop .loop .inv .1) (called .take-verdict .result) (called .take-verdict .ensures)
-    (c .before .if1 .left))
+    let loop = called .before .before .before in (
+      omega arith,
+      quiet-on (loop .loop .inv .1) (called .take-verdict .result) (called .take-verdict .ensures)
+          (c .before .if1 .left),
+    )
 
 returns-2 : tie.Need-returns-2 Inv-loop μ-loop
 returns-2 c =
