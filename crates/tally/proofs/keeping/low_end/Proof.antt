@@ -4,4 +4,4 @@ use Rattle.tally.proofs.keeping.low_end.Statement.{statement}
 use Rattle.tally.proofs.keeping.low_end.Tie as tie
 
 pub low-end-spec : {M : Type 1} → statement M
-low-end-spec = tie.close (tie.spec (λ c. omega arith) (λ c. omega arith) (λ c. omega arith))
+low-end-spec = tie.close (tie.spec (λ c. omega arith) (λ c. omega arith))

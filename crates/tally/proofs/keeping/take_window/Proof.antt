@@ -1,18 +1,18 @@
 -- `tally::keeping::take_window` meets its contract. What it says of any state it says of windows of which that is kept.
-use mathlib.Core.Path.{ap, ap₂, _∙_}
+use mathlib.Core.Path.{ap₂}
 use mathlib.Core.Bool.{Bool}
-use Prim.Native.Nat.{ℕ, max}
+use Prim.Native.Nat.{ℕ}
 use Rattle.tally.proofs.Goes.{both-clauses}
+use native.Mathlib.Omega.{arith}
 use borrow.Author.Needs.{needs}
 use Rattle.tally.proofs.keeping.take_window.Statement.{statement}
 use Rattle.tally.proofs.keeping.take_window.Tie as tie
 
 returns : tie.Need-returns
 returns c =
-    let start = c .before .before .before in
     both-clauses
     (ap₂ (λ (x : ℕ) (b : Bool). record { tally = record { most = x }; contradicts = b })
-    (c .larger .ensures ∙ ap (max (start .args .tally .most)) (c .before .low-end .ensures))
+    (omega (arith, c .larger .ensures, c .before .low-end .ensures))
     (c .before .before .ends-below .ensures))
 
 pub take-window-spec : {M : Type 1} → statement M
