@@ -5,6 +5,8 @@ use mathlib.Core.List.{List}
 use lib.ListN.{length}
 use Rattle.laws.proofs.Once.{Settles}
 use Rattle.sha512.specs.declared.Running.{Running}
+use Rattle.tally.specs.declared.Tally.{Tally}
+use Rattle.tally.specs.declared.Tallied.{Tallied}
 use Rattle.batch.proofs.Answers.{places-once, lays-once}
 use Rattle.report.proofs.Says.{report-once}
 use Rattle.report.proofs.Runs.{takes-once}
@@ -77,6 +79,12 @@ use Rattle.capi.proofs.piling.tb_check_report.Kinds as tb-check-report-
 use Rattle.capi.proofs.piling.tb_check_report.Reads as tb-check-report-reads
 use Rattle.capi.proofs.piling.tb_cut_run.Kinds as tb-cut-run-kinds
 use Rattle.capi.proofs.piling.tb_cut_run.Reads as tb-cut-run-reads
+use Rattle.capi.proofs.tallying.tb_tally_start_field.Kinds as tb-tally-start-field-kinds
+use Rattle.capi.proofs.tallying.tb_tally_start_field.Reads as tb-tally-start-field-reads
+use Rattle.capi.proofs.tallying.tb_tally_take_field.Kinds as tb-tally-take-field-kinds
+use Rattle.capi.proofs.tallying.tb_tally_take_field.Reads as tb-tally-take-field-reads
+use Rattle.capi.proofs.tallying.tb_pile_contradicts.Kinds as tb-pile-contradicts-kinds
+use Rattle.capi.proofs.tallying.tb_pile_contradicts.Reads as tb-pile-contradicts-reads
 
 pub tb-sha512-once : Settles tb-sha512-kinds.ps tb-sha512-kinds.r tb-sha512-reads.Learnt
 tb-sha512-once κs a x u y v p q = (refl, ap (λ (out : List ℕ). (tt, (out, tt))) (p ∙ sym q))
@@ -211,3 +219,19 @@ tb-cut-run-once κs a x u y v p q =
     let room = length (a .1 .1 .0 .now) in
     let same = takes-once (a .0 .now) (a .1 .0 .now) room (p .answer) (q .answer) (p .right) (q .right) in
     (cc, ap (λ (out : List ℕ). (tt, (tt, (out, tt)))) (cc))
+
+pub tb-tally-start-field-once :
+    Settles tb-tally-start-field-kinds.ps tb-tally-start-field-kinds.r tb-tally-start-field-reads.Learnt
+tb-tally-start-field-once κs a x u y v p q = (refl, ap (λ (t : Tally). (t .most, tt)) (p ∙ sym q))
+
+pub tb-tally-take-field-once :
+    Settles tb-tally-take-field-kinds.ps tb-tally-take-field-kinds.r tb-tally-take-field-reads.Learnt
+tb-tally-take-field-once κs a x u y v p q =
+    let same = p ∙ sym q in (
+      ap (λ (t : Tallied). t .contradicts) same,
+      ap (λ (t : Tallied). (t .tally .most, (tt, (tt, tt)))) same,
+    )
+
+pub tb-pile-contradicts-once :
+    Settles tb-pile-contradicts-kinds.ps tb-pile-contradicts-kinds.r tb-pile-contradicts-reads.Learnt
+tb-pile-contradicts-once κs a x u y v p q = (p ∙ sym q, refl)

@@ -3,3 +3,4 @@
 pub mod Building
 pub mod Pieces
 pub mod Piling
+pub mod Tallying

@@ -11,4 +11,5 @@ mod piling;
 mod reading;
 mod reusing;
 mod stamping;
+mod tallying;
 mod writing;

@@ -7,13 +7,12 @@ use native.Mathlib.Omega.{arith}
 use lib.Dec.{T}
 use Rattle.laws.specs.Least.{least}
 use Rattle.laws.proofs.Holds.{holds-exactly}
-use Rattle.laws.proofs.Least.{somewhere-at, somewhere-here}
+use Rattle.laws.proofs.Least.{somewhere-at, somewhere-here, somewhere-same}
 use Rattle.verdict.specs.declared.Verdict.{Verdict}
 use Rattle.runs.specs.Clash.{contradicting}
 use Rattle.runs.specs.Convict.{Contradiction}
 use Rattle.runs.specs.Spans.{Some}
 use Rattle.tally.specs.EveryPair.{someBefore, everyPair}
-use Rattle.tally.proofs.Most.{somewhere-same}
 
 -- it reads the first n records alone
 pub every-pair-same : (v w : ℕ → Verdict) (n : ℕ) → ((k : ℕ) → k < n → v k ≡ w k) → everyPair v n ≡ everyPair w n

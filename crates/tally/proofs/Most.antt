@@ -1,34 +1,18 @@
 -- What is below the largest low end is below one of them: so one comparison stands for one with each earlier record.
 use mathlib.Core.Path.{_≡_, refl, sym, ap, ap₂, _∙_}
-use mathlib.Core.Bool.{Bool, true, false, cond, _||_}
+use mathlib.Core.Bool.{Bool, true, false, _||_}
 use Prim.Native.Nat.{ℕ, zero, suc, _+_, _-_, _<_, max, zero-le}
-use native.Mathlib.Nat.{le-refl}
 use native.Mathlib.Omega.{arith}
 use lib.Dec.{ltb}
 use borrow.Author.Tests.{ltb-true, ltb-false, lt-ltb, le-ltb}
 use Rattle.laws.specs.Least.{least, somewhere}
-use Rattle.laws.proofs.Least.{least-same}
+use Rattle.laws.proofs.Least.{somewhere-more}
 use Rattle.verdict.specs.declared.Verdict.{Verdict}
 use Rattle.verdict.specs.declared.Verdict.the-variants.{Valid, Refused}
 use Rattle.runs.specs.Clash.{contradicting}
 use Rattle.runs.proofs.Told.{ltb-same}
 use Rattle.tally.specs.EveryPair.{someBefore}
 use Rattle.tally.specs.Kept.{lowEnd, mostOf}
-
--- a test holds somewhere below n + 1 where it does below n or at n
-pub somewhere-more : (p : ℕ → Bool) (n : ℕ) → somewhere p (suc n) ≡ (somewhere p n || p n)
-unfolding somewhere least
-somewhere-more p n = by (ltb (least p n) n) (p n) refl
-  where
-    by : (b t : Bool) → ltb (least p n) n ≡ b
-        → ltb (cond b (least p n) (cond t n (suc n))) (suc n) ≡ (b || t)
-    by true t e = lt-ltb (least p n) (suc n) (omega (arith, ltb-true (least p n) n e))
-    by false true e = lt-ltb n (suc n) (omega arith)
-    by false false e = le-ltb (suc n) (suc n) (le-refl (suc n))
-
-pub somewhere-same : (p q : ℕ → Bool) (n : ℕ) → ((k : ℕ) → k < n → p k ≡ q k) → somewhere p n ≡ somewhere q n
-unfolding somewhere
-somewhere-same p q n h = ap (λ (k : ℕ). ltb k n) (least-same p q n h)
 
 -- a record's MIDP + RADI is below m; that of a refused record is not
 abbrev pub hit : ℕ → Verdict → Bool

@@ -11,6 +11,7 @@ use lib.ListN.{length, getD}
 use lib.Signed.{ltZ}
 use borrow.Author.Tests.{ltb-true, ltb-false, le-ltb}
 use Rattle.laws.specs.Least.{least, somewhere}
+use Rattle.laws.proofs.Least.{somewhere-more}
 use Rattle.verdict.specs.Window.{windowOf}
 use Rattle.verdict.specs.declared.Verdict.{Verdict}
 use Rattle.verdict.specs.declared.Verdict.the-variants.{Valid}
@@ -19,7 +20,7 @@ use Rattle.tally.specs.EveryPair.{someBefore, everyPair, everyPairIn}
 use Rattle.tally.specs.Kept.{mostOf}
 use Rattle.tally.specs.Whole.{larger, largest, onePass, onePassIn}
 use Rattle.tally.specs.Whole as whole
-use Rattle.tally.proofs.Most.{somewhere-more, hit-most}
+use Rattle.tally.proofs.Most.{hit-most}
 
 -- a whole number, but 0 where it is below 0
 abbrev pub stopped : ℤ → ℕ

@@ -8,14 +8,14 @@ use native.Mathlib.Nat.{le-antisymm}
 use native.Mathlib.Numerals.{add-one}
 use native.Mathlib.Omega.{arith}
 use Rattle.laws.specs.Least.{least, somewhere}
-use Rattle.laws.proofs.Least.{somewhere-here}
+use Rattle.laws.proofs.Least.{somewhere-here, somewhere-more}
 use Rattle.verdict.specs.declared.Verdict.{Verdict}
 use Rattle.verdict.specs.declared.Verdict.the-variants.{Valid, Refused}
 use Rattle.tally.specs.EveryPair.{someBefore, everyPair}
 use Rattle.tally.specs.Kept.{lowEnd, mostOf, tallyOf, tallied, after, goes}
 use Rattle.tally.specs.declared.Tally.{Tally}
 use Rattle.tally.specs.declared.Tallied.{Tallied}
-use Rattle.tally.proofs.Most.{somewhere-more, hit, hit-most}
+use Rattle.tally.proofs.Most.{hit, hit-most}
 
 -- what a taken record says and leaves, whether it is refused or not
 says : (t : Tally) (b : Verdict) → tallied t b .contradicts ≡ hit (t .most) b
