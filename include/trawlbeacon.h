@@ -11,9 +11,9 @@
  *   - out leads to as many writable bytes as out_len, or the array it is declared as, says, is
  *     initialised memory, and overlaps no input.
  * All memory stays the caller's. The functions only read their inputs, but for the state of a hash
- * in pieces, which starting and taking write; they allocate nothing, and keep no pointer and no
- * state of their own; an answer is a value of its own. Inputs may overlap each other, but not such
- * a state.
+ * in pieces and that of windows as they come, which starting and taking write; they allocate
+ * nothing, and keep no pointer and no state of their own; an answer is a value of its own. Inputs
+ * may overlap each other, but not such a state.
  *
  * The functions of hashes write the whole of out, and they and those that answer with a bool cannot
  * fail, but for tb_sha512_take. That one and every other take any bytes and answer with a code: 0
@@ -520,6 +520,36 @@ bool tb_first_rand_zero(const uint8_t *pile, size_t pile_len);
  * keys play no part. */
 bool tb_contradicts(uint64_t earlier_midp, uint32_t earlier_radi, uint64_t later_midp,
                     uint32_t later_radi);
+
+/* 0 where some two valid records of a pile contradict each other, the earlier the later; 15 where
+ * the pile or its answers are not what they must be; 18 where no two do. It goes through the records
+ * once. Links and rands play no part, nor do bad records between the two: 0 does not say that a run
+ * convicts by itself. */
+uint32_t tb_pile_contradicts(const uint8_t *pile, size_t pile_len, const uint8_t *answers,
+                             size_t answers_len);
+
+/* What is kept of windows that are judged as they come: the largest midp - radi so far, which stops
+ * at 0, and 0 before any. It is the caller's, and can be copied and kept. Whatever number it holds,
+ * it is that of some windows, and does no harm. */
+struct tb_tally {
+    uint64_t most;
+};
+
+/* What the two functions below call, with the number that is kept: call those instead. */
+void tb_tally_start_field(uint64_t *most);
+bool tb_tally_take_field(uint64_t *most, uint64_t midp, uint32_t radi);
+
+/* Starts, before any window. */
+static inline void tb_tally_start(struct tb_tally *tally) {
+    tb_tally_start_field(&tally->most);
+}
+
+/* Takes one window more, and tells whether a window that was taken before it contradicts it, as
+ * tb_contradicts would tell of one of them at the least. So some two of many windows contradict
+ * each other exactly where one of the answers is true. */
+static inline bool tb_tally_take(struct tb_tally *tally, uint64_t midp, uint32_t radi) {
+    return tb_tally_take_field(&tally->most, midp, radi);
+}
 
 /* What the check of a report says: on 0, the places of the two records that contradict each other,
  * first below second. On 1 to 14, 16 and 17, place is that of the record to which the code applies;

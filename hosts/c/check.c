@@ -5,8 +5,9 @@
  * come in pieces, a tree of three leaves by its nodes and the largest one by a path through it, a
  * reader and the check by a request of ours and by a response that draft 19 prints, a lookup by the
  * place of the record, old stamps by both sides of each limit, a pile by the times it was made of,
- * a writer by what it leaves in a buffer, the words of a code by some of them. Whether all of that
- * is right on every input is for the tests of hosts/rust.
+ * windows as they come by every pair of them, a writer by what it leaves in a buffer, the words of
+ * a code by some of them. Whether all of that is right on every input is for the tests of
+ * hosts/rust.
  */
 #include "response.h"
 #include "trawlbeacon.h"
@@ -652,6 +653,7 @@ static void expect_bad_pile(const char *what, const uint8_t *pile, size_t n, con
     struct tb_verdict bad = {.code = 15};
     memset(out, 0xee, sizeof out);
     expect_number(what, tb_pile_code(pile, n, answers, m), 15);
+    expect_number(what, tb_pile_contradicts(pile, n, answers, m), 15);
     expect_judged(what, tb_judge(pile, n, answers, m, 2), 2, bad);
     expect_reported(what, tb_check_report(pile, n, answers, m), 15, 0, 0, 0);
     expect_cut(what, tb_cut_run(pile, n, answers, m, out, sizeof out), 15, 0, 0);
@@ -727,6 +729,69 @@ static void expect_reuse(const uint8_t *pile) {
                   tb_same_delegation(refused.code, refused.pubk, refused.code, refused.pubk), 0);
 }
 
+/* Windows of document 01's examples 1 to 7, in the order in which they were told, and whether some
+ * two contradict each other. */
+struct told {
+    uint64_t midp;
+    uint32_t radi;
+};
+static const struct example {
+    size_t count;
+    struct told windows[4];
+    bool contradict;
+} EXAMPLES[] = {
+    {2, {{1000, 5}, {990, 5}}, false},
+    {2, {{1000, 5}, {990, 4}}, true},
+    {2, {{3, 10}, {0, 1}}, false},
+    {2, {{3, 10}, {0, 0}}, false},
+    {2, {{UINT64_MAX, 1}, {UINT64_MAX, 1}}, false},
+    {2, {{UINT64_MAX, 1}, {UINT64_MAX - 3, 1}}, true},
+    {4, {{1000, 10}, {1500, 10}, {1495, 1}, {1400, 10}}, true},
+    {3, {{100, 1}, {90, 1}, {80, 1}}, true},
+    {3, {{100, 1}, {95, 20}, {80, 1}}, true},
+    {1, {{UINT64_MAX, 1}}, false},
+    {0, {{0, 0}}, false},
+};
+
+/* Both checks of such windows, every pair and the one pass, which starts from any number. */
+static void expect_example(const struct example *example) {
+    struct tb_tally tally = {UINT64_MAX};
+    bool pairs = false, pass = false;
+    tb_tally_start(&tally);
+    for (size_t j = 0; j < example->count; j++) {
+        struct told later = example->windows[j];
+        for (size_t i = 0; i < j; i++) {
+            struct told earlier = example->windows[i];
+            pairs |= tb_contradicts(earlier.midp, earlier.radi, later.midp, later.radi);
+        }
+        pass |= tb_tally_take(&tally, later.midp, later.radi);
+    }
+    expect_number("every pair of an example", pairs, example->contradict);
+    expect_number("the one pass over an example", pass, example->contradict);
+}
+
+/* The one pass, from state to state, and from states that no start led to. */
+static void expect_tally(void) {
+    for (size_t k = 0; k < sizeof EXAMPLES / sizeof *EXAMPLES; k++) expect_example(EXAMPLES + k);
+    struct tb_tally tally = {1};
+    tb_tally_start(&tally);
+    expect_number("a tally that is started", tally.most, 0);
+    expect_number("the first window", tb_tally_take(&tally, 3, 10), 0);
+    expect_number("a tally below 0", tally.most, 0);
+    expect_number("a larger window", tb_tally_take(&tally, 1000, 5), 0);
+    expect_number("a tally of 1000 - 5", tally.most, 995);
+    expect_number("a window that touches", tb_tally_take(&tally, 990, 5), 0);
+    expect_number("a tally that stays", tally.most, 995);
+    expect_number("a window that contradicts", tb_tally_take(&tally, 990, 4), 1);
+    expect_number("a tally that stays once more", tally.most, 995);
+    expect_number("the largest window", tb_tally_take(&tally, UINT64_MAX, UINT32_MAX), 0);
+    expect_number("a tally of the largest", tally.most, UINT64_MAX - UINT32_MAX);
+    struct tb_tally any = {UINT64_MAX};
+    expect_number("above any number", tb_tally_take(&any, UINT64_MAX, UINT32_MAX), 0);
+    expect_number("below any number", tb_tally_take(&any, 0, UINT32_MAX), 1);
+    expect_number("any number stays", any.most, UINT64_MAX);
+}
+
 /* The run of the four records: where there is room for it, and where there would be only if out
  * need not be as long as the pile. */
 static void expect_run(const uint8_t *pile) {
@@ -758,6 +823,19 @@ static void expect_reports(uint8_t *pile) {
     expect_reported("tb_check_report", tb_check_report(pile, n, answers, m), 0, 0, 2, 3);
     expect_reported("tb_check_report of a record",
                     tb_check_report(pile, TB_RECORD_LENGTH, answers, 2), 18, 0, 0, 0);
+    expect_number("tb_pile_contradicts", tb_pile_contradicts(pile, n, answers, m), 0);
+    expect_number("tb_pile_contradicts of three records",
+                  tb_pile_contradicts(pile, 3 * TB_RECORD_LENGTH, answers, 6), 18);
+    answers[2 * 3] = 0;
+    expect_number("tb_pile_contradicts without the last",
+                  tb_pile_contradicts(pile, n, answers, m), 18);
+    answers[2 * 3] = 1;
+    answers[2 * 2] = 0;
+    expect_number("tb_pile_contradicts past a refused record",
+                  tb_pile_contradicts(pile, n, answers, m), 0);
+    expect_cut("tb_cut_run through a refused record",
+               tb_cut_run(pile, n, answers, m, out, sizeof out), 18, 0, 0);
+    answers[2 * 2] = 1;
     answers[2 * 1 + 1] = 0;
     expect_reported("a refused record", tb_check_report(pile, n, answers, m), 13, 1, 0, 0);
     expect_cut("tb_cut_run beside a refused record",
@@ -777,6 +855,8 @@ static void expect_reports(uint8_t *pile) {
                     0);
     expect_cut("tb_cut_run without a link", tb_cut_run(pile, n, answers, m, out, sizeof out), 18, 0,
                0);
+    expect_number("tb_pile_contradicts without a link",
+                  tb_pile_contradicts(pile, n, answers, m), 0);
     pile[RAND_AT] = 1;
     expect_reported("a first rand", tb_check_report(pile, n, answers, m), 17, 0, 0, 0);
     last[GAP_AT] = 1;
@@ -836,6 +916,7 @@ int main(void) {
     expect_lookups();
     expect_old_windows();
     expect_piles();
+    expect_tally();
     expect_all_words();
     expect_text(tb_delegation_text, packet, "RoughTime v1 delegation signature", packet + DELE_AT,
                 DELE_LENGTH);

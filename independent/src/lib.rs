@@ -26,6 +26,7 @@ pub mod hash;
 pub mod making;
 pub mod message;
 pub mod packet;
+pub mod pairs;
 pub mod pieces;
 pub mod pile;
 pub mod place;

@@ -2,7 +2,7 @@
 //!
 //! Each function here calls the function of the proved library that has the same name after `tb_`,
 //! and adds nothing to it; [`cut`], [`Record`] and [`Pile`] only lay out bytes beside such calls,
-//! and [`Sha512`] holds the state between those that end in `_fields`. The proofs speak of the
+//! and [`Sha512`] and [`Tally`] hold the state between those that end in `_fields` or `_field`. The proofs speak of the
 //! library's own code; that these few lines declare and call it rightly is shown by the tests
 //! alone, which compare every function with an implementation that shares no code with the library.
 //!
@@ -41,6 +41,7 @@ mod refusal;
 mod servers;
 mod signing;
 mod stamps;
+mod tally;
 mod trees;
 
 pub use check::{check_response, may_use, same_delegation, Checked, Window};
@@ -57,6 +58,7 @@ pub use refusal::{PacketRefusal, Refusal};
 pub use servers::{find_server, Found, List, SERVER_LENGTH};
 pub use signing::{delegation_text, response_text, signed_parts, SignedParts, LONGEST_TEXT};
 pub use stamps::{old_window, OldWindow};
+pub use tally::{pile_contradicts, Tally};
 pub use trees::{
     leads, path, path_from, root, rows, Placed, Rooted, MOST_LEAVES, MOST_ROWS_LENGTH,
 };

@@ -25,6 +25,14 @@ pub struct tb_running {
     pub count: u64,
 }
 
+/// What is kept of windows as they come. It is the caller's, and any content does no harm.
+#[repr(C)]
+#[derive(Clone, Copy, Debug, PartialEq, Eq)]
+pub struct tb_tally {
+    /// The largest MIDP - RADI so far, but not below 0.
+    pub most: u64,
+}
+
 /// What [`tb_read_request`] answers.
 #[repr(C)]
 #[derive(Clone, Copy, Debug, PartialEq, Eq)]
@@ -369,6 +377,17 @@ extern "C" {
         later_midp: u64,
         later_radi: u32,
     ) -> bool;
+    /// Whether two valid records of a pile contradict each other: 0, 15 or 18.
+    pub fn tb_pile_contradicts(
+        pile: *const u8,
+        pile_len: usize,
+        answers: *const u8,
+        answers_len: usize,
+    ) -> u32;
+    /// Before any window.
+    pub fn tb_tally_start_field(most: &mut u64);
+    /// Takes one window more: whether an earlier one contradicts it.
+    pub fn tb_tally_take_field(most: &mut u64, midp: u64, radi: u32) -> bool;
     /// Checks whether a pile is a report.
     pub fn tb_check_report(
         pile: *const u8,
