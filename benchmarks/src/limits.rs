@@ -31,6 +31,9 @@ pub const PATH: f64 = 1.02;
 /// A path that is read out of the rows against one hash, of which it needs none.
 pub const PATH_FROM: f64 = 0.5;
 
+/// One pass over the windows of a full pile against every pair of them, of which there are 120.
+pub const ONE_PASS: f64 = 0.5;
+
 impl Limits {
     /// Those that the environment sets, or else the defaults.
     pub fn read() -> Self {

@@ -14,6 +14,7 @@ mod piles;
 mod sides;
 mod timing;
 mod trees;
+mod windows;
 
 use limits::Limits;
 use sides::{Side, Subject, SIDES};
@@ -54,6 +55,14 @@ const TREES: Table = Table {
     sides: &[Side::Ours, Side::Hashing, Side::Rows, Side::Independent],
     digits: 3,
     show: |_, seconds| seconds * 1e6,
+};
+
+const WINDOWS: Table = Table {
+    width: 40,
+    unit: "ns",
+    sides: &[Side::Ours, Side::Pairs],
+    digits: 1,
+    show: |_, seconds| seconds * 1e9,
 };
 
 impl Table {
@@ -124,6 +133,13 @@ fn main() -> ExitCode {
     for plan in &piles::plans() {
         PILES.report(plan.subject(&limits), &mut above);
     }
+    println!(
+        "windows that are known already, of which only the last contradicts one; limit: ours/pairs \
+         {}",
+        limits::ONE_PASS
+    );
+    println!("{}", WINDOWS.header());
+    WINDOWS.report(windows::subject(), &mut above);
     println!(
         "trees by their leaves; the hashing is the parents that a tree needs, or one for path_from"
     );

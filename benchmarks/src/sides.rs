@@ -16,6 +16,8 @@ pub enum Side {
     Sha2,
     /// Ours too, over the whole message at once.
     Whole,
+    /// Ours too, every pair of windows compared.
+    Pairs,
 }
 
 impl Side {
@@ -27,6 +29,7 @@ impl Side {
             Side::Rows => "rows",
             Side::Sha2 => "sha2",
             Side::Whole => "whole",
+            Side::Pairs => "pairs",
         }
     }
 }

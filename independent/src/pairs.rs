@@ -26,8 +26,8 @@ pub fn any(windows: &[Told]) -> bool {
 /// Whether some two valid records of a pile do, whatever stands between them.
 pub fn in_pile(pile: &[u8], answers: &[u8]) -> Result<(), Refusal> {
     let records = pile::read(pile, answers)?;
-    let windows = records.iter().filter_map(|record| record.judge().ok());
-    let told: Vec<Told> = windows.map(|window| (window.midp, window.radi)).collect();
+    let valid = records.iter().filter_map(|record| record.judge().ok());
+    let told: Vec<Told> = valid.map(|valid| (valid.window.midp, valid.window.radi)).collect();
     any(&told).then_some(()).ok_or(Refusal::NoContradiction)
 }
 

@@ -1,13 +1,12 @@
 -- More evidence never acquits: a report to which valid, linked records are added is accepted still, and names a pair
 -- that is no further apart; and where some run of a pile convicts, the cutter's run in the pile with any records added,
 -- damaged or not, is no longer, and its answer never that there is none.
-use mathlib.Core.Path.{_≡_, sym, subst, ap}
+use mathlib.Core.Path.{_≡_, sym, subst}
 use mathlib.Core.Bool.{Bool, not}
 use mathlib.Core.List.{List, _++_}
-use Prim.Native.Nat.{ℕ, zero, suc, _+_, _-_, _≤_, _<_}
+use Prim.Native.Nat.{ℕ, _≤_}
 use native.Mathlib.Omega.{arith}
 use lib.Dec.{T}
-use lib.ListN.{length}
 use mir.Facts.{T-not}
 use Rattle.laws.specs.Least.{Never}
 use Rattle.laws.proofs.Split.{split}
@@ -24,9 +23,8 @@ use Rattle.report.specs.declared.Report.the-variants as report
 use Rattle.report.specs.declared.Taken.{Taken}
 use Rattle.report.specs.declared.Taken.the-variants as taken
 use Rattle.report.proofs.Runs.{joined-later}
-use Rattle.report.proofs.Says.{not-not}
 use Rattle.grown.specs.Grown.{OneMore, Adds, Joins, NoFurther, NoLonger}
-use Rattle.grown.proofs.Kept.{no-fewer, verdict-kept, linked-kept, joined-kept, one-adds}
+use Rattle.grown.proofs.Kept.{no-fewer, verdict-kept, linked-kept, joined-kept, count-more, one-adds}
 
 -- a run that convicts among n records convicts among more
 wider : {v : ℕ → Verdict} {l : ℕ → Bool} {n m a b : ℕ} → n ≤ m → Convicts v l n a b → Convicts v l m a b
@@ -97,3 +95,29 @@ module _ {pile answers more said : List ℕ} (adds : Adds pile answers more said
         none-refused (s .1 .0) k (t .1 .0 .inside) (t .1 .0 .holds)
     still-accepted i j s (report.Unlinked k) t = none-loose (s .1 .1) k (t .1 .1 .inside) (t .1 .1 .holds)
     still-accepted i j s report.Clear t = t .1 .2 i j (pair-still i j (s .1 .2 .holds))
+
+-- ---- of one record, as the request has it
+
+module _ {pile answers r said : List ℕ} (one : OneMore pile answers r said) where
+  -- where it is valid and linked, so is each record that was added
+  one-joins : T (valid (judged (pile ++ r) (answers ++ said) (recordsIn pile))) → T (linkedOf (pile ++ r) (recordsIn pile))
+      → Joins pile answers r said
+  one-joins v l = record {
+    all-valid = λ k u m.
+        let e : recordsIn pile ≡ k = omega (arith, count-more one) in
+        subst (λ (x : ℕ). T (valid (judged (pile ++ r) (answers ++ said) x))) e v;
+    all-linked = λ k u m.
+        let e : recordsIn pile ≡ k = omega (arith, count-more one) in
+        subst (λ (x : ℕ). T (linkedOf (pile ++ r) x)) e l;
+  }
+
+  -- a report with one valid, linked record more is accepted, and its pair no further apart;
+  pub one-accepted : T (valid (judged (pile ++ r) (answers ++ said) (recordsIn pile)))
+      → T (linkedOf (pile ++ r) (recordsIn pile)) → (i j : ℕ) → Reports pile answers (report.Pair i j) → (x : Report)
+      → Reports (pile ++ r) (answers ++ said) x → NoFurther i j x
+  one-accepted v l = still-accepted (one-adds one) (one-joins v l)
+
+  -- and with any record more, the cutter's run is no longer than before, whether the pile is a report or not
+  pub one-no-longer : (room i j : ℕ) → Takes pile answers room (taken.Run i j) → (again : ℕ) (x : Taken)
+      → Takes (pile ++ r) (answers ++ said) again x → NoLonger i j (pile ++ r) again x
+  one-no-longer room i j t = run-no-longer (one-adds one) i j (t .2 .holds)

@@ -1,13 +1,11 @@
 -- Records that are added at the end leave the first ones as they are: their bytes, answers, verdicts, links, and the
 -- first rand.
 use mathlib.Core.Path.{_≡_, sym, ap, ap₂, _∙_}
-use mathlib.Core.Bool.{Bool, false, cond}
-use mathlib.Core.List.{List, [], _∷_, _++_}
+use mathlib.Core.List.{List, _++_}
 use Prim.Native.Nat.{ℕ, zero, suc, _+_, _-_, _*_, _≤_, _<_}
 use native.Mathlib.Omega.{arith}
 use borrow.Author.Tests.{ne-eqb, lt-leb}
-use lib.Dec.{eqb}
-use lib.ListN.{length, take, drop, getD, length-append, length-drop, List·getD-append}
+use lib.ListN.{length, take, drop, length-append, length-drop, List·getD-append}
 use lib.Seq.{take-append-le, drop-append-le, getD-append-add}
 use Rattle.laws.specs.Zeros.{zeros}
 use Rattle.laws.proofs.Any.{any-not, any-none}
@@ -15,7 +13,7 @@ use Rattle.laws.proofs.Split.{split}
 use Rattle.pile.specs.Pile.{recordsIn, recordAt, randIn, saidYes}
 use Rattle.pile.specs.Valid.{verdictAt}
 use Rattle.pile.specs.Links.{follows, unlinkable, linkedOf, firstRandZero}
-use Rattle.pile.specs.Meaning.{WholePile, GoodPile}
+use Rattle.pile.specs.Meaning.{WholePile}
 use Rattle.pile.proofs.Exactly.{whole-exactly, judged-at}
 use Rattle.report.specs.Report.{judged, joined}
 use Rattle.report.proofs.Exactly.{joined-first}

@@ -1,21 +1,17 @@
 -- The same in document 01's own words: where a pile is a report and a valid, linked record is added at its end, the
 -- whole is a report. Validity has request P4's lines, since `ValidRecord` has.
-use mathlib.Core.Path.{_≡_, sym, ap, ap₂, subst, _∙_}
+use mathlib.Core.Path.{_≡_, sym, ap, subst, _∙_}
 use mathlib.Core.List.{List, _++_}
-use Prim.Native.Nat.{ℕ, zero, suc, _+_, _-_, _*_, _≤_, _<_}
-use native.Mathlib.Nat.{add-zero}
+use Prim.Native.Nat.{ℕ, _+_, _-_, _*_, _≤_, _<_}
 use native.Mathlib.Omega.{arith}
-use lib.Dec.{T}
-use lib.ListN.{length, take, drop, getD, length-append}
+use lib.ListN.{length, take, drop, length-append}
 use lib.Seq.{take-all, drop-append-seam}
 use Rattle.laws.proofs.Split.{split}
-use Rattle.verdict.specs.declared.Window.{Window}
-use Rattle.pile.specs.Pile.{recordsIn, recordAt, responsePacket}
+use Rattle.pile.specs.Pile.{recordsIn, recordAt}
 use Rattle.pile.specs.Valid.{windowAt}
 use Rattle.pile.specs.Meaning.{ValidRecord, IsLinked}
-use Rattle.runs.specs.Clash.{clash}
 use Rattle.report.specs.Meaning.{IsReport}
-use Rattle.report.proofs.Behind.{Alike, valid-alike}
+use Rattle.report.proofs.Behind.{valid-alike}
 use Rattle.grown.specs.Grown.{Adds}
 use Rattle.grown.proofs.Kept.{no-fewer, record-kept, answer-kept}
 

@@ -4,7 +4,6 @@ use mathlib.Core.Bool.{Bool, true}
 use mathlib.Core.Logic.{_↔_}
 use Prim.Native.Nat.{ℕ, _<_}
 use native.Mathlib.Omega.{arith}
-use lib.Dec.{T}
 use Rattle.laws.specs.Least.{least}
 use Rattle.laws.proofs.Holds.{holds-exactly}
 use Rattle.laws.proofs.Least.{somewhere-at, somewhere-here, somewhere-same}

@@ -58,9 +58,6 @@ stopped-less m (suc r) = go (ltb m (suc r)) refl
     go false e = refl
 
 module _ (w : ℕ → Window) where
-  said : ℕ → Verdict
-  said k = Valid (w k)
-
   -- the largest of the windows 0 to k is what is kept after them, but for what is below 0
   stopped-largest : (k : ℕ) → stopped (largest w k) ≡ mostOf (λ i. Valid (w i)) (suc k)
   unfolding largest mostOf

@@ -19,6 +19,7 @@ use trawlbeacon::{Checked, Run, Window};
 
 const PILES: &str = "piles";
 const RECORDS: &str = "records";
+const CONTRADICTIONS: &str = "contradictions";
 const REPORTS: &str = "reports";
 const CUTS: &str = "cuts";
 const RUNS: &str = "runs";
@@ -37,6 +38,13 @@ impl Due {
             Due::Known(_) => Some(Ok(())),
             Due::Refused => Some(Err(Bad { code: 15, at: None })),
             Due::Unknown => None,
+        }
+    }
+
+    fn contradiction(&self) -> Option<Result<(), Bad>> {
+        match self {
+            Due::Known(truth) if !truth.contradiction() => Some(Err(Bad { code: 18, at: None })),
+            _ => self.code(),
         }
     }
 
@@ -110,7 +118,7 @@ struct Comparison {
 impl Comparison {
     fn new() -> Self {
         Comparison {
-            tally: Tally::new(&[PILES, RECORDS, REPORTS, CUTS]),
+            tally: Tally::new(&[PILES, RECORDS, CONTRADICTIONS, REPORTS, CUTS]),
             runs: Tally::new(&[RUNS]),
             random: Xorshift::new(0x5eed_0501),
             group: "",
@@ -168,6 +176,7 @@ impl Comparison {
         self.same(PILES, asked, &asked.code(), due.code());
         self.ask_records(asked, &due);
         self.ask_links(asked, &due);
+        self.same(CONTRADICTIONS, asked, &asked.contradiction(), due.contradiction());
         let both = asked.report();
         let at = both.independent.0.err().and_then(|(_, _, at)| at);
         self.same(REPORTS, asked, &both, due.report(at));
@@ -522,6 +531,7 @@ fn enough(seen: &Comparison) {
     assert!(seen.piles >= 20_000, "there were {} piles", seen.piles);
     seen.tally.at_least(1_000, PILES, [0, 15]);
     seen.tally.at_least(300, RECORDS, 0..=16);
+    seen.tally.at_least(1_000, CONTRADICTIONS, [0, 15, 18]);
     seen.tally.at_least(50, REPORTS, 0..=18);
     seen.tally.at_least(1_000, CUTS, [0, 15, 18, 19]);
     seen.runs.at_least(20, RUNS, 2..=16);

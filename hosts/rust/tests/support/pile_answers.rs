@@ -5,7 +5,7 @@ use super::pairs::same_checked;
 use independent::check;
 use independent::place::Place;
 use independent::refusal::Refusal;
-use independent::{pile, report};
+use independent::{pairs, pile, report};
 use trawlbeacon::{raw, Checked, Pair, Run};
 
 /// That a pile is one passes without another word.
@@ -94,6 +94,15 @@ impl Asked<'_> {
         Both {
             ours: trawlbeacon::first_rand_zero(self.pile),
             independent: pile::first_rand_zero(self.pile),
+        }
+    }
+
+    /// Whether two of its valid records contradict each other.
+    pub fn contradiction(self) -> Both<Result<(), Bad>> {
+        Both {
+            ours: trawlbeacon::pile_contradicts(self.pile, self.answers).map_err(Bad::from),
+            independent: pairs::in_pile(self.pile, self.answers)
+                .map_err(|refusal| placed(refusal, None)),
         }
     }
 

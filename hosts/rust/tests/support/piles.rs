@@ -108,6 +108,15 @@ pub fn contradicts(earlier: &Window, later: &Window) -> bool {
 }
 
 impl Truth {
+    /// Whether two valid records contradict each other, whatever stands between them.
+    pub fn contradiction(&self) -> bool {
+        let valid: Vec<&Window> = self.verdicts.iter().flatten().collect();
+        valid
+            .iter()
+            .enumerate()
+            .any(|(place, later)| valid[..place].iter().any(|earlier| contradicts(earlier, later)))
+    }
+
     /// The run that convicts. Every pair that contradicts each other across valid and linked
     /// records is found, and then the closest is taken: a run is the shortest only where its ends
     /// are such a pair.

@@ -1,6 +1,5 @@
 -- `tally::passing::any_contradiction` meets its contract. No two of the records before record k contradict, and the
 -- state is what is kept of them.
-use mathlib.Core.Path.{_≡_}
 use Prim.Native.Nat.{_-_, _≤_}
 use native.Mathlib.Omega.{arith}
 use Rattle.runs.specs.Convict.{verdictIn}

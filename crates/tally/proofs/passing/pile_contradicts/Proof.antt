@@ -3,9 +3,8 @@ use mathlib.Core.Path.{_≡_, refl, ap, _∙_}
 use mathlib.Core.Bool.{not}
 use Prim.Native.Nat.{min}
 use native.Mathlib.Omega.{arith}
-use Rattle.laws.specs.First.{whenOf}
 use Rattle.laws.proofs.First.{says-0, says-more, is-empty, test-false, test-true, quiet-of}
-use Rattle.refusal.specs.Refusal.{refusal, refusals, when}
+use Rattle.refusal.specs.Refusal.{refusal, refusals}
 use Rattle.pile.specs.Meaning.{GoodPile}
 use Rattle.pile.specs.Pile.{recordsIn, pileCode}
 use Rattle.pile.proofs.Exactly.{pile-exactly}
