@@ -4,7 +4,7 @@ use crate::limits;
 use crate::sides::{work, Side, Subject};
 use independent::pile;
 use std::hint::black_box;
-use trawlbeacon::{raw, Tally};
+use trawlbeacon::Tally;
 
 /// The windows of a full pile. Only the first and the last contradict each other, so that neither
 /// check ends before the last window.
@@ -21,11 +21,8 @@ fn one_pass(told: &[(u64, u32)]) -> bool {
 }
 
 fn every_pair(told: &[(u64, u32)]) -> bool {
-    told.iter().enumerate().any(|(place, (later, later_radi))| {
-        told[..place].iter().any(|(midp, radi)| {
-            // SAFETY: no pointer is passed.
-            unsafe { raw::tb_contradicts(*midp, *radi, *later, *later_radi) }
-        })
+    (0..told.len()).any(|place| {
+        told[..place].iter().any(|earlier| trawlbeacon::contradicts(*earlier, told[place]))
     })
 }
 

@@ -3,32 +3,23 @@
 
 use crate::pile;
 use crate::refusal::Refusal;
-
-/// What a window is told by: MIDP and RADI.
-pub type Told = (u64, u32);
-
-/// The earlier window lies wholly above the later one: MIDP - RADI of the one is above MIDP + RADI
-/// of the other, in whole numbers that no end of time cuts off.
-pub fn contradicts(earlier: Told, later: Told) -> bool {
-    i128::from(earlier.0) - i128::from(earlier.1) > i128::from(later.0) + i128::from(later.1)
-}
+use crate::report::{contradicts, time, Time};
 
 /// Whether one of the windows `before` contradicts the one that comes after them.
-pub fn an_earlier(before: &[Told], later: Told) -> bool {
+pub fn an_earlier(before: &[Time], later: Time) -> bool {
     before.iter().any(|earlier| contradicts(*earlier, later))
 }
 
 /// Whether some two windows contradict each other, the earlier the later.
-pub fn any(windows: &[Told]) -> bool {
+pub fn any(windows: &[Time]) -> bool {
     (0..windows.len()).any(|place| an_earlier(&windows[..place], windows[place]))
 }
 
 /// Whether some two valid records of a pile do, whatever stands between them.
 pub fn in_pile(pile: &[u8], answers: &[u8]) -> Result<(), Refusal> {
     let records = pile::read(pile, answers)?;
-    let valid = records.iter().filter_map(|record| record.judge().ok());
-    let told: Vec<Told> = valid.map(|valid| (valid.window.midp, valid.window.radi)).collect();
-    any(&told).then_some(()).ok_or(Refusal::NoContradiction)
+    let valid: Vec<Time> = records.iter().filter_map(|record| time(*record).ok()).collect();
+    any(&valid).then_some(()).ok_or(Refusal::NoContradiction)
 }
 
 #[cfg(test)]

@@ -17,7 +17,7 @@ pub fn contradicts(earlier: Time, later: Time) -> bool {
 }
 
 /// What a record tells of the time, where it is valid.
-fn time(record: Answered) -> Result<Time, Refusal> {
+pub(crate) fn time(record: Answered) -> Result<Time, Refusal> {
     record.judge().map(|valid| (valid.window.midp, valid.window.radi))
 }
 

@@ -110,7 +110,7 @@ pub fn contradicts(earlier: &Window, later: &Window) -> bool {
 impl Truth {
     /// Whether two valid records contradict each other, whatever stands between them.
     pub fn contradiction(&self) -> bool {
-        let valid: Vec<&Window> = self.verdicts.iter().flatten().collect();
+        let valid: Vec<Window> = self.verdicts.iter().flatten().map(|valid| valid.window).collect();
         valid
             .iter()
             .enumerate()
