@@ -522,9 +522,9 @@ bool tb_contradicts(uint64_t earlier_midp, uint32_t earlier_radi, uint64_t later
                     uint32_t later_radi);
 
 /* 0 where some two valid records of a pile contradict each other, the earlier the later; 15 where
- * the pile or its answers are not what they must be; 18 where no two do. It goes through the records
- * once. Links and rands play no part, nor do bad records between the two: 0 does not say that a run
- * convicts by itself. */
+ * the pile or its answers are not what they must be; 18 where no two do. It goes through the
+ * records once. Links and rands play no part, nor do bad records between the two: 0 does not say
+ * that a run convicts by itself. */
 uint32_t tb_pile_contradicts(const uint8_t *pile, size_t pile_len, const uint8_t *answers,
                              size_t answers_len);
 
