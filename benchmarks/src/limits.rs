@@ -32,7 +32,7 @@ pub const PATH: f64 = 1.02;
 pub const PATH_FROM: f64 = 0.5;
 
 /// One pass over the windows of a full pile against every pair of them, of which there are 120.
-pub const ONE_PASS: f64 = 0.5;
+pub const ONE_PASS: f64 = 0.25;
 
 impl Limits {
     /// Those that the environment sets, or else the defaults.
