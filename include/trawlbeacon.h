@@ -50,7 +50,7 @@ extern "C" {
 
 /* The version of this header: a change of the first number breaks callers. */
 #define TB_VERSION_MAJOR 0
-#define TB_VERSION_MINOR 9
+#define TB_VERSION_MINOR 10
 
 /* ---- Codes ---- */
 
@@ -591,7 +591,7 @@ struct tb_cut tb_cut_run(const uint8_t *pile, size_t pile_len, const uint8_t *an
  * Captures of the 2021 draft (May 2021) tell the time in another form, which tb_old_window turns
  * into seconds. It does no more: the library reads no old packet and checks nothing of one. An old
  * window is what a stamp says and no evidence. It enters no pile and no report, and tb_contradicts
- * is not for its ends.
+ * and tb_tally_take are not for its ends.
  *
  * How a host reads the stamp out of an old response: the packet is ROUGHTIM, a length and a
  * message, and a message is N, N - 1 offsets, N tags and the values, all as today; the value of

@@ -8,18 +8,19 @@ use crate::{raw, Refusal};
 /// and enters no pile and no report.
 ///
 /// ```
-/// use trawlbeacon::{contradicts, old_window};
+/// use trawlbeacon::{may_use, old_window, Window};
 ///
 /// let old = old_window(40_587 << 40, 0)?;
-/// contradicts((0, 1), (old.low, 1));
+/// let window = Window { midp: 1, radi: 1, low: 0, high: 2, mint: 0, maxt: 2 };
+/// may_use(&window, old.high);
 /// # Ok::<(), trawlbeacon::Refusal>(())
 /// ```
 ///
 /// ```compile_fail,E0308
-/// use trawlbeacon::{contradicts, old_window};
+/// use trawlbeacon::{may_use, old_window};
 ///
 /// let old = old_window(40_587 << 40, 0)?;
-/// contradicts((0, 1), old);
+/// may_use(&old, old.high);
 /// # Ok::<(), trawlbeacon::Refusal>(())
 /// ```
 #[derive(Clone, Copy, Debug, PartialEq, Eq)]

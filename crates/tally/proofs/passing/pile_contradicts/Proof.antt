@@ -1,7 +1,6 @@
 -- `tally::passing::pile_contradicts` meets its contract. The verdicts of the array are those on the pile's records.
 use mathlib.Core.Path.{_≡_, refl, ap, _∙_}
 use mathlib.Core.Bool.{not}
-use Prim.Native.Nat.{min}
 use native.Mathlib.Omega.{arith}
 use Rattle.laws.proofs.First.{says-0, says-more, is-empty, test-false, test-true, quiet-of}
 use Rattle.refusal.specs.Refusal.{refusal, refusals}
@@ -39,9 +38,8 @@ told-of c =
     let start = passed .before .before .before .before .before in
     let p = start .args .pile .now in
     let vs = verdictIn (c .before .verdicts-of .result) in
-    let whole : min (recordsIn p) 16 ≡ recordsIn p = omega (arith, good-of passed .pile-whole .to) in
     c .any-contradiction .ensures
-    ∙ ap (everyPair vs) whole
+    ∙ ap (everyPair vs) (omega (arith, good-of passed .pile-whole .to))
     ∙ every-pair-same vs (judged p (start .args .answers .now)) (recordsIn p) (c .before .verdicts-of .ensures)
 
 returns-2 : tie.Need-returns-2
