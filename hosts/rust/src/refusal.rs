@@ -239,6 +239,13 @@ impl From<PacketRefusal> for Refusal {
     }
 }
 
+impl From<Refusal> for PacketRefusal {
+    /// A refusal of a call that reads no packet, and so names no byte.
+    fn from(refusal: Refusal) -> PacketRefusal {
+        PacketRefusal { refusal, at: None }
+    }
+}
+
 impl fmt::Display for PacketRefusal {
     fn fmt(&self, f: &mut fmt::Formatter) -> fmt::Result {
         match self.at {
