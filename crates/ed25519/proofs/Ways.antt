@@ -1,0 +1,77 @@
+-- A law for each way out of `check` and `verify_parts`, and what is known of S and k in limbs.
+use Prim.Native.Nat.{ℕ, _+_, _%_, _^_, _≤_, _<_}
+use mathlib.Core.Path.{_≡_, refl, sym, ap, _∙_}
+use mathlib.Core.Bool.{Bool, true, false}
+use mathlib.Core.List.{List, _++_}
+use native.Mathlib.Omega.{arith}
+use native.Mathlib.Nat.{mod-eq-of-lt, mod-lt, lt-trans}
+use borrow.Author.Tests.{ltb-true, lt-ltb, le-ltb, eq-eqb, ne-eqb}
+use lib.Dec.{ltb, lit<}
+use lib.ListN.{length, take, drop}
+use Rattle.laws.specs.Numbers.{le}
+use Rattle.digits.specs.Digits.{value, Each}
+use Rattle.field.specs.Field.{p}
+use Rattle.field.specs.Limbs.{radix}
+use Rattle.residue.specs.Residue.{Low}
+use Rattle.residue.proofs.Reducing.{each-below}
+use Rattle.scalar.specs.Order.{L}
+use Rattle.scalar.proofs.Steps.{L-pos}
+use Rattle.decode.specs.Decoding.{Decoding, decodeOf}
+use Rattle.ed25519.specs.Verification.{kOf, groupEquation, accepts, verifies, verifiesParts}
+
+-- a number modulo L has limbs below the radix
+L-p : L < p
+unfolding L p
+L-p = lit< tt
+
+pub scalar-each : (l : List ℕ) (x : ℕ) → Low l → value radix l ≡ x % L → Each 67108863 l
+scalar-each l x h e = each-below l h (rw e (lt-trans (mod-lt x L-pos) L-p))
+
+pub hash-each : (l r a m : List ℕ) → Low l → value radix l ≡ kOf r a m → Each 67108863 l
+unfolding kOf
+hash-each l r a m h e = scalar-each l _ h e
+
+-- `check`: v is the number in the bytes s
+module _ (key m r s : List ℕ) (A R : Decoding) (ea : A ≡ decodeOf key) where
+  pub check-1 : A .ok ≡ false → false ≡ accepts key m r s
+  check-1 t = rw (← ea, t)
+
+  module _ (ta : A .ok ≡ true) (er : R ≡ decodeOf r) where
+    pub check-2 : R .ok ≡ false → false ≡ accepts key m r s
+    check-2 t = rw (← ea, ta, ← er, t)
+
+    module _ (tr : R .ok ≡ true) (b : Bool) (v : ℕ) (ev : le 32 s 0 ≡ v) (eb : b ≡ ltb v L) where
+      pub check-3 : b ≡ false → false ≡ accepts key m r s
+      check-3 t = let e : ltb v L ≡ false = sym eb ∙ t in rw (← ea, ta, ← er, tr, ev, e)
+
+      pub check-4 : (z : Bool) (S k : ℕ) → b ≡ true → S ≡ v % L → k ≡ kOf r key m
+          → z ≡ groupEquation (A .point) (R .point) S k → z ≡ accepts key m r s
+      check-4 z S k t f g h =
+          let e : ltb v L ≡ true = sym eb ∙ t in
+          let n : S ≡ v = f ∙ mod-eq-of-lt (ltb-true v L e) in
+          rw (← ea, ta, ← er, tr, ev, e) (h ∙ (rw (n, g)))
+
+-- `verify_parts`
+module _ (key context text sig : List ℕ) where
+  pub parts-1 : 2 ^ 64 ≤ 64 + (length context + length text) → false ≡ verifiesParts key context text sig
+  unfolding verifiesParts
+  parts-1 h = rw (le-ltb (64 + (length context + length text)) (2 ^ 64) h)
+
+  module _ (fits : 64 + (length context + length text) < 2 ^ 64) where
+    -- the text in two parts is the text
+    pub parts-whole : verifiesParts key context text sig ≡ verifies key (context ++ text) sig
+    unfolding verifiesParts
+    parts-whole = rw (lt-ltb (64 + (length context + length text)) (2 ^ 64) fits)
+
+    pub parts-2 : (length key ≡ 32 → ⊥) → false ≡ verifiesParts key context text sig
+    unfolding verifies
+    parts-2 h = rw (parts-whole, ne-eqb (length key) 32 h)
+
+    pub parts-3 : length key ≡ 32 → (length sig ≡ 64 → ⊥) → false ≡ verifiesParts key context text sig
+    unfolding verifies
+    parts-3 g h = rw (parts-whole, eq-eqb (length key) 32 g, ne-eqb (length sig) 64 h)
+
+    pub parts-4 : (b : Bool) → length key ≡ 32 → length sig ≡ 64
+        → b ≡ accepts key (context ++ text) (take 32 sig) (drop 32 sig) → b ≡ verifiesParts key context text sig
+    unfolding verifies
+    parts-4 b g h e = rw (parts-whole, eq-eqb (length key) 32 g, eq-eqb (length sig) 64 h) e

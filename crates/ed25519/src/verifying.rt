@@ -1,0 +1,69 @@
+// The verification (RFC 8032, 5.1.7; verify of section 6).
+ghost use mathlib.Core.Path.{_≡_};
+ghost use mathlib.Core.List.{_++_};
+ghost use Prim.Native.Nat.{_+_, _^_, _<_};
+ghost use lib.ListN.{length};
+ghost use Rattle.digits.specs.Digits.{value, Each};
+ghost use Rattle.field.specs.Limbs.{radix};
+ghost use Rattle.curve.specs.Coords.{ptOf, Good};
+ghost use Rattle.ed25519.specs.Verification.{groupEquation, accepts, verifies, verifiesParts};
+use super::hashing::hash;
+use curve::Point;
+use field::Fe;
+
+// The most bytes that a text may have: with R and A as many as a message in pieces may, 2^64 - 1.
+const MOST: usize = 0xffff_ffff_ffff_ffbf;
+
+// Whether [S]B = R + [k]A.
+fn group_equation(a: Point, r: Point, s: Fe, k: Fe) -> bool
+    requires { ⌜ Good a × Good r × Each 67108863 s × Each 67108863 k ⌝ }
+    ensures { λ b. ⌜ b ≡ groupEquation (ptOf a) (ptOf r) (value radix s) (value radix k) ⌝ }
+{
+    curve::point_equal(basepoint::times_base(s), curve::add(r, curve::times(k, a)))
+}
+
+// Of a key and the halves of a signature.
+fn check(key: &[u8], context: &[u8], text: &[u8], r: &[u8], s: &[u8]) -> bool
+    requires { ⌜ (length (now key) ≡ 32) × (length (now r) ≡ 32) × (length (now s) ≡ 32)
+        × (64 + (length (now context) + length (now text)) < 2 ^ 64) ⌝ }
+    ensures { λ b. ⌜ b ≡ accepts (now (key .entry)) (now (context .entry) ++ now (text .entry)) (now (r .entry))
+        (now (s .entry)) ⌝ }
+{
+    let a = decode::decode(key);
+    if a.ok {
+        let q = decode::decode(r);
+        if q.ok {
+            if scalar::below_order(s) {
+                let ap = a.point;
+                let qp = q.point;
+                return group_equation(ap, qp, scalar::modulo(s), hash(r, key, context, text));
+            }
+        }
+    }
+    false
+}
+
+// Whether the signature of the text that is context and then value verifies under the key.
+pub fn verify_parts(key: &[u8], context: &[u8], value: &[u8], signature: &[u8]) -> bool
+    ensures { λ b. ⌜ b ≡ verifiesParts (now (key .entry)) (now (context .entry)) (now (value .entry))
+        (now (signature .entry)) ⌝ }
+{
+    if value.len() > MOST - context.len() {
+        return false;
+    }
+    if key.len() != 32 {
+        return false;
+    }
+    if signature.len() != 64 {
+        return false;
+    }
+    check(key, context, value, &signature[..32], &signature[32..])
+}
+
+// Whether the signature of the text verifies under the key.
+pub fn verify(key: &[u8], text: &[u8], signature: &[u8]) -> bool
+    ensures { λ b. ⌜ b ≡ verifies (now (key .entry)) (now (text .entry)) (now (signature .entry)) ⌝ }
+{
+    let none = [0u8; 1];
+    verify_parts(key, &none[..0], text, signature)
+}
