@@ -50,7 +50,7 @@ extern "C" {
 
 /* The version of this header: a change of the first number breaks callers. */
 #define TB_VERSION_MAJOR 0
-#define TB_VERSION_MINOR 10
+#define TB_VERSION_MINOR 11
 
 /* ---- Codes ---- */
 
@@ -191,6 +191,10 @@ static inline const char *tb_code_text(uint32_t code) {
  * aarch64. tb_path_from takes next to nothing, and tb_leads 1,456. */
 #define TB_TREE_STACK 40960
 
+/* Bytes of stack that are enough for a verification, which has a table of 10,240 numbers there:
+ * 47,720 at the most, measured on aarch64. hosts/c/stack.c measures it anew. */
+#define TB_VERIFY_STACK 65536
+
 /* Bytes of a record of a list of servers. */
 #define TB_SERVER_LENGTH 64
 
@@ -327,10 +331,24 @@ struct tb_wrote tb_write_request(const uint8_t key[32], const uint8_t nonce[32],
 
 /* ---- Signatures ----
  *
- * The library checks no signature: the caller does, with an Ed25519 of its own, and says in
- * tb_check_response what came out. Both questions go by what the library hands out, and nothing is
- * to be read from the packet by the caller's own code: one that reads a key or a signature at the
- * place where it usually stands can be made to accept a forged time. */
+ * tb_check_response verifies no signature by itself: the caller asks whether both verify, of
+ * tb_verify or of an Ed25519 of its own, and says there what came out. Both questions go by what
+ * the library hands out, and nothing is to be read from the packet by the caller's own code: one
+ * that reads a key or a signature at the place where it usually stands can be made to accept a
+ * forged time. */
+
+/* Whether the signature of the text verifies under the key: Ed25519 of RFC 8032, 5.1.7, with S below
+ * the group order and the group equation without the cofactor. Any lengths are taken: a key that is
+ * not 32 bytes, or a signature that is not 64, is a no. It is not of one time for all inputs, and is
+ * given nothing that is secret. */
+bool tb_verify(const uint8_t *key, size_t key_len, const uint8_t *text, size_t text_len,
+               const uint8_t *signature, size_t signature_len);
+
+/* The same of a text in two parts, one after the other, as a context and a value, so that no buffer
+ * is needed for the whole. A no, too, where the two come to more than 2^64 - 65 bytes. */
+bool tb_verify_parts(const uint8_t *key, size_t key_len, const uint8_t *context, size_t context_len,
+                     const uint8_t *value, size_t value_len, const uint8_t *signature,
+                     size_t signature_len);
 
 /* What is verified in a response: its signature (SIG of the outermost message), the delegation's
  * (SIG of CERT), and the delegated key (PUBK of DELE). */

@@ -13,6 +13,8 @@ pub struct Limits {
     pub pieces: f64,
     /// A full pile against the independent implementation.
     pub piles: f64,
+    /// A verification against OpenSSL's.
+    pub openssl: f64,
 }
 
 /// All rows of a tree against the hashing that it needs, by the number of its leaves.
@@ -43,6 +45,7 @@ impl Limits {
             sha2_short: limit("BENCH_LIMIT_SHA2_SHORT", 1.25),
             pieces: limit("BENCH_LIMIT_PIECES", 1.05),
             piles: limit("BENCH_LIMIT_PILES", 0.87),
+            openssl: limit("BENCH_LIMIT_OPENSSL", 1.7),
         }
     }
 }

@@ -1,5 +1,5 @@
 //! Times the proved library against the independent implementation and, built through
-//! benchmarks/peer, against RustCrypto's sha2.
+//! benchmarks/peer, against RustCrypto's sha2; where OpenSSL is linked, against its Ed25519.
 //!
 //! All sides run in this one process, on the same bytes, in turns, and the best of many turns
 //! counts: whatever else the machine does then hits all of them alike, and the best turn is the one
@@ -12,6 +12,7 @@ mod hashes;
 mod limits;
 mod piles;
 mod sides;
+mod signatures;
 mod timing;
 mod trees;
 mod windows;
@@ -64,6 +65,8 @@ const WINDOWS: Table = Table {
     digits: 1,
     show: |_, seconds| seconds * 1e9,
 };
+
+const SIGNATURES: Table = Table { sides: &[Side::Ours, Side::Independent, Side::OpenSsl], ..PILES };
 
 impl Table {
     /// The names of the columns: a measure for each side, then a ratio for each side but ours.
@@ -155,6 +158,11 @@ fn main() -> ExitCode {
     println!("{}", TREES.header());
     for subject in trees::subjects(&data) {
         TREES.report(subject, &mut above);
+    }
+    println!("limit for a verification: ours/openssl {}", limits.openssl);
+    println!("{}", SIGNATURES.header());
+    for signed in &signatures::signed(&data) {
+        SIGNATURES.report(signed.subject(&limits), &mut above);
     }
     for line in &above {
         println!("TOO SLOW: {line}");

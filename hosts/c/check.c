@@ -3,11 +3,11 @@
  * It hashes "abc" and the empty message and compares the digests with NIST's, then holds each other
  * function to what the header says of it: a hash by the digest of its parts joined, also where they
  * come in pieces, a tree of three leaves by its nodes and the largest one by a path through it, a
- * reader and the check by a request of ours and by a response that draft 19 prints, a lookup by the
- * place of the record, old stamps by both sides of each limit, a pile by the times it was made of,
- * windows as they come by every pair of them, a writer by what it leaves in a buffer, the words of
- * a code by some of them. Whether all of that is right on every input is for the tests of
- * hosts/rust.
+ * reader and the check by a request of ours and by a response that draft 19 prints, a verification
+ * by signatures of RFC 8032 and of that response, a lookup by the place of the record, old stamps by
+ * both sides of each limit, a pile by the times it was made of, windows as they come by every pair
+ * of them, a writer by what it leaves in a buffer, the words of a code by some of them. Whether all
+ * of that is right on every input is for the tests of hosts/rust.
  */
 #include "response.h"
 #include "trawlbeacon.h"
@@ -886,6 +886,73 @@ static void expect_all_words(void) {
     expect_words(UINT32_MAX, "no such code");
 }
 
+/* RFC 8032, section 7.1, the first three: a key, a text, its length, a signature. */
+static const struct {
+    const char *key, *text;
+    size_t length;
+    const char *signature;
+} SIGNED[] = {
+    {"d75a980182b10ab7d54bfed3c964073a0ee172f3daa62325af021a68f707511a", "", 0,
+     "e5564300c360ac729086e2cc806e828a84877f1eb8e5d974d873e06522490155"
+     "5fb8821590a33bacc61e39701cf9b46bd25bf5f0595bbe24655141438e7a100b"},
+    {"3d4017c3e843895a92b70aa74d1b7ebc9c982ccf2ec4968cc0cd55f12af4660c", "72", 1,
+     "92a009a9f0d4cab8720e820b5f642540a2b27b5416503f8fb3762223ebdb69da"
+     "085ac1e43e15996e458f3613d0f11d8c387b2eaeb4302aeeb00d291612bb0c00"},
+    {"fc51cd8e6218a1a38da47ed00230f0580816ed13ba3303ac5deb911548908025", "af82", 2,
+     "6291d657deec24024827e69c3abe01a30ce548a284743a445e3680d7db5ac3ac"
+     "18ff9b538d16f290ae67f760984dc6594a7c15e9716ed28dc027beceea1ec40a"},
+};
+
+/* A signature verifies as it is, in every pair of parts, and not with a byte of it changed. */
+static void expect_verified(void) {
+    for (size_t i = 0; i < sizeof SIGNED / sizeof *SIGNED; i++) {
+        uint8_t key[33] = {0}, text[2] = {0}, signature[65] = {0};
+        size_t n = SIGNED[i].length;
+        from_hex(SIGNED[i].key, key, 32);
+        from_hex(SIGNED[i].text, text, n);
+        from_hex(SIGNED[i].signature, signature, 64);
+        expect_number("a signature of RFC 8032", tb_verify(key, 32, text, n, signature, 64), 1);
+        for (size_t k = 0; k <= n; k++)
+            expect_number("the same in parts",
+                          tb_verify_parts(key, 32, text, k, text + k, n - k, signature, 64), 1);
+        for (size_t k = 0; k < 64; k++) {
+            signature[k]++;
+            expect_number("a changed signature", tb_verify(key, 32, text, n, signature, 64), 0);
+            signature[k]--;
+        }
+        for (size_t k = 0; k < 32; k++) {
+            key[k]++;
+            expect_number("a changed key", tb_verify(key, 32, text, n, signature, 64), 0);
+            key[k]--;
+        }
+        expect_number("a long key", tb_verify(key, 33, text, n, signature, 64), 0);
+        expect_number("a short key", tb_verify(key, 31, text, n, signature, 64), 0);
+        expect_number("a long signature", tb_verify(key, 32, text, n, signature, 65), 0);
+        expect_number("a short signature", tb_verify(key, 32, text, n, signature, 63), 0);
+        expect_number("no signature", tb_verify(key, 32, text, n, signature, 0), 0);
+    }
+}
+
+/* The signature of a response that draft 19 prints, over its text and over the parts of that. */
+static void expect_signed(const uint8_t *packet) {
+    static const char context[] = "RoughTime v1 response signature";
+    uint8_t text[TB_LONGEST_TEXT] = {0};
+    struct tb_parts parts = tb_signed_parts(packet, RESPONSE_LENGTH);
+    size_t n = tb_response_text(packet, RESPONSE_LENGTH, text, sizeof text).length;
+    const uint8_t *key = parts.pubk, *signature = parts.signature;
+    expect_number("the draft's signature", tb_verify(key, 32, text, n, signature, 64), 1);
+    expect_number("the draft's signature in parts",
+                  tb_verify_parts(key, 32, (const uint8_t *)context, sizeof context,
+                                  packet + SREP_AT, SREP_LENGTH, signature, 64),
+                  1);
+    expect_number("without the context's zero byte",
+                  tb_verify_parts(key, 32, (const uint8_t *)context, sizeof context - 1,
+                                  packet + SREP_AT, SREP_LENGTH, signature, 64),
+                  0);
+    expect_number("the delegation's signature for the response's",
+                  tb_verify(key, 32, text, n, parts.delegation, 64), 0);
+}
+
 static void expect_piles(void) {
     static uint8_t pile[PILE_LENGTH];
     for (size_t k = 0; k < RECORDS; k++) lay_record(pile + k * TB_RECORD_LENGTH, k, TIMES[k]);
@@ -910,6 +977,8 @@ int main(void) {
     expect_parts(packet);
     expect_tree();
     expect_largest_tree();
+    expect_verified();
+    expect_signed(packet);
     expect_checks(packet);
     expect_no_radius(packet);
     expect_versions(packet);

@@ -1,6 +1,6 @@
 /* Measures the stack that each tree operation takes, and holds the most of them to the header's
  * TB_TREE_STACK: with that much every operation ends, and on one page less than the most some
- * operation runs off the end.
+ * operation runs off the end. A verification is measured too, and held to TB_VERIFY_STACK.
  *
  * Each call runs on a stack of this program's own, which is painted first and has memory below it
  * that nobody may touch. That is done with contexts and not with threads, since a C library wants
@@ -31,6 +31,14 @@ static void call_path_from(void) {
 }
 /* 32 siblings, the most that a path may have. */
 static void call_leads(void) { tb_leads(leaves, 0, rows, 1024, leaves); }
+
+/* The neutral point as key and as R, and S = 0: this verifies, so that all of it is worked out. */
+static uint8_t key[32] = {1}, signature[64] = {1};
+static bool verified;
+static void call_verify(void) {
+    verified = tb_verify_parts(key, sizeof key, leaves, 34, leaves, 2000, signature,
+                               sizeof signature);
+}
 
 static const struct operation {
     const char *name;
@@ -111,6 +119,8 @@ int main(void) {
         }
         printf("\n");
     }
+    size_t verifying = taken(stack, call_verify) - before;
+    printf("%-13s %6zu, and the header says %d\n", "tb_verify", verifying, TB_VERIFY_STACK);
     /* What a call of nothing takes is not the library's, but stands on the same stack. */
     size_t pages = (most + PAGE - 1) / PAGE * PAGE;
     int fits = most - before <= TB_TREE_STACK, enough = all_end_on(TB_TREE_STACK);
@@ -118,5 +128,5 @@ int main(void) {
     printf("the most is %zu bytes; all end on the %d that the header says: %s, on %zu: %s\n",
            most - before, TB_TREE_STACK, enough ? "yes" : "NO", pages - PAGE,
            needed ? "no" : "YES");
-    return fits && enough && needed ? 0 : 1;
+    return fits && enough && needed && verified && verifying <= TB_VERIFY_STACK ? 0 : 1;
 }

@@ -11,9 +11,9 @@
 //!
 //! It has SHA-512, the hashes that Roughtime makes of it and the Merkle tree, a reader of packets,
 //! requests and responses, the check of a response, the writer of a request, the texts that are
-//! signed, the lookup of a server, piles of responses and the reports that are made of them, and the
-//! timestamps of an old draft. Beside them stands what all this is tried with: what makes piles, and
-//! a server that answers batches.
+//! signed, the lookup of a server, piles of responses and the reports that are made of them, the
+//! timestamps of an old draft, and Ed25519. Beside them stands what all this is tried with: what
+//! makes piles and signatures, and a server that answers batches.
 
 #![forbid(unsafe_code)]
 #![warn(missing_docs)]
@@ -21,10 +21,13 @@
 pub mod appendix;
 pub mod base64;
 pub mod check;
+pub mod ed25519;
+pub mod edwards;
 pub mod halves;
 pub mod hash;
 pub mod making;
 pub mod message;
+pub mod number;
 pub mod packet;
 pub mod pairs;
 pub mod pieces;

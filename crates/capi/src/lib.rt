@@ -12,4 +12,5 @@ mod reading;
 mod reusing;
 mod stamping;
 mod tallying;
+mod verifying;
 mod writing;

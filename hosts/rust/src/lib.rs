@@ -43,6 +43,7 @@ mod signing;
 mod stamps;
 mod tally;
 mod trees;
+mod verifying;
 
 pub use check::{check_response, may_use, same_delegation, Checked, Window};
 pub use gathering::{Pile, Record};
@@ -62,6 +63,7 @@ pub use tally::{pile_contradicts, Tally};
 pub use trees::{
     leads, path, path_from, root, rows, Placed, Rooted, MOST_LEAVES, MOST_ROWS_LENGTH,
 };
+pub use verifying::{verify, verify_parts};
 
 /// A SHA-512 digest.
 pub type Digest = [u8; 64];

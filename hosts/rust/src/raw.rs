@@ -277,6 +277,27 @@ extern "C" {
         out_len: usize,
     ) -> tb_wrote;
 
+    /// Whether a signature of a text verifies under a key.
+    pub fn tb_verify(
+        key: *const u8,
+        key_len: usize,
+        text: *const u8,
+        text_len: usize,
+        signature: *const u8,
+        signature_len: usize,
+    ) -> bool;
+    /// The same of a text in two parts.
+    pub fn tb_verify_parts(
+        key: *const u8,
+        key_len: usize,
+        context: *const u8,
+        context_len: usize,
+        value: *const u8,
+        value_len: usize,
+        signature: *const u8,
+        signature_len: usize,
+    ) -> bool;
+
     /// Takes out of a response what is verified.
     pub fn tb_signed_parts(packet: *const u8, packet_len: usize) -> tb_parts;
     /// Writes the text that the delegation signs.

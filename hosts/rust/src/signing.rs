@@ -1,5 +1,6 @@
-//! What is signed in a response. The library checks no signature: the caller does, with an Ed25519
-//! of its own, and tells [`check_response`](crate::check_response) what came out.
+//! What is signed in a response. The check of a response verifies no signature by itself: the caller
+//! asks whether both verify, of [`verify`](crate::verify) or of an Ed25519 of its own, and tells
+//! [`check_response`](crate::check_response) what came out.
 //!
 //! Both questions go by what stands here, and nothing is to be read from the packet by the caller's
 //! own code: one that reads a key or a signature at the place where it usually stands can be made

@@ -1,7 +1,7 @@
 //! What the tests of signatures share: a signer, and what a host does to answer both questions.
 
 // Each test file is a crate of its own that takes this module in, and none of them needs all of it.
-#![allow(dead_code)]
+#![allow(dead_code, unused_imports)]
 
 #[path = "../../examples/console/ed25519.rs"]
 pub mod ed25519;

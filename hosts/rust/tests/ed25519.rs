@@ -1,0 +1,130 @@
+//! Ed25519: the proved library and the independent implementation must agree on every key, text and
+//! signature, on RFC 8032's own, on ones that were damaged, and at the borders.
+
+mod support;
+
+use independent::ed25519::Ed25519;
+use support::signed::{self, Case, Maker, DAMAGES};
+use support::{unhex, vectors, Xorshift};
+
+/// How many signatures are made, each verified as it is and damaged in one way.
+const SIGNATURES: usize = 20_000;
+
+/// The entries of RFC 8032, section 7.1: key, text and signature.
+fn rfc_8032() -> Vec<(Vec<u8>, Vec<u8>, Vec<u8>)> {
+    let text = vectors("RFC8032-7.1.txt");
+    let values = |name: &str| -> Vec<Vec<u8>> {
+        text.lines()
+            .filter_map(|line| line.strip_prefix(name))
+            .map(|value| unhex(value.trim()).expect("it is hexadecimal"))
+            .collect()
+    };
+    let (keys, texts, signatures) = (values("key "), values("message"), values("signature "));
+    assert_eq!((keys.len(), texts.len(), signatures.len()), (5, 5, 5));
+    keys.into_iter().zip(texts).zip(signatures).map(|((k, t), s)| (k, t, s)).collect()
+}
+
+/// Its secret keys, in the same order: each makes the public one.
+const SECRETS: [&str; 5] = [
+    "9d61b19deffd5a60ba844af492ec2cc44449c5697b326919703bac031cae7f60",
+    "4ccd089b28ff96da9db6c346ec114e0f5b8a319f35aba624da8cf6ed4fb8a6fb",
+    "c5aa8df43f9f837bedb7442f31dcb7b166d38535076f094b85ce3a2e0b4458f7",
+    "f5e5767cf153319517630f226876b86c8160cc583bc013744c6bf255f5cc0ee5",
+    "833fe62409237b9d62ec77587520911e9a759cec1d19755b7da901b96dca3d42",
+];
+
+#[test]
+fn rfc_8032_section_7_1() {
+    let ed25519 = Ed25519::new();
+    for ((key, text, signature), seed) in rfc_8032().iter().zip(SECRETS) {
+        let seed = unhex(seed).expect("it is hexadecimal").try_into().expect("32 bytes");
+        let secret = ed25519.secret(&seed);
+        assert_eq!(secret.public[..], key[..]);
+        assert_eq!(ed25519.sign(&secret, text)[..], signature[..]);
+        assert!(ed25519.verify(key, text, signature));
+        assert!(trawlbeacon::verify(key, text, signature));
+        for at in 0..=text.len() {
+            let (context, value) = text.split_at(at);
+            assert!(trawlbeacon::verify_parts(key, context, value, signature));
+        }
+    }
+    println!("RFC 8032, section 7.1: five signatures verify, and the independent side makes them");
+}
+
+/// Both sides' answer, which must be one.
+fn answer(ed25519: &Ed25519, random: &mut Xorshift, case: &Case) -> bool {
+    let Case { what, key, text, signature } = case;
+    let due = ed25519.verify(key, text, signature);
+    assert_eq!(trawlbeacon::verify(key, text, signature), due, "{what}: {key:?} {signature:?}");
+    let (context, value) = text.split_at(random.below(text.len() + 1));
+    assert_eq!(trawlbeacon::verify_parts(key, context, value, signature), due, "{what}, in parts");
+    due
+}
+
+#[test]
+fn signatures_as_they_are_and_damaged_in_every_way() {
+    let mut random = Xorshift::new(0x5eed_0811);
+    let maker = Maker::new(&mut random, 200);
+    let mut passed = [0; DAMAGES.len()];
+    for i in 0..SIGNATURES {
+        let good = maker.good(&mut random);
+        assert!(answer(&maker.ed25519, &mut random, &good), "signature {i}");
+        let kind = i % DAMAGES.len();
+        let damaged = maker.damaged(&mut random, &good, kind);
+        passed[kind] += usize::from(answer(&maker.ed25519, &mut random, &damaged));
+    }
+    // A part of small order in the key vanishes where k is such a multiple of 8, 4 or 2.
+    for (kind, passed) in passed.iter().enumerate() {
+        let by_chance = DAMAGES[kind] == "a key with a part of small order";
+        let some = (1..SIGNATURES / DAMAGES.len() / 2).contains(passed);
+        assert!(if by_chance { some } else { *passed == 0 }, "{}: {passed}", DAMAGES[kind]);
+    }
+    println!(
+        "{SIGNATURES} signatures verify; damaged, each in one of {} ways, {} of them do, all by keys \
+         with a part of small order: ours compared with independent",
+        DAMAGES.len(),
+        passed.iter().sum::<usize>(),
+    );
+}
+
+#[test]
+fn what_stands_at_a_border() {
+    let mut random = Xorshift::new(0x5eed_0812);
+    let ed25519 = Ed25519::new();
+    let cases = signed::borders(&mut random);
+    let passed = cases.iter().filter(|case| answer(&ed25519, &mut random, case)).count();
+    assert!(passed > 20, "{passed}");
+    println!("{} signatures at borders, of which {passed} verify, compared", cases.len());
+}
+
+/// R and the key are 64 bytes before the text, so that its blocks end elsewhere than its bytes.
+#[test]
+fn texts_around_the_borders_of_blocks() {
+    let mut random = Xorshift::new(0x5eed_0813);
+    let maker = Maker::new(&mut random, 1);
+    let lengths = (0..=330).chain([447, 448, 449, 1000, 4096, 65_536]);
+    let mut compared = 0;
+    for length in lengths {
+        let case = maker.of_length(&mut random, length);
+        assert!(answer(&maker.ed25519, &mut random, &case), "{length} bytes");
+        let longer = maker.damaged(&mut random, &case, 4);
+        assert!(!answer(&maker.ed25519, &mut random, &longer), "{length} bytes and one");
+        compared += 2;
+    }
+    println!("{compared} texts of 0 to 330 bytes and some longer, compared");
+}
+
+/// Every length of a key and of a signature but the right ones is a no.
+#[test]
+fn wrong_lengths() {
+    let mut random = Xorshift::new(0x5eed_0814);
+    let maker = Maker::new(&mut random, 1);
+    let Case { key, text, signature, .. } = maker.good(&mut random);
+    for length in 0..=200 {
+        let other = |bytes: &[u8]| -> Vec<u8> {
+            bytes.iter().copied().chain([0; 200]).take(length).collect()
+        };
+        assert_eq!(trawlbeacon::verify(&other(&key), &text, &signature), length == 32);
+        assert_eq!(trawlbeacon::verify(&key, &text, &other(&signature)), length == 64);
+    }
+}

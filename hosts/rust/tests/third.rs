@@ -1,0 +1,79 @@
+//! Ed25519 with OpenSSL's as a third beside the proved library and the independent implementation.
+//! OpenSSL takes keys that RFC 8032 refuses: those are counted and told, and nothing else may differ.
+
+mod openssl;
+mod support;
+
+use independent::ed25519::Ed25519;
+use independent::number::{Number, P};
+use openssl::verifies;
+use support::signed::{self, Case, Maker, DAMAGES};
+use support::Xorshift;
+
+/// How many signatures are made, each asked of as it is and damaged in one way.
+const SIGNATURES: usize = 4_000;
+
+/// Where OpenSSL says yes and RFC 8032 no, by why the key decodes to nothing.
+#[derive(Default, Debug)]
+struct Tally {
+    compared: usize,
+    verify: usize,
+    key_past_p: usize,
+    key_minus_zero: usize,
+}
+
+impl Tally {
+    /// OpenSSL takes keys of 32 bytes and signatures of 64 alone, by its types here.
+    fn compare(&mut self, ed25519: &Ed25519, case: &Case) {
+        let Case { what, key, text, signature } = case;
+        let key: Result<&[u8; 32], _> = key[..].try_into();
+        let signature: Result<&[u8; 64], _> = signature[..].try_into();
+        let (Ok(key), Ok(signature)) = (key, signature) else { return };
+        let ours = trawlbeacon::verify(key, text, signature);
+        let theirs = verifies(key, signature, text);
+        self.compared += 1;
+        self.verify += usize::from(ours);
+        if ours == theirs {
+            return;
+        }
+        let wrong = ed25519.curve().decode(key).is_none();
+        assert!(theirs && wrong, "{what}: ours {ours}, OpenSSL {theirs}: {key:?} {signature:?}");
+        let mut y = *key;
+        y[31] &= 0x7f;
+        if Number::from_bytes(&y) >= P {
+            self.key_past_p += 1;
+        } else {
+            self.key_minus_zero += 1;
+        }
+    }
+}
+
+#[test]
+fn openssl_agrees_but_on_keys_that_rfc_8032_refuses() {
+    let mut random = Xorshift::new(0x5eed_0821);
+    let maker = Maker::new(&mut random, 100);
+    let mut tally = Tally::default();
+    for i in 0..SIGNATURES {
+        let good = maker.good(&mut random);
+        tally.compare(&maker.ed25519, &good);
+        let damaged = maker.damaged(&mut random, &good, i % DAMAGES.len());
+        tally.compare(&maker.ed25519, &damaged);
+    }
+    assert_eq!((tally.key_past_p, tally.key_minus_zero), (0, 0), "no such key is made");
+    println!(
+        "{} signatures, of which {} verify: ours compared with OpenSSL",
+        tally.compared, tally.verify
+    );
+
+    let mut tally = Tally::default();
+    for case in signed::borders(&mut random) {
+        tally.compare(&maker.ed25519, &case);
+    }
+    let Tally { compared, verify, key_past_p, key_minus_zero } = tally;
+    println!(
+        "{compared} signatures at borders, of which {verify} verify. OpenSSL verifies {} more, by keys \
+         that RFC 8032, 5.1.3, refuses: {key_past_p} whose y is p or more, {key_minus_zero} whose x is 0 \
+         with the sign 1",
+        key_past_p + key_minus_zero,
+    );
+}
