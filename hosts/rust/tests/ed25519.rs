@@ -3,9 +3,11 @@
 
 mod support;
 
+use independent::appendix::{self, Entry};
 use independent::ed25519::Ed25519;
 use support::signed::{self, Case, Maker, DAMAGES};
 use support::{unhex, vectors, Xorshift};
+use trawlbeacon::{PacketRefusal, LONGEST_TEXT};
 
 /// How many signatures are made, each verified as it is and damaged in one way.
 const SIGNATURES: usize = 20_000;
@@ -49,6 +51,45 @@ fn rfc_8032_section_7_1() {
         }
     }
     println!("RFC 8032, section 7.1: five signatures verify, and the independent side makes them");
+}
+
+/// The two contexts of draft 19, 5.2.1 and 5.2.6, with their zero bytes.
+const CONTEXTS: [&[u8]; 2] =
+    [b"RoughTime v1 delegation signature\0", b"RoughTime v1 response signature\0"];
+
+/// A text that the library writes.
+fn written(
+    write: fn(&[u8], &mut [u8]) -> Result<usize, PacketRefusal>,
+    response: &[u8],
+) -> Vec<u8> {
+    let mut out = vec![0; LONGEST_TEXT];
+    let length = write(response, &mut out).expect("it is a response");
+    out.truncate(length);
+    out
+}
+
+/// The six signatures of draft 19's report, over the texts that the library writes and over a
+/// context and a value.
+#[test]
+fn draft_19_appendix_b() {
+    let ed25519 = Ed25519::new();
+    for Entry { key, response, .. } in appendix::entries() {
+        let parts = trawlbeacon::signed_parts(&response).expect("it is a response");
+        let signed = [
+            (written(trawlbeacon::delegation_text, &response), key, parts.delegation),
+            (written(trawlbeacon::response_text, &response), parts.pubk, parts.signature),
+        ];
+        for (at, (text, key, signature)) in signed.iter().enumerate() {
+            let value = text.strip_prefix(CONTEXTS[at]).expect("the context comes first");
+            assert!(trawlbeacon::verify(key, text, signature));
+            assert!(trawlbeacon::verify_parts(key, CONTEXTS[at], value, signature));
+            assert!(ed25519.verify(key, text, signature));
+            let without = &CONTEXTS[at][..CONTEXTS[at].len() - 1];
+            assert!(!trawlbeacon::verify_parts(key, without, value, signature), "no zero byte");
+            assert!(!trawlbeacon::verify_parts(key, CONTEXTS[1 - at], value, signature));
+        }
+    }
+    println!("draft 19, appendix B: 6 signatures, which ours and independent verify");
 }
 
 /// Both sides' answer, which must be one.
