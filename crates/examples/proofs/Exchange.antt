@@ -1,15 +1,14 @@
 -- What is read of the request and the response that are made up: no check refuses before that of the path, which leads
 -- to ROOT where there are no siblings, and the numbers are those that the response says.
-use mathlib.Core.Path.{_≡_, refl, sym, ap, _∙_}
+use mathlib.Core.Path.{_≡_, sym, ap, _∙_}
 use mathlib.Core.Bool.{Bool, true, false, not}
 use mathlib.Core.List.{List, []}
 use Prim.Native.Nat.{ℕ, _+_, _*_, _≤_}
 use native.Mathlib.Omega.{arith}
 use borrow.Author.Tests.{eq-eqb}
 use lib.ListN.{length, length-replicate}
-use Rattle.laws.specs.Least.{least, somewhere}
-use Rattle.laws.specs.Numbers.{le, leBytes}
 use Rattle.laws.specs.Upto.{upto}
+use Rattle.laws.proofs.Numbers.{le-written}
 use Rattle.laws.proofs.Same.{same-refl}
 use Rattle.hash.specs.Hashes.{leafOf}
 use Rattle.message.specs.Encode.{valueAmong}
@@ -24,22 +23,17 @@ use Rattle.wire.specs.Response.{srep, cert, dele, indxIn, verIn, versIn, radiIn
 use Rattle.wire.proofs.GoodRequest.{good-request}
 use Rattle.wire.proofs.GoodResponse.{good-response}
 use Rattle.wire.proofs.PacketFields.{fields-value}
-use Rattle.wire.proofs.Versions.{version-test}
+use Rattle.wire.proofs.Versions.{one-version, version-held, version-test}
 use Rattle.verdict.specs.Check.{versionUnasked, versionDowngraded, nonceDiffers, pathMisses, answersCode, checkCode}
 use Rattle.verdict.specs.Check.{windowIn}
-use Rattle.verdict.specs.Downgrade.{askedAbove, downgrades}
 use Rattle.verdict.specs.Window.{windowOf}
+use Rattle.verdict.proofs.Downgrade.{one-highest}
 use Rattle.examples.specs.Claims.{Before10, Climbs, Late}
 use Rattle.examples.proofs.Checking.{answers-left}
-use Rattle.examples.proofs.MadeRequest.{one-version, version-held, request, ask-packet, ask-good}
+use Rattle.examples.proofs.MadeRequest.{request, ask-packet, ask-good}
 use Rattle.examples.proofs.MadeResponse.{Answer, Sound, srepFields, deleFields, certFields, zeroPath}
 use Rattle.examples.proofs.MadeResponse.{answerFields, response, srep-fields, dele-fields, cert-fields}
-use Rattle.examples.proofs.MadeResponse.{number, answer-packet, answer-good}
-
--- where both sides know version 1 and no other, none is above it
-one-is-highest : downgrades one-version one-version 1 ≡ false
-unfolding downgrades askedAbove somewhere least leBytes le
-one-is-highest = refl
+use Rattle.examples.proofs.MadeResponse.{answer-packet, answer-good}
 
 -- with no siblings a leaf is its own root
 alone : (leaf : List ℕ) → leadsOf leaf 0 [] leaf ≡ true
@@ -77,27 +71,27 @@ module _ (a : Answer) (ok : Sound a) where
   -- what they are
   indx-is : indxIn (body p) ≡ a .indx
   unfolding valueAmong
-  indx-is = rw (value-is INDX) (number 4 (a .indx) (ok .indx-fits))
+  indx-is = rw (value-is INDX) (le-written 4 (a .indx) (ok .indx-fits))
 
   radi-is : radiIn (body p) ≡ a .radi
   unfolding valueAmong
-  radi-is = rw (srep-is RADI) (number 4 (a .radi) (ok .radi-fits))
+  radi-is = rw (srep-is RADI) (le-written 4 (a .radi) (ok .radi-fits))
 
   midp-is : midpIn (body p) ≡ a .midp
   unfolding valueAmong
-  midp-is = rw (srep-is MIDP) (number 8 (a .midp) (ok .midp-fits))
+  midp-is = rw (srep-is MIDP) (le-written 8 (a .midp) (ok .midp-fits))
 
   mint-is : mintIn (body p) ≡ 0
   unfolding valueAmong
-  mint-is = rw (dele-is MINT) (number 8 0 (omega arith))
+  mint-is = rw (dele-is MINT) (le-written 8 0 (omega arith))
 
   maxt-is : maxtIn (body p) ≡ a .maxt
   unfolding valueAmong
-  maxt-is = rw (dele-is MAXT) (number 8 (a .maxt) (ok .maxt-fits))
+  maxt-is = rw (dele-is MAXT) (le-written 8 (a .maxt) (ok .maxt-fits))
 
   ver-is : verIn (body p) ≡ 1
   unfolding valueAmong
-  ver-is = rw (srep-is VER) (number 4 1 (omega arith))
+  ver-is = rw (srep-is VER) (le-written 4 1 (omega arith))
 
   vers-is : versIn (body p) ≡ one-version
   unfolding valueAmong
@@ -126,7 +120,7 @@ module _ (a : Answer) (ok : Sound a) where
     request = ap not (eq-eqb (requestCode q .code) 0 (good-request q (ask-good (a .nonce) (ok .nonce-long))));
     shape = good-response p (answer-good a ok);
     version = rw (ver-is, asked-is) (version-test _ 1 .1 version-held);
-    highest = rw (ver-is, vers-is, asked-is) one-is-highest;
+    highest = rw (ver-is, vers-is, asked-is) (one-highest one-version);
     nonce = rw (request-nonce (a .nonce) (ok .nonce-long), nonce-is) (ap not (same-refl (a .nonce)));
   }
 

@@ -6,7 +6,6 @@ pub mod Checking
 pub mod Reading
 pub mod Starred
 pub mod AreBytes
-pub mod FieldsKept
 pub mod MadeRequest
 pub mod MadeResponse
 pub mod Exchange

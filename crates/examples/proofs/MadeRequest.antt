@@ -9,32 +9,18 @@ use Rattle.laws.specs.Any.{any}
 use Rattle.laws.specs.Least.{least, somewhere}
 use Rattle.laws.specs.Numbers.{le, leBytes}
 use Rattle.laws.proofs.Numbers.{length-leBytes}
-use Rattle.message.specs.Encode.{Field, Fields, encode, values, among, valueAmong}
-use Rattle.message.specs.Rules.{versionsBad}
-use Rattle.message.specs.Sentences.{VersionList}
+use Rattle.message.specs.Encode.{Field, Fields, _≔_, encode, values, among, valueAmong}
 use Rattle.message.specs.Tags.{VER, NONC, TYPE}
-use Rattle.message.proofs.Tests.{versions-test}
+use Rattle.message.proofs.FieldsKept.{tagsWrong, fields-kept}
 use Rattle.wire.specs.Good.{PacketFields, GoodRequest}
 use Rattle.wire.specs.Packet.{packetOf}
-use Rattle.wire.specs.Versions.{HoldsVersion}
+use Rattle.wire.proofs.PacketFields.{fields-packed}
+use Rattle.wire.proofs.Versions.{one-version, versions-good, version-held}
 use Rattle.examples.proofs.AreBytes.{AreBytes, bytes-le, bytes-encode, bytes-packet}
-use Rattle.examples.proofs.FieldsKept.{_is_, tagsWrong, fields-kept, packed}
-
--- a list of versions that holds 1 and no other
-abbrev pub one-version : List ℕ
-one-version = leBytes 4 1
-
-pub versions-good : VersionList one-version
-unfolding versionsBad any somewhere least leBytes le
-versions-good = versions-test one-version .0 refl
-
-pub version-held : HoldsVersion one-version 1
-unfolding leBytes le
-version-held = record { place = 0; inside = omega arith; is = refl }
 
 -- the request with this nonce
 abbrev pub askFields : List ℕ → List Field
-askFields nonce = VER is one-version ∷ NONC is nonce ∷ TYPE is leBytes 4 0 ∷ []
+askFields nonce = VER ≔ one-version ∷ NONC ≔ nonce ∷ TYPE ≔ leBytes 4 0 ∷ []
 
 abbrev pub request : List ℕ → List ℕ
 request nonce = packetOf (encode (askFields nonce))
@@ -51,7 +37,7 @@ module _ (nonce : List ℕ) (long : length nonce ≡ 32) where
 
   -- so that it is a packet,
   pub ask-packet : PacketFields (request nonce) (askFields nonce)
-  ask-packet = packed _ 40 ask-fields ask-size (omega arith)
+  ask-packet = fields-packed _ 40 ask-fields ask-size (omega arith)
 
   -- of bytes where its nonce is,
   pub ask-bytes : AreBytes nonce → AreBytes (request nonce)

@@ -1,30 +1,28 @@
 -- A response made up of fields: it is a good one, whatever it says. Its siblings, signatures and PUBK are zeros, and
 -- MINT is 0. ROOT is the leaf of the request with its nonce; the hash is not computed.
 use mathlib.Core.Path.{_≡_, refl, _∙_}
-use mathlib.Core.List.{List, [], _∷_, append-nil}
+use mathlib.Core.List.{List, [], _∷_}
 use Prim.Native.Nat.{ℕ, _+_, _*_, _%_, _^_, _≤_, _<_}
 use native.Mathlib.Omega.{arith}
 use lib.ListN.{length, replicate, length-append, length-replicate}
 use Rattle.laws.specs.Any.{any}
 use Rattle.laws.specs.Least.{least, somewhere}
 use Rattle.laws.specs.Numbers.{le, leBytes}
-use Rattle.laws.proofs.Numbers.{length-leBytes, le-leBytes}
+use Rattle.laws.proofs.Numbers.{length-leBytes, le-written}
 use Rattle.hash.specs.Hashes.{leafOf}
 use Rattle.hash.proofs.Lengths.{length-leaf}
-use Rattle.message.specs.Encode.{Field, Fields, encode, values, among, valueAmong}
+use Rattle.message.specs.Encode.{Field, Fields, _≔_, encode, values, among, valueAmong}
 use Rattle.message.specs.Tags.{SIG, VER, NONC, DELE, TYPE, PATH, RADI, PUBK, MIDP, SREP, VERS, MINT, ROOT, CERT}
 use Rattle.message.specs.Tags.{MAXT, INDX}
 use Rattle.message.proofs.Encoded.{length-encoded}
+use Rattle.message.proofs.FieldsKept.{tagsWrong, fields-kept}
 use Rattle.wire.specs.Blank.{zeros32, zeros64}
 use Rattle.wire.specs.Good.{PacketFields, GoodResponse}
 use Rattle.wire.specs.Packet.{packetOf}
+use Rattle.wire.proofs.PacketFields.{fields-packed}
+use Rattle.wire.proofs.Versions.{one-version, versions-good, version-held}
 use Rattle.examples.proofs.AreBytes.{AreBytes, bytes-zeros, bytes-le, bytes-leaf, bytes-encode, bytes-packet}
-use Rattle.examples.proofs.FieldsKept.{_is_, tagsWrong, fields-kept, packed}
-use Rattle.examples.proofs.MadeRequest.{one-version, versions-good, version-held, request}
-
--- a number is read as it was written
-pub number : (k n : ℕ) → n < 256 ^ k → le k (leBytes k n) 0 ≡ n
-number k n h = rw append-nil at (le-leBytes k n [] h)
+use Rattle.examples.proofs.MadeRequest.{request}
 
 -- what it says, and how many siblings it has
 pub record Answer : Type 0 where
@@ -48,31 +46,31 @@ pub record Sound (a : Answer) : Type 0 where
 -- its messages, from within
 abbrev pub srepFields : Answer → List Field
 srepFields a =
-    VER is one-version
-    ∷ RADI is leBytes 4 (a .radi)
-    ∷ MIDP is leBytes 8 (a .midp)
-    ∷ VERS is one-version
-    ∷ ROOT is leafOf (request (a .nonce))
+    VER ≔ one-version
+    ∷ RADI ≔ leBytes 4 (a .radi)
+    ∷ MIDP ≔ leBytes 8 (a .midp)
+    ∷ VERS ≔ one-version
+    ∷ ROOT ≔ leafOf (request (a .nonce))
     ∷ []
 
 abbrev pub deleFields : Answer → List Field
-deleFields a = PUBK is zeros32 ∷ MINT is leBytes 8 0 ∷ MAXT is leBytes 8 (a .maxt) ∷ []
+deleFields a = PUBK ≔ zeros32 ∷ MINT ≔ leBytes 8 0 ∷ MAXT ≔ leBytes 8 (a .maxt) ∷ []
 
 abbrev pub certFields : Answer → List Field
-certFields a = SIG is zeros64 ∷ DELE is encode (deleFields a) ∷ []
+certFields a = SIG ≔ zeros64 ∷ DELE ≔ encode (deleFields a) ∷ []
 
 abbrev pub zeroPath : Answer → List ℕ
 zeroPath a = replicate (32 * a .siblings) 0
 
 abbrev pub answerFields : Answer → List Field
 answerFields a =
-    SIG is zeros64
-    ∷ NONC is a .nonce
-    ∷ TYPE is leBytes 4 1
-    ∷ PATH is zeroPath a
-    ∷ SREP is encode (srepFields a)
-    ∷ CERT is encode (certFields a)
-    ∷ INDX is leBytes 4 (a .indx)
+    SIG ≔ zeros64
+    ∷ NONC ≔ a .nonce
+    ∷ TYPE ≔ leBytes 4 1
+    ∷ PATH ≔ zeroPath a
+    ∷ SREP ≔ encode (srepFields a)
+    ∷ CERT ≔ encode (certFields a)
+    ∷ INDX ≔ leBytes 4 (a .indx)
     ∷ []
 
 abbrev pub response : Answer → List ℕ
@@ -134,7 +132,7 @@ module _ (a : Answer) (ok : Sound a) where
 
   -- so that it is a packet,
   pub answer-packet : PacketFields (response a) (answerFields a)
-  answer-packet = packed _ (348 + 32 * a .siblings) answer-fields answer-size (omega (arith, ok .few))
+  answer-packet = fields-packed _ (348 + 32 * a .siblings) answer-fields answer-size (omega (arith, ok .few))
 
   -- of bytes where its nonce is,
   pub answer-bytes : AreBytes (a .nonce) → AreBytes (response a)
@@ -150,7 +148,7 @@ module _ (a : Answer) (ok : Sound a) where
 
   -- RADI is not 0,
   radi-read : 0 < le 4 (leBytes 4 (a .radi)) 0
-  radi-read = rw (number 4 (a .radi) (ok .radi-fits)) (ok .radi-more)
+  radi-read = rw (le-written 4 (a .radi) (ok .radi-fits)) (ok .radi-more)
 
   -- and a good response
   pub answer-good : GoodResponse (response a)

@@ -11,4 +11,5 @@ pub mod Encoded
 pub mod Decoded
 pub mod Exact
 pub mod FieldRows
+pub mod FieldsKept
 pub mod Once

@@ -1,6 +1,6 @@
-// The table of refusal codes, 1 to 22 document 01's, 29 request P12's and 30 P5's: the numbers with their names. The
-// comment before each is the words that hosts show for it: the header's and the Rust host's tables are taken from here
-// (tools/codes).
+// The table of refusal codes, 1 to 22 document 01's, 23 request P1's, 29 P12's and 30 P5's: the numbers with their
+// names. The comment before each is the words that hosts show for it: the header's and the Rust host's tables are taken
+// from here (tools/codes).
 
 // the packet has under 12 or over 2,000 bytes
 pub const PACKET_SIZE: u8 = 1;
@@ -67,6 +67,9 @@ pub const LISTS: u8 = 21;
 
 // no list has the server
 pub const UNKNOWN_SERVER: u8 = 22;
+
+// the response would be longer than the request that it answers
+pub const RESPONSE_LENGTH: u8 = 23;
 
 // an old stamp's date is under 40587, or its microseconds are 86,401,000,000 or more
 pub const OLD_STAMP: u8 = 29;

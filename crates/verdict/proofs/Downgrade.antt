@@ -6,10 +6,10 @@ use mathlib.Core.List.{List}
 use mathlib.Core.Logic.{_↔_}
 use borrow.Author.Tests.{lt-ltb, ltb-true}
 use lib.ListN.{length}
-use Rattle.laws.specs.Least.{least}
-use Rattle.laws.specs.Numbers.{le}
+use Rattle.laws.specs.Least.{least, somewhere}
+use Rattle.laws.specs.Numbers.{le, leBytes}
 use Rattle.laws.proofs.Least.{somewhere-at, somewhere-here}
-use Rattle.wire.proofs.Versions.{version-test}
+use Rattle.wire.proofs.Versions.{one-version, version-test}
 use Rattle.verdict.specs.Downgrade.{Downgrade, askedAbove, downgrades}
 
 -- of two tests that hold at once, the second turned round, each by itself
@@ -51,3 +51,8 @@ module _ (vers ver : List ℕ) (chosen : ℕ) where
       by : (t : Bool) → downgrades vers ver chosen ≡ t → (Downgrade vers ver chosen → ⊥) → t ≡ false
       by true e n = absurd (n (downgrade-exactly .0 e))
       by false e n = refl
+
+-- a server that knows version 1 alone, and chose it, talks nobody down, whatever was asked
+pub one-highest : (ver : List ℕ) → downgrades one-version ver 1 ≡ false
+unfolding downgrades askedAbove somewhere least leBytes le
+one-highest ver = refl

@@ -20,6 +20,7 @@ use Rattle.wire.specs.Request.{requestBad, requestCode}
 use Rattle.wire.specs.Response.{midpIn, mintIn, maxtIn}
 use Rattle.wire.proofs.GoodRequest.{good-request, request-good}
 use Rattle.wire.proofs.GoodResponse.{good-response, response-good}
+use Rattle.wire.proofs.RequestCodes.{lent-good}
 use Rattle.wire.proofs.Versions.{version-test}
 use Rattle.verdict.specs.Check.{versionUnasked, versionDowngraded, nonceDiffers, pathMisses, timeOutside}
 use Rattle.verdict.specs.Check.{answersCode, agreementCode, checkCode, windowIn, pubkIn, verdictOf, keyOf}
@@ -27,7 +28,7 @@ use Rattle.verdict.specs.Passes.{Passes}
 use Rattle.verdict.specs.declared.Verdict.the-variants.{Valid, Refused}
 use Rattle.verdict.specs.declared.Window.{Window}
 use Rattle.verdict.proofs.Downgrade.{no-downgrade}
-use Rattle.verdict.proofs.Lent.{lent-good, by-valid, valid-by, by-refused, key-by, no-key}
+use Rattle.verdict.proofs.Lent.{by-valid, valid-by, by-refused, key-by, no-key}
 
 module _ (q p : List ℕ) (d s : Bool) where
   -- where the code is 0, each check passed, and its fact holds

@@ -1,20 +1,18 @@
--- What the checks that passed say of the two packets that were lent.
+-- What the checks that passed say of the response that was lent.
 use Prim.Native.Nat.{ℕ, _≤_}
 use mathlib.Core.Path.{_≡_, refl, sym, ap, ap₂, _∙_}
 use mathlib.Core.Bool.{Bool, true, false, cond}
 use mathlib.Core.List.{List}
 use native.Mathlib.Omega.{arith}
-use borrow.Author.Tests.{eq-eqb, ne-eqb, eqb-true, not-false}
+use borrow.Author.Tests.{eq-eqb, ne-eqb, eqb-true}
 use lib.Dec.{eqb}
 use lib.ListN.{length}
 use Rattle.refusal.specs.Refusal.{refusals}
 use Rattle.refusal.specs.declared.Refusal.{Refusal}
 use Rattle.laws.proofs.First.{quiet-of, row-quiet, chosen-says}
 use Rattle.wire.specs.Blank.{zeros32}
-use Rattle.wire.specs.Facts.{Asks, Shaped}
+use Rattle.wire.specs.Facts.{Shaped}
 use Rattle.wire.specs.Packet.{body}
-use Rattle.wire.specs.Request.{requestBad, requestCode}
-use Rattle.wire.proofs.RequestCodes.{asks, request-body}
 use Rattle.wire.proofs.ResponseCodes.{response-body}
 use Rattle.verdict.specs.declared.Checked.{Checked}
 use Rattle.verdict.specs.declared.Verdict.{Verdict}
@@ -22,15 +20,6 @@ use Rattle.verdict.specs.declared.Window.{Window}
 use Rattle.verdict.specs.declared.Verdict.the-variants.{Valid, Refused}
 use Rattle.verdict.specs.Check.{windowIn, pubkIn, checkCode, verdictBy, verdictOf, keyBy, keyOf, checkedOf}
 use Rattle.verdict.specs.Check.{verdictNumber}
-
--- a request that is not bad has code 0,
-pub lent-good : (q : List ℕ) {t : Bool} → t ≡ requestBad q → t ≡ false → requestCode q .code ≡ 0
-unfolding requestBad
-lent-good q e f = eqb-true _ _ (not-false _ (sym e ∙ f))
-
--- and its message is a good request's
-pub lent-body : (q : List ℕ) {t : Bool} → t ≡ requestBad q → t ≡ false → (12 ≤ length q) × Asks (body q)
-lent-body q e f = let b = request-body q (lent-good q e f) in (b .0, asks (body q) (b .1))
 
 -- a response that passes has the right shape
 pub checked-body : (q p : List ℕ) (d s : Bool) {x : Refusal} → x ≡ checkCode q p d s → x .code ≡ 0

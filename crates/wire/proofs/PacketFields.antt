@@ -1,6 +1,6 @@
 -- A packet and the fields of its message: a packet of fields passes where their message does, and bytes with none of
 -- the codes are the packet of some fields.
-use Prim.Native.Nat.{ℕ, _≤_}
+use Prim.Native.Nat.{ℕ, _+_, _*_, _≤_}
 use mathlib.Core.Path.{_≡_, refl, sym, ap, _∙_}
 use mathlib.Core.List.{List, [], _∷_}
 use native.Mathlib.Omega.{arith}
@@ -9,12 +9,12 @@ use Rattle.laws.specs.Bytes.{Bytes}
 use Rattle.laws.proofs.First.{says-0, is-last, none-quiet}
 use Rattle.refusal.specs.Refusal.{passed, refusals, first}
 use Rattle.refusal.specs.declared.Refusal.{Refusal}
-use Rattle.message.specs.Encode.{Field, Encoded, encode, valueAmong}
+use Rattle.message.specs.Encode.{Field, Fields, Encoded, values, encode, valueAmong}
 use Rattle.message.specs.Rules.{Row, messageCode}
 use Rattle.message.specs.Values.{valueOf}
 use Rattle.message.proofs.Codes.{frame-0, code-0}
 use Rattle.message.proofs.Decoded.{good-encoded}
-use Rattle.message.proofs.Encoded.{value-encoded}
+use Rattle.message.proofs.Encoded.{length-encoded, value-encoded}
 use Rattle.message.proofs.FieldRows.{AllHeld, passes-all}
 use Rattle.wire.specs.Good.{PacketFields}
 use Rattle.wire.specs.Packet.{packetCode, packetOf, body}
@@ -37,6 +37,14 @@ fields-pass f p fs k e =
     let head : packetCode p ≡ passed = ap packetCode (k .is) ∙ sym (packet-packed (encode fs) l) in
     let tail : f (body p) ≡ passed = ap f (fields-body p fs k) ∙ e in
     sym (says-0 refusals _ _ refl (none-quiet refusals head) (is-last refusals (sym tail)))
+
+-- fields have a packet where it is not too long
+pub fields-packed : (fs : List Field) (size : ℕ) → Fields fs → length (values fs) ≡ size → 8 * length fs + size ≤ 1988
+    → PacketFields (packetOf (encode fs)) fs
+fields-packed fs size ok e h =
+    let l : length (packetOf (encode fs)) ≡ 12 + length (encode fs) = length-packet (encode fs) in
+    let k : length (encode fs) ≡ 8 * length fs + length (values fs) = length-encoded fs ok in
+    record { kept = ok; is = refl; least = omega arith; most = omega arith }
 
 -- bytes with none of the codes 1 to 5 are the packet of some fields
 pub fields-of : (p : List ℕ) → Bytes p → packetCode p .code ≡ 0 → (a : Encoded (body p)) → PacketFields p (a .fields)

@@ -1,7 +1,9 @@
 -- What the codes of a packet and of a request say where they are 0.
 use Prim.Native.Nat.{ℕ, _≤_}
-use mathlib.Core.Path.{_≡_, refl}
+use mathlib.Core.Path.{_≡_, refl, sym, _∙_}
+use mathlib.Core.Bool.{Bool, false}
 use mathlib.Core.List.{List}
+use borrow.Author.Tests.{eqb-true, not-false}
 use lib.ListN.{length}
 use Rattle.laws.proofs.First.{quiet-of, row-quiet, chosen-says}
 use Rattle.refusal.specs.Refusal.{refusals}
@@ -9,7 +11,7 @@ use Rattle.refusal.specs.declared.Refusal.{Refusal}
 use Rattle.message.proofs.Codes.{message-good, kept, kept-if}
 use Rattle.wire.specs.Facts.{Asks}
 use Rattle.wire.specs.Packet.{packetCode, body}
-use Rattle.wire.specs.Request.{requestMessageCode, requestCode, noRequest, requestIn, requestOf}
+use Rattle.wire.specs.Request.{requestMessageCode, requestCode, requestBad, noRequest, requestIn, requestOf}
 use Rattle.wire.specs.Tables.{requestTable}
 use Rattle.wire.specs.declared.Request.{Request}
 use Rattle.wire.proofs.Packets.{packet-0}
@@ -35,6 +37,15 @@ unfolding requestCode
 request-body p e =
     let a = row-quiet refusals _ _ e in
     (packet-long p _ refl (a .0), row-quiet refusals _ _ (a .1) .0)
+
+-- a request that is not bad has code 0,
+pub lent-good : (q : List ℕ) {t : Bool} → t ≡ requestBad q → t ≡ false → requestCode q .code ≡ 0
+unfolding requestBad
+lent-good q e f = eqb-true _ _ (not-false _ (sym e ∙ f))
+
+-- and its message is a good request's
+pub lent-body : (q : List ℕ) {t : Bool} → t ≡ requestBad q → t ≡ false → (12 ≤ length q) × Asks (body q)
+lent-body q e f = let b = request-body q (lent-good q e f) in (b .0, asks (body q) (b .1))
 
 -- the answer says the packet's code, in document 01's numbers
 pub request-says : (p : List ℕ) → requestOf p .answer .code ≡ requestCode p .code

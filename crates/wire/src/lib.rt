@@ -7,7 +7,7 @@ mod parts;
 mod requests;
 mod responses;
 mod shape;
-mod tables;
+pub mod tables;
 
 pub use parts::read_signed_parts;
 use refusal::Refusal;

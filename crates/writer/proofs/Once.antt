@@ -16,7 +16,7 @@ use Rattle.writer.proofs.texts.response_text.Kinds as response-kinds
 use Rattle.writer.proofs.texts.response_text.Reads as response-reads
 
 -- the contract of any writer settles what it leaves
-leaves-once : {x y : Wrote} {d e : List ℕ} (why : Refusal) (p o : List ℕ)
+pub leaves-once : {x y : Wrote} {d e : List ℕ} (why : Refusal) (p o : List ℕ)
     → Writes why p o x d → Writes why p o y e → d ≡ e
 leaves-once why p o v w =
     v .1 ∙ ap (λ (r : Wrote). written (wroteNumber r) p o) (v .0 ∙ sym (w .0)) ∙ sym (w .1)

@@ -4,9 +4,9 @@ use mathlib.Core.List.{List}
 use Prim.Native.Nat.{ℕ}
 use Rattle.refusal.specs.Refusal.{refusals}
 use Rattle.laws.proofs.First.{says-0, says-more, test-false, test-true, is-last}
+use Rattle.wire.proofs.RequestCodes.{lent-body}
 use Rattle.wire.proofs.ResponseCodes.{response-body}
 use Rattle.verdict.specs.Check.{agreementCode, checkCode}
-use Rattle.verdict.proofs.Lent.{lent-body}
 use borrow.Author.Needs.{needs}
 use Rattle.verdict.proofs.checking.check_code.Statement.{statement}
 use Rattle.verdict.proofs.checking.check_code.Tie as tie

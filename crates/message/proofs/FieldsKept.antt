@@ -1,9 +1,9 @@
--- Fields that a message may hold, and the packet of them. A test that antt computes decides it of the tags; of the
--- values only the lengths are asked, so that they may be hashes, which are not computed.
+-- Fields that a message may hold. A test that antt computes decides it of the tags; of the values only the lengths are
+-- asked, so that they may be hashes, which are not computed.
 use mathlib.Core.Path.{_≡_, refl}
 use mathlib.Core.Bool.{Bool, false}
 use mathlib.Core.List.{List, [], _∷_}
-use Prim.Native.Nat.{ℕ, zero, suc, _+_, _-_, _*_, _%_, _^_, _≤_, _<_}
+use Prim.Native.Nat.{ℕ, zero, suc, _+_, _-_, _%_, _^_, _<_}
 use native.Mathlib.Omega.{arith}
 use borrow.Author.Tests.{ltb-false, leb-false}
 use lib.Dec.{ltb, leb}
@@ -12,17 +12,8 @@ use Rattle.laws.specs.Any.{any}
 use Rattle.laws.specs.Least.{somewhere}
 use Rattle.laws.proofs.Any.{any-parts}
 use Rattle.laws.proofs.Least.{nowhere-at}
-use Rattle.message.specs.Encode.{Field, Fields, field, values, encode}
-use Rattle.message.proofs.Encoded.{length-encoded}
+use Rattle.message.specs.Encode.{Field, Fields, field, values}
 use Rattle.message.proofs.Positions.{length-offsets, offset-of, reach-in}
-use Rattle.wire.specs.Good.{PacketFields}
-use Rattle.wire.specs.Packet.{packetOf}
-use Rattle.wire.proofs.Packets.{length-packet}
-
--- a tag and its value
-infix 80 _is_
-abbrev pub _is_ : ℕ → List ℕ → Field
-tag is value = record { tag = tag; value = value }
 
 -- the length of each value is a multiple of 4
 abbrev pub Fours : List Field → Type 0
@@ -61,11 +52,3 @@ fields-kept fs t fours size =
           let l : suc k < length fs = omega (arith, length-offsets fs) in
           omega (arith, offset-of fs k l, reach-in fs (suc k) l);
     }
-
--- their packet, where it is not too long
-pub packed : (fs : List Field) (size : ℕ) → Fields fs → length (values fs) ≡ size → 8 * length fs + size ≤ 1988
-    → PacketFields (packetOf (encode fs)) fs
-packed fs size ok e h =
-    let l : length (packetOf (encode fs)) ≡ 12 + length (encode fs) = length-packet (encode fs) in
-    let k : length (encode fs) ≡ 8 * length fs + length (values fs) = length-encoded fs ok in
-    record { kept = ok; is = refl; least = omega arith; most = omega arith }

@@ -1,0 +1,21 @@
+-- `respond::refusing::cert_code` meets its contract. Each return is the first refusal of the row.
+use Rattle.laws.proofs.First.{chain}
+use Rattle.message.proofs.Codes.{message-good}
+use Rattle.respond.specs.Refusing.{certCode}
+use borrow.Author.Needs.{needs}
+use Rattle.respond.proofs.refusing.cert_code.Statement.{statement}
+use Rattle.respond.proofs.refusing.cert_code.Tie as tie
+
+returns : tie.Need-returns
+unfolding certCode
+returns c = search chain depth 9
+
+inner-code-requires : tie.Need-inner-code-requires
+inner-code-requires c κs = search (message-good, needs)
+
+returns-2 : tie.Need-returns-2
+unfolding certCode
+returns-2 c = search chain depth 9
+
+pub cert-code-spec : {M : Type 1} → statement M
+cert-code-spec = tie.close (tie.spec (λ c κs. search needs) returns inner-code-requires returns-2)

@@ -1,0 +1,111 @@
+-- `respond::responding::write_response` meets its contract. The two pieces follow each other from the front.
+use mathlib.Core.Path.{_≡_, sym, ap, _∙_}
+use native.Mathlib.Omega.{arith}
+use lib.ListN.{length}
+use Prim.Native.Nat.{_+_}
+use mathlib.Core.List.{List}
+use Prim.Native.Nat.{ℕ}
+use denote.Ref.{now}
+use Rattle.laws.specs.Pasted.{pasted}
+use Rattle.laws.proofs.Written.{puts-one, puts-put, puts-as}
+use Rattle.message.specs.Tags.{NONC}
+use Rattle.message.specs.Values.{valueOf}
+use Rattle.writer.proofs.Answered.{writer-refused, writer-short, writer-done}
+use Rattle.respond.specs.Refusing.{replyCode}
+use Rattle.respond.specs.Response.{Reply, reply, nonceOf}
+use Rattle.respond.specs.Steps.{frontBytes, restBytes}
+use Rattle.respond.proofs.Pieces.{length-front, length-rest, response-is, length-response}
+use Rattle.respond.proofs.Replied.{Answered, tests-are, answered-by}
+use borrow.Author.Needs.{needs}
+use Rattle.respond.proofs.responding.write_response.Statement.{statement}
+use Rattle.respond.proofs.responding.write_response.Tie as tie
+
+-- what was lent, by its sizes
+abbrev lent : tie.After-tests-code → Reply
+lent t =
+    let a = t .before .before .before .before .before .args in
+    reply (now (a .request)) (a .indx) (a .root) (now (a .path)) (a .midp) (a .radi) (now (a .cert)) (a .signature)
+
+root-long : (t : tie.After-tests-code) → length (lent t .root) ≡ 32
+root-long t = omega (arith, t .before .before .before .before .before .good)
+
+signature-long : (t : tie.After-tests-code) → length (lent t .signature) ≡ 64
+signature-long t = omega (arith, t .before .before .before .before .before .good)
+
+-- the checks are those of the definition, and what they say where they refuse nothing
+is : (t : tie.After-tests-code) → t .tests-code .result ≡ replyCode (lent t)
+is t = t .tests-code .ensures ∙ tests-are (lent t) (root-long t) (signature-long t)
+
+taken : (t : tie.After-tests-code) → t .tests-code .result .code ≡ 0
+    → Answered (lent t) (root-long t) (signature-long t)
+taken t z = answered-by (lent t) (root-long t) (signature-long t) (t .tests-code .ensures) z
+
+returns : tie.Need-returns
+returns c =
+    writer-refused _ _ (is (c .before .before)) (c .if1 .taken)
+
+add-n-2 : tie.Need-add-n-2
+add-n-2 c = omega (arith, taken (c .before .before) (c .if1 .left) .fits)
+
+returns-2 : tie.Need-returns-2
+returns-2 c =
+    let t = c .before .before .before .before in
+    let z = c .before .before .if1 .left in
+    let n = length-response (lent t) (taken t z .sizes) in
+    writer-short _ _ (is t) z (c .refuse .ensures) (omega arith)
+
+body-of-requires : tie.Need-body-of-requires
+body-of-requires c κs = taken (c .before .before .before .before) (c .before .before .if1 .left) .long
+
+cast-put-front : tie.Need-cast-put-front
+cast-put-front c =
+    omega (arith, taken (c .before .before .before .before .before) (c .before .before .before .if1 .left) .fits)
+
+cast-put-front-2 : tie.Need-cast-put-front-2
+cast-put-front-2 c =
+    omega (arith, taken (c .before .before .before .before .before) (c .before .before .before .if1 .left) .fits)
+
+put-front-requires : tie.Need-put-front-requires
+put-front-requires c κs =
+    let ok = taken (c .before .before .before .before .before) (c .before .before .before .if1 .left) in
+    (rw (c .body-of .ensures) (ok .asks), omega arith, omega (arith, ok .fits))
+
+returns-3 : tie.Need-returns-3
+returns-3 c =
+    let p2 = c .before .before in
+    let p1 = p2 .before .before .before .before in
+    let b = p1 .before in
+    let i = b .before .before .before in
+    let t = i .before .before in
+    let a = lent t in
+    let z = i .if1 .left in
+    let ok = taken t z in
+    let p = length (a .path) in
+    let q = length (a .cert) in
+    let o = t .before .before .before .before .before .args .out .now in
+    let front =
+    p1 .put-front .ensures
+    ∙ ap (λ (m : List ℕ). pasted o 0 (frontBytes (a .signature) (valueOf m NONC) p q)) (b .body-of .ensures) in
+    let n1 = length-front (a .signature) (nonceOf a) p q (signature-long t) (ok .sizes .nonce-long) in
+    let w1 = puts-one (frontBytes (a .signature) (nonceOf a) p q) 168 front (omega arith) (omega arith) in
+    let n2 = length-rest (a .path) (a .root) (a .midp) (a .radi) (a .cert) (a .indx) (root-long t) in
+    let w2 = puts-put (restBytes (a .path) (a .root) (a .midp) (a .radi) (a .cert) (a .indx)) (264 + p + q) w1 (p2 .put-rest .ensures) (omega arith) (omega arith) in
+    writer-done (is t) z (puts-as (sym (response-is a (ok .sizes))) w2)
+
+pub write-response-spec : {M : Type 1} → statement M
+write-response-spec =
+    tie.close
+    (tie.spec
+    (λ c κs. search needs)
+    returns
+    (λ c. search needs)
+    add-n-2
+    (λ c κs. search needs)
+    returns-2
+    body-of-requires
+    cast-put-front
+    cast-put-front-2
+    put-front-requires
+    (λ c κs. search needs)
+    (λ c. search needs)
+    returns-3)

@@ -1,0 +1,135 @@
+// The whole response to a request.
+ghost use mathlib.Core.Path.{_≡_};
+ghost use Prim.Native.Nat.{_+_, _≤_};
+ghost use lib.ListN.{length};
+ghost use Rattle.laws.specs.Pasted.{pasted};
+ghost use Rattle.laws.specs.Written.{written};
+ghost use Rattle.message.specs.Tags.{NONC};
+ghost use Rattle.message.specs.Values.{valueOf};
+ghost use Rattle.wire.specs.Facts.{Asks};
+ghost use Rattle.writer.specs.Answered.{wroteNumber, answered};
+ghost use Rattle.respond.specs.Refusing.{replyCode};
+ghost use Rattle.respond.specs.Response.{reply, responseBytes};
+ghost use Rattle.respond.specs.Steps.{frontBytes, restBytes};
+use super::refusing::tests_code;
+use super::signing::put_srep;
+use super::wording::put_words;
+use message::tags::CERT;
+use message::tags::INDX;
+use message::tags::NONC;
+use message::tags::PATH;
+use message::tags::SIG;
+use message::tags::SREP;
+use message::tags::TYPE;
+use message::value_of;
+use octets::put;
+use refusal::codes;
+use refusal::refuse;
+use wire::packet::MARK;
+use wire::packet::body_of;
+use writer::Wrote;
+
+// The response to a request, at the front of out: of 264 bytes, the path and CERT, with VER and VERS {1}. The signature
+// is that over what `write_srep` writes for the same root, MIDP and RADI. Refused, in this order, with 14; 7 for RADI
+// 0; 4 to 7 for CERT and its DELE; 10; 11; 23; 19.
+pub fn write_response<'a>(
+    request: &'a [u8],
+    indx: u32,
+    root: [u8; 32],
+    path: &'a [u8],
+    midp: u64,
+    radi: u32,
+    cert: &'a [u8],
+    signature: [u8; 64],
+    out: &mut [u8],
+) -> Wrote
+    ensures { λ r. ⌜ r
+        ≡ answered
+        (replyCode
+        (reply (now (request .entry)) indx root (now (path .entry)) midp radi (now (cert .entry)) signature))
+        (responseBytes
+        (reply (now (request .entry)) indx root (now (path .entry)) midp radi (now (cert .entry)) signature))
+        (now (out .entry)) ⌝ }
+    ensures { λ r. ⌜ now (out .exit)
+        ≡ written (wroteNumber r)
+        (responseBytes
+        (reply (now (request .entry)) indx root (now (path .entry)) midp radi (now (cert .entry)) signature))
+        (now (out .entry)) ⌝ }
+{
+    let why = tests_code(request, indx, root, path, midp, radi, cert);
+    if why.code != 0 {
+        return Wrote::Refused(why);
+    }
+    let n = 264 + path.len() + cert.len();
+    if out.len() < n {
+        return Wrote::Refused(refuse(codes::ROOM));
+    }
+    put_front(
+        out,
+        signature,
+        body_of(request),
+        path.len() as u32,
+        cert.len() as u32,
+    );
+    put_rest(out, path, root, midp, radi, cert, indx);
+    Wrote::Done(n)
+}
+
+// What stands before the path: of a request's message m the nonce, and the lengths p of the path and c of CERT.
+fn put_front(dst: &mut [u8], signature: [u8; 64], m: &[u8], p: u32, c: u32)
+    requires { ⌜ Asks (now m) × (168 ≤ length (now dst)) × (p + c ≤ 2000) ⌝ }
+    ensures { λ _. ⌜ now (dst .exit)
+        ≡ pasted (now (dst .entry)) 0 (frontBytes signature (valueOf (now (m .entry)) NONC) p c) ⌝ }
+{
+    put(dst, 0, &MARK);
+    // The length of the message; its seven values, of which the later six start at 64, 96, 100, behind the path, behind
+    // SREP and behind CERT; and the tags.
+    put_words(
+        dst,
+        8,
+        &[
+            252 + p + c,
+            7,
+            64,
+            96,
+            100,
+            100 + p,
+            192 + p,
+            192 + p + c,
+            SIG,
+            NONC,
+            TYPE,
+            PATH,
+            SREP,
+            CERT,
+            INDX,
+        ],
+    );
+    put(dst, 68, &signature);
+    put(dst, 132, value_of(m, NONC));
+    // A response has TYPE 1.
+    put_words(dst, 164, &[1]);
+}
+
+// The path, and what stands behind it.
+fn put_rest<'a>(
+    dst: &mut [u8],
+    path: &'a [u8],
+    root: [u8; 32],
+    midp: u64,
+    radi: u32,
+    cert: &'a [u8],
+    indx: u32,
+)
+    requires { ⌜ 264 + length (now path) + length (now cert) ≤ length (now dst) ⌝ }
+    ensures { λ _. ⌜ now (dst .exit)
+        ≡ pasted (now (dst .entry)) 168
+        (restBytes (now (path .entry)) root midp radi (now (cert .entry)) indx) ⌝ }
+{
+    let p = path.len();
+    let c = cert.len();
+    put(dst, 168, path);
+    put_srep(dst, 168 + p, root, midp, radi);
+    put(dst, 260 + p, cert);
+    put_words(dst, 260 + p + c, &[indx]);
+}
