@@ -1,12 +1,15 @@
 -- What a server relies on: out of the rows that `rows` wrote, `path_from` answers and writes what `path` does, and
 -- their last node is the root.
+use mathlib.Core.Bool.{true}
 use mathlib.Core.Path.{_≡_, refl, sym, ap, _∙_}
 use mathlib.Core.List.{List, _++_}
-use Prim.Native.Nat.{ℕ, _-_, _^_, _<_}
+use Prim.Native.Nat.{ℕ, _*_, _-_, _^_, _≤_, _<_}
 use native.Mathlib.Omega.{arith}
-use lib.ListN.{length, drop, length-append}
+use lib.ListN.{length, take, drop, length-append}
+use lib.Pow.{pow-pos}
 use Rattle.laws.specs.Flat.{flat}
 use Rattle.laws.specs.Written.{written}
+use Rattle.tree.specs.PathCheck.{leadsOf}
 use Rattle.tree.specs.Tree.{nodeIn, nodeAt}
 use Rattle.batch.specs.AllRows.{levels, nodesOf, pathIn}
 use Rattle.batch.specs.Leaves.{countOf, leavesIn, depthIn, heldOf}
@@ -16,11 +19,12 @@ use Rattle.batch.specs.declared.Rooted.{Rooted}
 use Rattle.batch.specs.declared.Placed.{Placed}
 use Rattle.batch.specs.declared.Placed.the-variants as placed
 use Rattle.batch.specs.declared.Laid.the-variants as laid
-use Rattle.tree.proofs.Nodes.{leaves-long, tree-long}
+use Rattle.tree.proofs.Nodes.{leaves-long, node-long, tree-long}
 use Rattle.batch.proofs.Depth.{depth-holds}
 use Rattle.batch.proofs.Leaves.{count-bounds, held-all}
 use Rattle.batch.proofs.AllRows.{rows-length, path-laid, root-laid}
 use Rattle.batch.proofs.Answers.{rooted-some, places-once}
+use Rattle.batch.proofs.Built.{answers-lead}
 
 -- `rows`, lent the leaves s and the buffer o, answered that it wrote, and left the bytes b
 module _ (s o b : List ℕ) (depth : ℕ)
@@ -36,11 +40,19 @@ module _ (s o b : List ℕ) (depth : ℕ)
   unfolding rowsBytes
   is = left
 
-  held : heldOf (length b) n ≡ n
-  held =
+  whole : 32 * nodesOf (depthIn s) ≤ length b
+  whole =
       let size = ap length is ∙ length-append (flat (levels (leavesIn s) (depthIn s) 0)) _ in
-      held-all (length b) n (count-bounds (length s) .0)
-      (omega (arith, size, rows-length (leavesIn s) long (depthIn s)))
+      omega (arith, size, rows-length (leavesIn s) long (depthIn s))
+
+  held : heldOf (length b) n ≡ n
+  held = held-all (length b) n (count-bounds (length s) .0) whole
+
+  -- the last node has its 32 bytes
+  pub last-long : length (nodeIn b (nodesOf depth - 1)) ≡ 32
+  last-long =
+      let some : 1 ≤ nodesOf depth = omega (arith, pow-pos depth) in
+      node-long b (nodesOf depth - 1) (omega (arith, whole, ap nodesOf (right .2)))
 
   same-bytes : (place : ℕ) → place < n → fromBytes b n place ≡ pathBytes s place
   unfolding fromBytes pathBytes
@@ -77,3 +89,13 @@ module _ (s o b : List ℕ) (depth : ℕ)
       ∙ ap (λ (l : List ℕ). nodeIn l (nodesOf (depthIn s) - 1)) is
       ∙ root-laid (leavesIn s) long _ (depthIn s)
       ∙ sym root
+
+  -- so that the siblings at the front of what `path_from` leaves lead from that leaf to the last node of the rows
+  pub served-leads : (place : ℕ) (q u : List ℕ) (indx siblings : ℕ)
+      → PlacesLeaf (heldOf (length b) n) place (length q) (placed.Written indx siblings)
+      → u ≡ written 0 (fromBytes b n place) q
+      → leadsOf (nodeIn s place) indx (take (32 * siblings) u) (nodeIn b (nodesOf depth - 1)) ≡ true
+  served-leads place q u indx siblings x-right u-is =
+      let right = rw held at x-right in
+      let left = u-is ∙ same-left place q (placed.Written indx siblings) right in
+      rw (last-is-root (rootedOf s) refl) (answers-lead s q u place indx siblings (rootedOf s) right left refl)

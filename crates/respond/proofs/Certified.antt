@@ -1,12 +1,14 @@
 -- What the codes of a CERT and of a path say where they refuse nothing.
-use Prim.Native.Nat.{ℕ, _/_, _%_, _≤_}
+use Prim.Native.Nat.{ℕ, _≤_}
 use mathlib.Core.Path.{_≡_, refl, sym, _∙_}
 use mathlib.Core.Bool.{Bool, true, false, _&&_, true≢false}
 use mathlib.Core.List.{List}
 use native.Mathlib.Omega.{arith}
 use borrow.Author.Tests.{eqb-true, leb-true, not-false}
 use lib.ListN.{length}
+use Rattle.hash.specs.Hashes.{leafOf}
 use Rattle.laws.proofs.First.{quiet-of, row-quiet}
+use Rattle.message.specs.Sentences.{SiblingList}
 use Rattle.message.proofs.Codes.{message-good, kept}
 use Rattle.refusal.specs.Refusal.{refusals}
 use Rattle.refusal.specs.declared.Refusal.{Refusal}
@@ -32,12 +34,20 @@ certifies cert e z =
       maxt-long = kept (deleOf cert) deleTable (b .0) 2 tt refl;
     }
 
--- a path that leads is at most 32 siblings
-pub path-short : (request : List ℕ) (indx : ℕ) (path root : List ℕ) {t : Bool} → t ≡ replyMisses request indx path root
-    → t ≡ false → length path ≤ 1024
-unfolding replyMisses leadsOf
-path-short request indx path root e f =
-    let led = and-parts _ _ (not-false _ (sym e ∙ f)) in
+-- a path that leads is 0 to 32 whole siblings,
+pub leads-siblings : (leaf : List ℕ) (indx : ℕ) (path root : List ℕ) → leadsOf leaf indx path root ≡ true
+    → SiblingList path
+unfolding leadsOf
+leads-siblings leaf indx path root e =
+    let led = and-parts _ _ e in
     let near = and-parts _ _ (led .0) in
     let few = and-parts _ _ (near .0) in
-    omega (arith, eqb-true (length path % 32) 0 (few .0), leb-true (length path / 32) 32 (few .1))
+    record { whole = eqb-true _ _ (few .0); few = leb-true _ _ (few .1) }
+
+-- at most 1,024 bytes
+pub path-short : (request : List ℕ) (indx : ℕ) (path root : List ℕ) {t : Bool} → t ≡ replyMisses request indx path root
+    → t ≡ false → length path ≤ 1024
+unfolding replyMisses
+path-short request indx path root e f =
+    let s = leads-siblings (leafOf request) indx path root (not-false _ (sym e ∙ f)) in
+    omega (arith, s .whole, s .few)

@@ -23,7 +23,7 @@ use Rattle.respond.specs.Steps.{fitCode, testsCode}
 use Rattle.respond.proofs.Pieces.{Sized, length-response}
 
 -- a request that is not bad is not too long
-lent-short : (q : List ℕ) → requestBad q ≡ false → length q ≤ 2000
+pub lent-short : (q : List ℕ) → requestBad q ≡ false → length q ≤ 2000
 unfolding requestCode
 lent-short q f = packet-0 q (row-quiet refusals _ _ (lent-good q refl f) .0) .most
 

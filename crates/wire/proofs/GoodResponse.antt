@@ -35,17 +35,17 @@ inner-value : (fs : List Field) → Fields fs → (tag : ℕ) (h : HoldsMessage 
 inner-value fs ok tag h = value-encoded fs ok tag ∙ h .is
 
 -- such a value passes where its fields keep the table,
-inner-passes : (fs : List Field) → Fields fs → (tag : ℕ) (h : HoldsMessage fs tag) (rows : List Row)
+pub inner-passes : (fs : List Field) → Fields fs → (tag : ℕ) (h : HoldsMessage fs tag) (rows : List Row)
     → AllHeld (h .fields) rows → messageCode (valueOf (encode fs) tag) rows ≡ passed
 inner-passes fs ok tag h rows a = rw (inner-value fs ok tag h) (all-passes (h .fields) (h .kept) rows a)
 
 -- and one that passes, of bytes, is a message whose fields keep it
-record Inner (m : List ℕ) (fs : List Field) (tag : ℕ) (rows : List Row) : Type 0 where
-  holds : HoldsMessage fs tag
-  held : AllHeld (holds .fields) rows
-  read : valueOf m tag ≡ encode (holds .fields)
+pub record Inner (m : List ℕ) (fs : List Field) (tag : ℕ) (rows : List Row) : Type 0 where
+  pub holds : HoldsMessage fs tag
+  pub held : AllHeld (holds .fields) rows
+  pub read : valueOf m tag ≡ encode (holds .fields)
 
-inner : (m : List ℕ) (fs : List Field) → Fields fs → m ≡ encode fs → Bytes m → (tag : ℕ) (rows : List Row)
+pub inner : (m : List ℕ) (fs : List Field) → Fields fs → m ≡ encode fs → Bytes m → (tag : ℕ) (rows : List Row)
     → among tag fs ≡ true → messageCode (valueOf m tag) rows .code ≡ 0 → Inner m fs tag rows
 inner m fs ok is bytes tag rows there e =
     let a = encoded (valueOf m tag) rows (value-bytes m bytes tag) e in
