@@ -64,9 +64,9 @@ pub fn tests_code<'a>(
 fn cert_code(cert: &[u8]) -> Refusal
     ensures { λ r. ⌜ r ≡ certCode (now (cert .entry)) ⌝ }
 {
-    let c = outer_code(cert);
-    if c.code != 0 {
-        return c;
+    let outer = outer_code(cert);
+    if outer.code != 0 {
+        return outer;
     }
     inner_code(cert)
 }

@@ -4,9 +4,6 @@ ghost use Prim.Native.Nat.{_+_, _≤_};
 ghost use lib.ListN.{length};
 ghost use Rattle.laws.specs.Pasted.{pasted};
 ghost use Rattle.laws.specs.Written.{written};
-ghost use Rattle.message.specs.Tags.{NONC};
-ghost use Rattle.message.specs.Values.{valueOf};
-ghost use Rattle.wire.specs.Facts.{Asks};
 ghost use Rattle.writer.specs.Answered.{wroteNumber, answered};
 ghost use Rattle.respond.specs.Refusing.{replyCode};
 ghost use Rattle.respond.specs.Response.{reply, responseBytes};
@@ -21,10 +18,10 @@ use message::tags::PATH;
 use message::tags::SIG;
 use message::tags::SREP;
 use message::tags::TYPE;
-use message::value_of;
 use octets::put;
 use refusal::codes;
 use refusal::refuse;
+use wire::fields::value32;
 use wire::packet::MARK;
 use wire::packet::body_of;
 use writer::Wrote;
@@ -64,22 +61,16 @@ pub fn write_response<'a>(
     if out.len() < n {
         return Wrote::Refused(refuse(codes::ROOM));
     }
-    put_front(
-        out,
-        signature,
-        body_of(request),
-        path.len() as u32,
-        cert.len() as u32,
-    );
+    let nonce = value32(body_of(request), NONC);
+    put_front(out, signature, nonce, path.len() as u32, cert.len() as u32);
     put_rest(out, path, root, midp, radi, cert, indx);
     Wrote::Done(n)
 }
 
-// What stands before the path: of a request's message m the nonce, and the lengths p of the path and c of CERT.
-fn put_front(dst: &mut [u8], signature: [u8; 64], m: &[u8], p: u32, c: u32)
-    requires { ⌜ Asks (now m) × (168 ≤ length (now dst)) × (p + c ≤ 2000) ⌝ }
-    ensures { λ _. ⌜ now (dst .exit)
-        ≡ pasted (now (dst .entry)) 0 (frontBytes signature (valueOf (now (m .entry)) NONC) p c) ⌝ }
+// What stands before the path, which has p bytes, and CERT c.
+fn put_front(dst: &mut [u8], signature: [u8; 64], nonce: [u8; 32], p: u32, c: u32)
+    requires { ⌜ (168 ≤ length (now dst)) × (p + c ≤ 2000) ⌝ }
+    ensures { λ _. ⌜ now (dst .exit) ≡ pasted (now (dst .entry)) 0 (frontBytes signature nonce p c) ⌝ }
 {
     put(dst, 0, &MARK);
     // The length of the message; its seven values, of which the later six start at 64, 96, 100, behind the path, behind
@@ -106,7 +97,7 @@ fn put_front(dst: &mut [u8], signature: [u8; 64], m: &[u8], p: u32, c: u32)
         ],
     );
     put(dst, 68, &signature);
-    put(dst, 132, value_of(m, NONC));
+    put(dst, 132, &nonce);
     // A response has TYPE 1.
     put_words(dst, 164, &[1]);
 }

@@ -1,5 +1,6 @@
 -- `respond::refusing::cert_code` meets its contract. Each return is the first refusal of the row.
-use Rattle.laws.proofs.First.{chain}
+use Rattle.laws.proofs.First.{says-0, says-more, is-last}
+use Rattle.refusal.specs.Refusal.{refusals}
 use Rattle.message.proofs.Codes.{message-good}
 use Rattle.respond.specs.Refusing.{certCode}
 use borrow.Author.Needs.{needs}
@@ -8,14 +9,16 @@ use Rattle.respond.proofs.refusing.cert_code.Tie as tie
 
 returns : tie.Need-returns
 unfolding certCode
-returns c = search chain depth 9
+returns c = says-more refusals _ (c .before .before .outer-code .ensures) (c .if1 .taken)
 
 inner-code-requires : tie.Need-inner-code-requires
 inner-code-requires c κs = search (message-good, needs)
 
 returns-2 : tie.Need-returns-2
 unfolding certCode
-returns-2 c = search chain depth 9
+returns-2 c =
+    says-0 refusals _ _ (c .before .before .before .outer-code .ensures) (c .before .if1 .left)
+    (is-last refusals (c .inner-code .ensures))
 
 pub cert-code-spec : {M : Type 1} → statement M
 cert-code-spec = tie.close (tie.spec (λ c κs. search needs) returns inner-code-requires returns-2)

@@ -1,46 +1,35 @@
 -- `respond::responding::put_front` meets its contract. The five pieces follow each other from the front.
-use mathlib.Core.Path.{_≡_, refl, sym, ap, _∙_}
+use mathlib.Core.Path.{_≡_, refl, sym}
+use mathlib.Core.List.{[], _∷_}
 use native.Mathlib.Omega.{arith}
 use lib.ListN.{length}
-use mathlib.Core.List.{[], _∷_}
-use denote.Ref.{now}
 use Rattle.laws.specs.Numbers.{leBytes}
-use Rattle.laws.specs.Pasted.{pasted}
 use Rattle.laws.proofs.Written.{puts-one, puts-put, puts-as}
 use Rattle.message.specs.Encode.{words}
-use Rattle.message.specs.Tags.{NONC}
-use Rattle.message.specs.Values.{valueOf}
 use Rattle.wire.specs.Packet.{mark}
 use Rattle.respond.proofs.Pieces.{front-words, front-is}
 use borrow.Author.Needs.{needs}
 use Rattle.respond.proofs.responding.put_front.Statement.{statement}
 use Rattle.respond.proofs.responding.put_front.Tie as tie
 
-put-requires-3 : tie.Need-put-requires-3
-put-requires-3 c κs =
-    let s = c .before .before .before .before .before .before .before .before .before .before .before .before .before .before .before .before .before .before .before in
-    rw (c .value-of .ensures) (omega (arith, s .pre .0 .nonc-long))
-
 returns : tie.Need-returns
 unfolding words leBytes
 returns c =
     let p5 = c .before .before in
     let p4 = p5 .before .before .before .before .before in
-    let v = p4 .before in
-    let p3 = v .before .before .before .before in
+    let p3 = p4 .before .before .before .before .before in
     let p2 = p3 .before .before .before .before .before in
     let p1 = p2 .before .before .before .before .before in
-    let s = p1 .before .before .before .before .before in
+    let s = p1 .before .before .before .before in
     let a = s .args in
-    let nonce = valueOf (now (a .m)) NONC in
     let s64 : length (a .t2) ≡ 64 = omega (arith, s .good) in
-    let n32 : length nonce ≡ 32 = s .pre .0 .nonc-long in
+    let n32 : length (a .t3) ≡ 32 = omega (arith, s .good) in
     let w1 = puts-one mark 8 (p1 .put .ensures) refl (omega arith) in
     let w2 = puts-put (front-words (a .p) (a .c)) 68 w1 (p2 .put-words .ensures) refl (omega arith) in
     let w3 = puts-put (a .t2) 132 w2 (p3 .put2 .ensures) (omega arith) (omega arith) in
-    let w4 = puts-put nonce 164 w3 (p4 .put3 .ensures ∙ ap (pasted _ _) (v .value-of .ensures)) (omega arith) (omega arith) in
+    let w4 = puts-put (a .t3) 164 w3 (p4 .put3 .ensures) (omega arith) (omega arith) in
     let w5 = puts-put (words (1 ∷ [])) 168 w4 (p5 .put-words2 .ensures) refl (omega arith) in
-    puts-as (sym (front-is (a .t2) nonce (a .p) (a .c))) w5 .is
+    puts-as (sym (front-is (a .t2) (a .t3) (a .p) (a .c))) w5 .is
 
 pub put-front-spec : {M : Type 1} → statement M
 put-front-spec =
@@ -58,8 +47,8 @@ put-front-spec =
     (λ c κs. search needs)
     (λ c. search needs)
     (λ c κs. search needs)
+    (λ c. search needs)
     (λ c κs. search needs)
-    put-requires-3
     (λ c. search needs)
     (λ c κs. search needs)
     (λ c. search needs)

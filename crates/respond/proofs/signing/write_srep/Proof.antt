@@ -8,34 +8,35 @@ use borrow.Author.Needs.{needs}
 use Rattle.respond.proofs.signing.write_srep.Statement.{statement}
 use Rattle.respond.proofs.signing.write_srep.Tie as tie
 
-returns : tie.Need-returns
-returns c = writer-refused _ _ (c .before .before .radius-code .ensures) (c .if1 .taken)
+no-radius : tie.Need-returns
+no-radius c = writer-refused _ _ (c .before .before .radius-code .ensures) (c .if1 .taken)
 
-returns-2 : tie.Need-returns-2
-returns-2 c =
+too-short : tie.Need-returns-2
+too-short c =
     let r = c .before .before .before .before in
     let s = r .before .before in
     let n = length-srep (s .args .root) (s .args .midp) (s .args .radi) (omega (arith, s .good)) in
     writer-short _ _ (r .radius-code .ensures) (c .before .before .if1 .left) (c .refuse .ensures) (omega arith)
 
-returns-3 : tie.Need-returns-3
-returns-3 c =
+all-written : tie.Need-returns-3
+all-written c =
     let p = c .before .before in
     let i = p .before .before .before in
     let r = i .before .before in
     let s = r .before .before in
     let n = length-srep (s .args .root) (s .args .midp) (s .args .radi) (omega (arith, s .good)) in
     writer-done (r .radius-code .ensures) (i .if1 .left)
-    (puts-one (srepBytes (s .args .root) (s .args .midp) (s .args .radi)) 92 (p .put-srep .ensures) (omega arith) (omega arith))
+    (puts-one (srepBytes (s .args .root) (s .args .midp) (s .args .radi)) 92 (p .put-srep .ensures) (omega arith)
+    (omega arith))
 
 pub write-srep-spec : {M : Type 1} → statement M
 write-srep-spec =
     tie.close
     (tie.spec
     (λ c κs. search needs)
-    returns
+    no-radius
     (λ c κs. search needs)
-    returns-2
+    too-short
     (λ c κs. search needs)
     (λ c. search needs)
-    returns-3)
+    all-written)
