@@ -39,6 +39,14 @@ use Rattle.capi.proofs.reading.tb_read_response.Kinds as tb-read-respon
 use Rattle.capi.proofs.reading.tb_read_response.Reads as tb-read-response-reads
 use Rattle.capi.proofs.reading.tb_signed_parts.Kinds as tb-signed-parts-kinds
 use Rattle.capi.proofs.reading.tb_signed_parts.Reads as tb-signed-parts-reads
+use Rattle.capi.proofs.serving.tb_write_srep.Kinds as tb-write-srep-kinds
+use Rattle.capi.proofs.serving.tb_write_srep.Reads as tb-write-srep-reads
+use Rattle.capi.proofs.serving.tb_write_dele.Kinds as tb-write-dele-kinds
+use Rattle.capi.proofs.serving.tb_write_dele.Reads as tb-write-dele-reads
+use Rattle.capi.proofs.serving.tb_write_cert.Kinds as tb-write-cert-kinds
+use Rattle.capi.proofs.serving.tb_write_cert.Reads as tb-write-cert-reads
+use Rattle.capi.proofs.serving.tb_write_response.Kinds as tb-write-response-kinds
+use Rattle.capi.proofs.serving.tb_write_response.Reads as tb-write-response-reads
 use Rattle.capi.proofs.writing.tb_write_request.Kinds as tb-write-request-kinds
 use Rattle.capi.proofs.writing.tb_write_request.Reads as tb-write-request-reads
 use Rattle.capi.proofs.writing.tb_delegation_text.Kinds as tb-delegation-text-kinds
@@ -142,6 +150,26 @@ pub tb-write-request-once : Settles tb-write-request-kinds.ps tb-write-request-k
 tb-write-request-once κs a x u y v p q =
     let same = p .0 ∙ sym (q .0) in
     (same, ap (λ (out : List ℕ). (tt, (tt, (out, tt)))) (p .1 ∙ sym (rw (q .0 ∙ sym (p .0)) at (q .1))))
+
+pub tb-write-srep-once : Settles tb-write-srep-kinds.ps tb-write-srep-kinds.r tb-write-srep-reads.Learnt
+tb-write-srep-once κs a x u y v p q =
+    let same = p .0 ∙ sym (q .0) in
+    (same, ap (λ (out : List ℕ). (tt, (tt, (tt, (out, tt))))) (p .1 ∙ sym (rw (q .0 ∙ sym (p .0)) at (q .1))))
+
+pub tb-write-dele-once : Settles tb-write-dele-kinds.ps tb-write-dele-kinds.r tb-write-dele-reads.Learnt
+tb-write-dele-once κs a x u y v p q =
+    let same = p .0 ∙ sym (q .0) in
+    (same, ap (λ (out : List ℕ). (tt, (tt, (tt, (out, tt))))) (p .1 ∙ sym (rw (q .0 ∙ sym (p .0)) at (q .1))))
+
+pub tb-write-cert-once : Settles tb-write-cert-kinds.ps tb-write-cert-kinds.r tb-write-cert-reads.Learnt
+tb-write-cert-once κs a x u y v p q =
+    let same = p .0 ∙ sym (q .0) in
+    (same, ap (λ (out : List ℕ). (tt, (tt, (tt, (tt, (out, tt)))))) (p .1 ∙ sym (rw (q .0 ∙ sym (p .0)) at (q .1))))
+
+pub tb-write-response-once : Settles tb-write-response-kinds.ps tb-write-response-kinds.r tb-write-response-reads.Learnt
+tb-write-response-once κs a x u y v p q =
+    let same = p .0 ∙ sym (q .0) in
+    (same, ap (λ (out : List ℕ). (tt, (tt, (tt, (tt, (tt, (tt, (tt, (tt, (out, tt)))))))))) (p .1 ∙ sym (rw (q .0 ∙ sym (p .0)) at (q .1))))
 
 pub tb-delegation-text-once :
     Settles tb-delegation-text-kinds.ps tb-delegation-text-kinds.r tb-delegation-text-reads.Learnt

@@ -10,6 +10,7 @@ mod pieces;
 mod piling;
 mod reading;
 mod reusing;
+mod serving;
 mod stamping;
 mod tallying;
 mod verifying;
