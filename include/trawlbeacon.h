@@ -24,7 +24,8 @@
  * SREP's VER, or some version that is larger than SREP's VER stands in both its VER and VERS.
  *
  * The codes 4 to 7 come with at, the byte of the packet at which it is bad, counted from the
- * packet's first byte; beside any other code, 14 too, at is 0 and means nothing.
+ * packet's first byte; beside any other code, 14 too, at is 0 and means nothing. Where a response
+ * is written, it is a byte of the value of CERT that was lent.
  *   4 and 5: the start of the first wrong word of a message's header: of the first offset that is
  *            no multiple of 4, falls or leaves the values; of the tag that is not above the one
  *            before it; N's word, where N is not 1 to 32 or the header is too long. The start of
@@ -50,7 +51,7 @@ extern "C" {
 
 /* The version of this header: a change of the first number breaks callers. */
 #define TB_VERSION_MAJOR 0
-#define TB_VERSION_MINOR 11
+#define TB_VERSION_MINOR 12
 
 /* ---- Codes ---- */
 
@@ -104,6 +105,8 @@ enum tb_code {
     TB_LISTS = 21,
     /* no list has the server */
     TB_UNKNOWN_SERVER = 22,
+    /* the response would be longer than the request that it answers */
+    TB_RESPONSE_LENGTH = 23,
     /* an old stamp's date is under 40587, or its microseconds are 86,401,000,000 or more */
     TB_OLD_STAMP = 29,
     /* the pieces of a message come to more than 2^64 - 1 bytes */
@@ -160,6 +163,8 @@ static inline const char *tb_code_text(uint32_t code) {
         return "a list of servers is not whole records";
     case TB_UNKNOWN_SERVER:
         return "no list has the server";
+    case TB_RESPONSE_LENGTH:
+        return "the response would be longer than the request that it answers";
     case TB_OLD_STAMP:
         return "an old stamp's date is under 40587, or its microseconds are 86,401,000,000 or more";
     case TB_PIECES:
@@ -459,6 +464,55 @@ struct tb_laid tb_rows(const uint8_t *leaves, size_t leaves_len, uint8_t *out, s
  * many leaves, and 19. */
 struct tb_placed tb_path_from(const uint8_t *rows, size_t rows_len, size_t count, size_t place,
                               uint8_t *out, size_t out_len);
+
+/* ---- Servers ----
+ *
+ * What a server writes, of which the caller makes the two signatures, with an Ed25519 of its own.
+ *   1. Once for each delegated key: tb_write_dele; sign TB_DELEGATION_CONTEXT and then those bytes
+ *      with the long-term key; tb_write_cert.
+ *   2. For each batch of good requests: tb_leaf of each, tb_rows, and the root, which is the last
+ *      32 bytes of the rows; tb_write_srep once; sign TB_RESPONSE_CONTEXT and then those bytes with
+ *      the delegated key.
+ *   3. For each request: tb_path_from, and tb_write_response.
+ * One signature serves the whole batch, and each response passes tb_check_response for its own
+ * request where the client finds both signatures right. */
+
+/* The bytes in front of DELE and of SREP where they are signed: each string with its zero byte, so
+ * that sizeof tells how many they are, 34 and 32. */
+#define TB_DELEGATION_CONTEXT "RoughTime v1 delegation signature"
+#define TB_RESPONSE_CONTEXT "RoughTime v1 response signature"
+
+/* Bytes that tb_write_dele, tb_write_cert, tb_write_srep and tb_write_response write. */
+#define TB_DELE_LENGTH 72
+#define TB_CERT_LENGTH 152
+#define TB_SREP_LENGTH 92
+#define TB_RESPONSE_BYTES(path_len, cert_len) (264 + (path_len) + (cert_len))
+
+/* Writes DELE: the delegated public key, and the first and the last second at which it may sign.
+ * The code is 19. */
+struct tb_wrote tb_write_dele(const uint8_t pubk[32], uint64_t mint, uint64_t maxt, uint8_t *out,
+                              size_t out_len);
+
+/* Writes CERT: the same DELE, and the long-term key's signature over it. The code is 19. */
+struct tb_wrote tb_write_cert(const uint8_t pubk[32], uint64_t mint, uint64_t maxt,
+                              const uint8_t signature[64], uint8_t *out, size_t out_len);
+
+/* Writes SREP, with VER and VERS {1}: the root of a batch, the time and its radius. The codes are
+ * 7, where radi is 0, and 19; 7 has no place here, and at is 0. */
+struct tb_wrote tb_write_srep(const uint8_t root[32], uint64_t midp, uint32_t radi, uint8_t *out,
+                              size_t out_len);
+
+/* Writes the response to a request: indx and path are the place of its leaf and its siblings, cert
+ * the value of CERT, and signature that over what tb_write_srep writes for the same root, midp and
+ * radi. The codes are 14; 7, where radi is 0; 4 to 7 of CERT, then of its DELE; 10, also where the
+ * path is not 0 to 32 whole siblings; 11; 23, where the response would be longer than the request;
+ * 19. at is a byte of the value of CERT, counted from its first; beside 7 it is 0 exactly where
+ * radi is 0, since no value of CERT starts there. */
+struct tb_wrote tb_write_response(const uint8_t *request, size_t request_len, uint32_t indx,
+                                  const uint8_t root[32], const uint8_t *path, size_t path_len,
+                                  uint64_t midp, uint32_t radi, const uint8_t *cert,
+                                  size_t cert_len, const uint8_t signature[64], uint8_t *out,
+                                  size_t out_len);
 
 /* ---- Lists of servers ---- */
 

@@ -6,8 +6,9 @@
  * reader and the check by a request of ours and by a response that draft 19 prints, a verification
  * by signatures of RFC 8032 and of that response, a lookup by the place of the record, old stamps by
  * both sides of each limit, a pile by the times it was made of, windows as they come by every pair
- * of them, a writer by what it leaves in a buffer, the words of a code by some of them. Whether all
- * of that is right on every input is for the tests of hosts/rust.
+ * of them, a writer by what it leaves in a buffer, a server by the draft's response, which it writes
+ * again out of its values, the words of a code by some of them. Whether all of that is right on
+ * every input is for the tests of hosts/rust.
  */
 #include "response.h"
 #include "trawlbeacon.h"
@@ -29,7 +30,7 @@ enum { RESPONSE_LENGTH = sizeof RESPONSE };
 enum { SIG_AT = 68, NONC_AT = 132, TYPE_AT = 164 };
 enum { SREP_AT = 168, SREP_LENGTH = 92, RADI_AT = 212, MIDP_AT = 216, VERS_AT = 224 };
 enum { ROOT_AT = 228 };
-enum { CERT_SIG_AT = 276, DELE_AT = 340, DELE_LENGTH = 72 };
+enum { CERT_AT = 260, CERT_LENGTH = 152, CERT_SIG_AT = 276, DELE_AT = 340, DELE_LENGTH = 72 };
 enum { PUBK_AT = 364, MINT_AT = 396, MAXT_AT = 404 };
 
 /* Where things stand in a record of a pile. */
@@ -863,6 +864,120 @@ static void expect_reports(uint8_t *pile) {
     expect_reported("a damaged record", tb_check_report(pile, n, answers, m), 16, 3, 0, 0);
 }
 
+/* What a call of a server's writers answered, and what it left in a buffer of 0xee. */
+static void expect_wrote(const char *what, struct tb_wrote is, uint64_t code, uint64_t at,
+                         const uint8_t *out, size_t room, const uint8_t *should, size_t n) {
+    size_t length = code == 0 ? n : 0;
+    expect_number(what, is.code, code);
+    expect_number(what, is.at, at);
+    expect_number(what, is.length, length);
+    expect_bytes(what, out, should, length);
+    expect_all(what, out + length, 0xee, room - length);
+}
+
+/* SREP, DELE and CERT of the draft's response, out of their values, and with a byte of room too
+ * little. */
+static void expect_server_parts(const uint8_t *packet) {
+    const uint8_t *pubk = packet + PUBK_AT, *sig = packet + CERT_SIG_AT, *root = packet + ROOT_AT;
+    const uint64_t mint = 1773080680, maxt = 1776273880, midp = 1773685571;
+    uint8_t out[200];
+    size_t room = sizeof out;
+    for (size_t n = 0; n < 2; n++) {
+        uint32_t code = n == 0 ? TB_ROOM : 0;
+        memset(out, 0xee, room);
+        expect_wrote("tb_write_dele", tb_write_dele(pubk, mint, maxt, out, TB_DELE_LENGTH - 1 + n),
+                     code, 0, out, room, packet + DELE_AT, DELE_LENGTH);
+        memset(out, 0xee, room);
+        expect_wrote("tb_write_cert",
+                     tb_write_cert(pubk, mint, maxt, sig, out, TB_CERT_LENGTH - 1 + n), code, 0,
+                     out, room, packet + CERT_AT, CERT_LENGTH);
+        memset(out, 0xee, room);
+        expect_wrote("tb_write_srep", tb_write_srep(root, midp, 3, out, TB_SREP_LENGTH - 1 + n),
+                     code, 0, out, room, packet + SREP_AT, SREP_LENGTH);
+        memset(out, 0xee, room);
+        expect_wrote("tb_write_srep with a radius of 0",
+                     tb_write_srep(root, midp, 0, out, TB_SREP_LENGTH - 1 + n), TB_VALUE, 0, out,
+                     room, out, 0);
+    }
+}
+
+/* A call of tb_write_response, which can be changed. */
+struct reply {
+    const uint8_t *request;
+    size_t request_len;
+    uint32_t indx;
+    const uint8_t *root;
+    size_t path_len;
+    uint64_t midp;
+    uint32_t radi;
+    const uint8_t *cert;
+    size_t cert_len;
+    size_t room;
+};
+
+static void expect_reply(const char *what, struct reply is, uint64_t code, uint64_t at) {
+    static const uint8_t path[36];
+    uint8_t out[TB_REQUEST_LENGTH];
+    memset(out, 0xee, sizeof out);
+    struct tb_wrote wrote = tb_write_response(is.request, is.request_len, is.indx, is.root, path,
+                                              is.path_len, is.midp, is.radi, is.cert, is.cert_len,
+                                              RESPONSE + SIG_AT, out, is.room);
+    expect_wrote(what, wrote, code, at, out, sizeof out, RESPONSE, RESPONSE_LENGTH);
+}
+
+/* The draft's response again, out of its request and its values; and each code, alone and where all
+ * that come after it apply too. */
+static void expect_server(const uint8_t *packet) {
+    uint8_t request[TB_REQUEST_LENGTH] = {0}, cert[CERT_LENGTH], root[32] = {0};
+    tb_write_request(KEY, packet + NONC_AT, request, sizeof request);
+    memcpy(cert, packet + CERT_AT, sizeof cert);
+    struct reply good = {request, sizeof request, 0, packet + ROOT_AT, 0, 1773685571, 3, cert,
+                         sizeof cert, RESPONSE_LENGTH};
+    expect_number("bytes of a response", TB_RESPONSE_BYTES(0, CERT_LENGTH), RESPONSE_LENGTH);
+    expect_reply("the draft's response", good, 0, 0);
+
+    struct reply bad = good;
+    bad.room--;
+    expect_reply("a response without room", bad, TB_ROOM, 0);
+    bad.midp = 1776273881;
+    expect_reply("a response after MAXT", bad, TB_TIME, 0);
+    bad.midp = 1773080679;
+    expect_reply("a response before MINT", bad, TB_TIME, 0);
+    bad.indx = 1;
+    expect_reply("a response with another INDX", bad, TB_PATH, 0);
+    bad.indx = 0;
+    bad.path_len = 36;
+    expect_reply("a response with no whole siblings", bad, TB_PATH, 0);
+    cert[80 + 4 * 4 + 3] = 0;
+    expect_reply("a DELE whose tags do not rise", bad, TB_TAG_ORDER, 80 + 4 * 4);
+    cert[4] = 60;
+    expect_reply("a CERT whose SIG is short", bad, TB_VALUE, 16);
+    cert[8]--;
+    expect_reply("a CERT without SIG", bad, TB_TAG_ABSENT, 0);
+    cert[5] = 1;
+    expect_reply("a CERT with a wrong offset", bad, TB_FRAME, 4);
+    bad.cert_len = 0;
+    expect_reply("no CERT", bad, TB_FRAME, 0);
+    bad.radi = 0;
+    expect_reply("a response with a radius of 0", bad, TB_VALUE, 0);
+    bad.request_len--;
+    expect_reply("a response to a bad request", bad, TB_REQUEST, 0);
+
+    /* A request as long as its response, and one that is shorter. */
+    for (size_t n = RESPONSE_LENGTH; n >= RESPONSE_LENGTH - 4; n -= 4) {
+        uint8_t out[RESPONSE_LENGTH];
+        put_number(request + 8, n - 12, 4);
+        tb_leaf(request, n, root);
+        struct tb_wrote wrote =
+            tb_write_response(request, n, 0, root, request, 0, 1773685571, 3, packet + CERT_AT,
+                              CERT_LENGTH, packet + SIG_AT, out, sizeof out);
+        expect_number("a response and its request", wrote.code,
+                      n == RESPONSE_LENGTH ? 0 : TB_RESPONSE_LENGTH);
+        if (wrote.code == 0)
+            expect_number("such a response", tb_check_response(request, n, out, n, 1, 1).code, 0);
+    }
+}
+
 static void expect_words(uint32_t code, const char *should) {
     const char *is = tb_code_text(code);
     compared++;
@@ -880,7 +995,8 @@ static void expect_all_words(void) {
     expect_words(15, "the pile is not 1 to 16 whole records, or its answers are not two bytes a "
                      "record, each 1 or 0");
     expect_words(TB_UNKNOWN_SERVER, "no list has the server");
-    expect_words(TB_UNKNOWN_SERVER + 1, "no such code");
+    expect_words(23, "the response would be longer than the request that it answers");
+    expect_words(TB_RESPONSE_LENGTH + 1, "no such code");
     expect_words(29, "an old stamp's date is under 40587, or its microseconds are "
                      "86,401,000,000 or more");
     expect_words(UINT32_MAX, "no such code");
@@ -986,6 +1102,8 @@ int main(void) {
     expect_old_windows();
     expect_piles();
     expect_tally();
+    expect_server_parts(packet);
+    expect_server(packet);
     expect_all_words();
     expect_text(tb_delegation_text, packet, "RoughTime v1 delegation signature", packet + DELE_AT,
                 DELE_LENGTH);

@@ -11,9 +11,10 @@
 //!
 //! It has SHA-512, the hashes that Roughtime makes of it and the Merkle tree, a reader of packets,
 //! requests and responses, the check of a response, the writer of a request, the texts that are
-//! signed, the lookup of a server, piles of responses and the reports that are made of them, the
-//! timestamps of an old draft, and Ed25519. Beside them stands what all this is tried with: what
-//! makes piles and signatures, and a server that answers batches.
+//! signed, the writer of a response with its delegation, the lookup of a server, piles of responses
+//! and the reports that are made of them, the timestamps of an old draft, and Ed25519. Beside them
+//! stands what all this is tried with: what makes piles and signatures, and a server that answers
+//! batches.
 
 #![forbid(unsafe_code)]
 #![warn(missing_docs)]
@@ -36,6 +37,7 @@ pub mod place;
 pub mod refusal;
 pub mod report;
 pub mod request;
+pub mod respond;
 pub mod response;
 pub mod server;
 pub mod servers;

@@ -1,5 +1,5 @@
 //! Where a packet is bad: the byte that a refusal with one of the codes 4 to 7 names, counted from
-//! the first byte of the packet.
+//! the first byte of the packet, or of the value of CERT where that is judged by itself.
 //!
 //! It is looked for by itself, apart from the readers, which share no more than a packet's own
 //! header with it: a message is walked word by word, and the first thing that is wrong is told by
@@ -220,6 +220,16 @@ pub fn in_response(packet: &[u8]) -> Option<Place> {
     messages().err()
 }
 
+/// Where the value of CERT is bad, itself or its DELE, counted from its own first byte.
+pub fn in_cert(value: &[u8]) -> Option<Place> {
+    let cert = Part { packet: value, start: 0, end: value.len(), kind: Kind::Cert };
+    let messages = || {
+        let inside = cert.walk()?;
+        cert.within(&inside, DELE, Kind::Dele).walk()
+    };
+    messages().err()
+}
+
 #[cfg(test)]
 mod tests {
     use super::*;
@@ -273,6 +283,21 @@ mod tests {
         let place = in_response(&packet).unwrap();
         assert_eq!((place.kind, place.cause), (Kind::Dele, Cause::Size));
         assert_eq!(packet[place.at..place.at + 28], [0xee; 28]);
+    }
+
+    /// What a response's CERT is told by, less where CERT starts.
+    #[test]
+    fn a_cert_by_itself_is_told_from_its_own_start() {
+        let mut pieces = Pieces::good();
+        put(&mut pieces.dele, MAXT, &[0xdd; 4]);
+        let packet = pieces.clone().packet();
+        put(&mut pieces.cert, DELE, &message::encode(&pieces.dele.clone()));
+        let cert = message::encode(&pieces.cert);
+        let start = packet.windows(cert.len()).position(|part| part == cert).unwrap();
+        let (whole, alone) = (in_response(&packet).unwrap(), in_cert(&cert).unwrap());
+        assert_eq!((alone.kind, alone.cause), (Kind::Dele, Cause::Value));
+        assert_eq!((whole.at, cert[alone.at]), (start + alone.at, 0xdd));
+        assert_eq!(in_cert(&[]).map(|place| place.at), Some(0));
     }
 
     #[test]

@@ -53,6 +53,8 @@ pub enum Refusal {
     List = 21,
     /// No list has the server.
     ServerUnknown = 22,
+    /// A response would be longer than the request that it answers.
+    ResponseLength = 23,
     /// An old stamp has a day before 1 January 1970, or more microseconds than a day with a leap
     /// second.
     OldStamp = 29,

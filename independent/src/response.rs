@@ -120,14 +120,16 @@ impl<'a> Srep<'a> {
 }
 
 impl<'a> Cert<'a> {
-    fn read(bytes: &'a [u8]) -> Result<Self, Refusal> {
+    /// The message that the value of CERT is.
+    pub fn read(bytes: &'a [u8]) -> Result<Self, Refusal> {
         let [sig, dele] = Message::read(bytes)?.needed([SIG, DELE])?;
         Ok(Cert { sig: value::array(sig)?, dele })
     }
 }
 
 impl<'a> Dele<'a> {
-    fn read(bytes: &'a [u8]) -> Result<Self, Refusal> {
+    /// The message that the value of DELE is.
+    pub fn read(bytes: &'a [u8]) -> Result<Self, Refusal> {
         let [pubk, mint, maxt] = Message::read(bytes)?.needed([PUBK, MINT, MAXT])?;
         Ok(Dele {
             bytes,

@@ -8,7 +8,7 @@
 //!
 //! H, below, is Roughtime's hash: the first 32 bytes of SHA-512. The example `console` goes from
 //! the request to the window, with both signatures verified, and takes a file for what the server
-//! answered.
+//! answered; the example `server` delegates a key and answers a batch of 900 requests.
 //!
 //! ```
 //! use trawlbeacon::Refusal;
@@ -39,6 +39,7 @@ mod piles;
 pub mod raw;
 mod refusal;
 mod servers;
+mod serving;
 mod signing;
 mod stamps;
 mod tally;
@@ -57,6 +58,10 @@ pub use piles::{
 };
 pub use refusal::{PacketRefusal, Refusal};
 pub use servers::{find_server, Found, List, SERVER_LENGTH};
+pub use serving::{
+    response_length, write_cert, write_dele, write_response, write_srep, Reply, CERT_LENGTH,
+    DELEGATION_CONTEXT, DELE_LENGTH, RESPONSE_CONTEXT, SREP_LENGTH,
+};
 pub use signing::{delegation_text, response_text, signed_parts, SignedParts, LONGEST_TEXT};
 pub use stamps::{old_window, OldWindow};
 pub use tally::{pile_contradicts, Tally};

@@ -277,6 +277,48 @@ extern "C" {
         out_len: usize,
     ) -> tb_wrote;
 
+    /// Writes DELE.
+    pub fn tb_write_dele(
+        pubk: &[u8; 32],
+        mint: u64,
+        maxt: u64,
+        out: *mut u8,
+        out_len: usize,
+    ) -> tb_wrote;
+    /// Writes CERT.
+    pub fn tb_write_cert(
+        pubk: &[u8; 32],
+        mint: u64,
+        maxt: u64,
+        signature: &[u8; 64],
+        out: *mut u8,
+        out_len: usize,
+    ) -> tb_wrote;
+    /// Writes SREP.
+    pub fn tb_write_srep(
+        root: &[u8; 32],
+        midp: u64,
+        radi: u32,
+        out: *mut u8,
+        out_len: usize,
+    ) -> tb_wrote;
+    /// Writes the response to a request. A place is one in the value of CERT.
+    pub fn tb_write_response(
+        request: *const u8,
+        request_len: usize,
+        indx: u32,
+        root: &[u8; 32],
+        path: *const u8,
+        path_len: usize,
+        midp: u64,
+        radi: u32,
+        cert: *const u8,
+        cert_len: usize,
+        signature: &[u8; 64],
+        out: *mut u8,
+        out_len: usize,
+    ) -> tb_wrote;
+
     /// Whether a signature of a text verifies under a key.
     pub fn tb_verify(
         key: *const u8,

@@ -56,6 +56,8 @@ pub enum Refusal {
     Lists,
     /// no list has the server
     UnknownServer,
+    /// the response would be longer than the request that it answers
+    ResponseLength,
     /// an old stamp's date is under 40587, or its microseconds are 86,401,000,000 or more
     OldStamp,
     /// the pieces of a message come to more than 2^64 - 1 bytes
@@ -89,6 +91,7 @@ impl Refusal {
             Refusal::Leaves => 20,
             Refusal::Lists => 21,
             Refusal::UnknownServer => 22,
+            Refusal::ResponseLength => 23,
             Refusal::OldStamp => 29,
             Refusal::Pieces => 30,
         }
@@ -135,6 +138,9 @@ impl Refusal {
             }
             Refusal::Lists => "a list of servers is not whole records",
             Refusal::UnknownServer => "no list has the server",
+            Refusal::ResponseLength => {
+                "the response would be longer than the request that it answers"
+            }
             Refusal::OldStamp => {
                 "an old stamp's date is under 40587, or its microseconds are 86,401,000,000 or more"
             }
@@ -168,6 +174,7 @@ impl Refusal {
             20 => Refusal::Leaves,
             21 => Refusal::Lists,
             22 => Refusal::UnknownServer,
+            23 => Refusal::ResponseLength,
             29 => Refusal::OldStamp,
             30 => Refusal::Pieces,
             _ => return None,
@@ -212,7 +219,8 @@ pub struct PacketRefusal {
     /// The byte at which the packet is bad, counted from its first one: there is one exactly where
     /// the code is 4 to 7. It is the start of the first wrong word of a message's header (4, 5), of
     /// the message that lacks a tag (6) or has a wrong length (4), or of the wrong value with the
-    /// smallest tag (7).
+    /// smallest tag (7). Where a response is written it is a byte of the value of CERT, and a RADI
+    /// of 0 has none.
     pub at: Option<usize>,
 }
 

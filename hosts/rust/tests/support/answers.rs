@@ -247,10 +247,17 @@ fn unseen_lengths(packet: &[u8]) -> Option<String> {
             raw::tb_write_request(&[0; 32], &[0; 32], to, m),
             raw::tb_delegation_text(start, n, to, m),
             raw::tb_response_text(start, n, to, m),
+            raw::tb_write_srep(&[0; 32], 0, 1, to, m),
+            raw::tb_write_srep(&[0; 32], 0, 0, to, m),
+            raw::tb_write_dele(&[0; 32], 0, 0, to, m),
+            raw::tb_write_cert(&[0; 32], 0, 0, &[0; 64], to, m),
+            raw::tb_write_response(
+                start, n, 0, &[0; 32], start, 0, 0, 1, start, n, &[0; 64], to, m,
+            ),
         ]
     };
     let wrong = writers.iter().any(|wrote| {
-        wrote.length != 0 || !(1..=19).contains(&wrote.code) || unplaced(wrote.code, wrote.at)
+        wrote.length != 0 || !(1..=23).contains(&wrote.code) || unplaced(wrote.code, wrote.at)
     });
     wrong.then(|| format!("the writers answered {writers:?}"))
 }

@@ -10,6 +10,7 @@ pub mod packets;
 pub mod pairs;
 pub mod pile_answers;
 pub mod piles;
+pub mod replies;
 pub mod signed;
 pub mod tally;
 pub mod trees;

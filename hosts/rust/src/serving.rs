@@ -1,0 +1,108 @@
+//! What a server writes: DELE and CERT, SREP, and the response to each request of a batch. The
+//! library makes no signature: the caller does, with an Ed25519 of its own.
+
+use crate::packets::wrote;
+use crate::{raw, Hash, PacketRefusal, Refusal};
+
+/// Bytes in front of DELE where it is signed.
+pub const DELEGATION_CONTEXT: &[u8; 34] = b"RoughTime v1 delegation signature\0";
+
+/// Bytes in front of SREP where it is signed.
+pub const RESPONSE_CONTEXT: &[u8; 32] = b"RoughTime v1 response signature\0";
+
+/// Bytes of the DELE that [`write_dele`] writes.
+pub const DELE_LENGTH: usize = 72;
+
+/// Bytes of the CERT that [`write_cert`] writes.
+pub const CERT_LENGTH: usize = 152;
+
+/// Bytes of the SREP that [`write_srep`] writes.
+pub const SREP_LENGTH: usize = 92;
+
+/// Bytes of the response that [`write_response`] writes with so many bytes of siblings and of CERT.
+#[must_use]
+pub const fn response_length(path: usize, cert: usize) -> usize {
+    264 + path + cert
+}
+
+/// What a response is made of.
+#[derive(Clone, Copy, Debug, PartialEq, Eq)]
+pub struct Reply<'a> {
+    /// The request packet.
+    pub request: &'a [u8],
+    /// INDX: the place of the request's leaf in the batch.
+    pub indx: u32,
+    /// ROOT: the root of the batch.
+    pub root: &'a Hash,
+    /// PATH: the siblings of the leaf, one after the other.
+    pub path: &'a [u8],
+    /// MIDP: the time, in seconds since 1970.
+    pub midp: u64,
+    /// RADI: how far the true time may be from that, in seconds; not 0.
+    pub radi: u32,
+    /// The value of CERT.
+    pub cert: &'a [u8],
+    /// The delegated key's signature over what [`write_srep`] writes for the same root, time and
+    /// radius.
+    pub signature: &'a [u8; 64],
+}
+
+/// Writes DELE at the front of `out`, for the delegated public key and the first and the last second
+/// at which it may sign, and tells how many bytes it has: [`DELE_LENGTH`]. What follows them stays.
+/// The only refusal is 19, and then all of `out` stays.
+pub fn write_dele(pubk: &[u8; 32], mint: u64, maxt: u64, out: &mut [u8]) -> Result<usize, Refusal> {
+    // SAFETY: see raw.
+    Ok(wrote(unsafe { raw::tb_write_dele(pubk, mint, maxt, out.as_mut_ptr(), out.len()) })?)
+}
+
+/// Writes CERT at the front of `out`, of the same DELE and the long-term key's signature over it
+/// behind [`DELEGATION_CONTEXT`], and tells how many bytes it has: [`CERT_LENGTH`]. What follows
+/// them stays. The only refusal is 19, and then all of `out` stays.
+pub fn write_cert(
+    pubk: &[u8; 32],
+    mint: u64,
+    maxt: u64,
+    signature: &[u8; 64],
+    out: &mut [u8],
+) -> Result<usize, Refusal> {
+    let to = out.as_mut_ptr();
+    // SAFETY: see raw.
+    Ok(wrote(unsafe { raw::tb_write_cert(pubk, mint, maxt, signature, to, out.len()) })?)
+}
+
+/// Writes SREP at the front of `out`, with VER and VERS {1}, for the root of a batch, a time and its
+/// radius, and tells how many bytes it has: [`SREP_LENGTH`]. What follows them stays. The refusals
+/// are 7, where `radi` is 0, and 19, and then all of `out` stays.
+pub fn write_srep(root: &Hash, midp: u64, radi: u32, out: &mut [u8]) -> Result<usize, Refusal> {
+    // SAFETY: see raw.
+    Ok(wrote(unsafe { raw::tb_write_srep(root, midp, radi, out.as_mut_ptr(), out.len()) })?)
+}
+
+/// Writes a whole response at the front of `out`, and tells how many bytes it has:
+/// [`response_length`] of its path and CERT. What follows them stays. The refusals are 14; 7, where
+/// RADI is 0; 4 to 7 of CERT, then of its DELE; 10; 11; 23; 19; and then all of `out` stays. A place
+/// is one in the value of CERT, counted from its first byte; a RADI of 0 has none.
+pub fn write_response(reply: &Reply, out: &mut [u8]) -> Result<usize, PacketRefusal> {
+    let Reply { request, indx, root, path, midp, radi, cert, signature } = *reply;
+    // SAFETY: see raw.
+    let told = wrote(unsafe {
+        raw::tb_write_response(
+            request.as_ptr(),
+            request.len(),
+            indx,
+            root,
+            path.as_ptr(),
+            path.len(),
+            midp,
+            radi,
+            cert.as_ptr(),
+            cert.len(),
+            signature,
+            out.as_mut_ptr(),
+            out.len(),
+        )
+    });
+    // No value of CERT starts at its first byte: 0 beside 7 is no place.
+    let no_place = |why: &PacketRefusal| why.refusal == Refusal::Value && why.at == Some(0);
+    told.map_err(|why| if no_place(&why) { why.refusal.into() } else { why })
+}
