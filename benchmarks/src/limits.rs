@@ -15,6 +15,8 @@ pub struct Limits {
     pub piles: f64,
     /// A verification against OpenSSL's.
     pub openssl: f64,
+    /// A server with a whole batch against the independent implementation.
+    pub servers: f64,
 }
 
 /// All rows of a tree against the hashing that it needs, by the number of its leaves.
@@ -46,6 +48,7 @@ impl Limits {
             pieces: limit("BENCH_LIMIT_PIECES", 1.05),
             piles: limit("BENCH_LIMIT_PILES", 0.87),
             openssl: limit("BENCH_LIMIT_OPENSSL", 1.7),
+            servers: limit("BENCH_LIMIT_SERVERS", 0.70),
         }
     }
 }

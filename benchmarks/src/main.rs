@@ -11,6 +11,7 @@
 mod hashes;
 mod limits;
 mod piles;
+mod servers;
 mod sides;
 mod signatures;
 mod timing;
@@ -67,6 +68,14 @@ const WINDOWS: Table = Table {
 };
 
 const SIGNATURES: Table = Table { sides: &[Side::Ours, Side::Independent, Side::OpenSsl], ..PILES };
+
+const SERVERS: Table = Table {
+    width: 26,
+    unit: "/s",
+    sides: &[Side::Ours, Side::Independent],
+    digits: 0,
+    show: |answers, seconds| answers as f64 / seconds,
+};
 
 impl Table {
     /// The names of the columns: a measure for each side, then a ratio for each side but ours.
@@ -163,6 +172,16 @@ fn main() -> ExitCode {
     println!("{}", SIGNATURES.header());
     for signed in &signatures::signed(&data) {
         SIGNATURES.report(signed.subject(&limits), &mut above);
+    }
+    println!(
+        "a server with a batch of {}, by its parts; limit for the whole: ours/independent {}",
+        servers::BATCH,
+        limits.servers
+    );
+    println!("{}", SERVERS.header());
+    let round = servers::Round::new();
+    for subject in round.subjects(&limits) {
+        SERVERS.report(subject, &mut above);
     }
     for line in &above {
         println!("TOO SLOW: {line}");
