@@ -3,7 +3,7 @@ use mathlib.Core.Path.{sym, ap, _∙_}
 use mathlib.Core.List.{List}
 use Prim.Native.Nat.{ℕ}
 use Rattle.laws.proofs.Once.{Settles}
-use Rattle.writer.proofs.Once.{leaves-once}
+use Rattle.writer.proofs.Answered.{leaves-once}
 use Rattle.respond.proofs.signing.write_srep.Kinds as srep-kinds
 use Rattle.respond.proofs.signing.write_srep.Reads as srep-reads
 use Rattle.respond.proofs.delegating.write_dele.Kinds as dele-kinds

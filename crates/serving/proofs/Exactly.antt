@@ -4,6 +4,7 @@ use mathlib.Core.List.{List}
 use mathlib.Core.Logic.{_↔_}
 use mathlib.Core.Path.{_≡_, refl, sym, ap, _∙_}
 use Prim.Native.Nat.{ℕ, _≤_}
+use native.Mathlib.Omega.{arith}
 use borrow.Author.Tests.{eq-eqb, ltb-false, not-false}
 use lib.ListN.{length, take}
 use Rattle.laws.specs.Bytes.{Bytes}
@@ -80,7 +81,7 @@ module _ (a : Reply) where
         let g = granted-exactly a .0 z in
         record {
           request = request-good (a .request) q-bytes (lent-good (a .request) refl (g .request));
-          radius = g .radius;
+          radius = omega (arith, g .radius);
           delegation = cert-good (a .cert) c-bytes (g .certified, g .delegated);
           leads = g .leads;
           from = g .from;
@@ -92,7 +93,7 @@ module _ (a : Reply) where
         granted-exactly a .1
         (record {
           request = lent (a .request) (good-request (a .request) (s .request));
-          radius = s .radius;
+          radius = omega (arith, s .radius);
           certified = c .0;
           delegated = c .1;
           leads = s .leads;

@@ -24,6 +24,12 @@ use Rattle.writer.specs.declared.Wrote.the-variants.{Done, Refused}
 abbrev pub Writes : Refusal → List ℕ → List ℕ → Wrote → List ℕ → Type 0
 Writes why p o r d = (r ≡ answered why p o) × (d ≡ written (wroteNumber r) p o)
 
+-- the contract of any writer settles what it leaves
+pub leaves-once : {x y : Wrote} {d e : List ℕ} (why : Refusal) (p o : List ℕ)
+    → Writes why p o x d → Writes why p o y e → d ≡ e
+leaves-once why p o v w =
+    v .1 ∙ ap (λ (r : Wrote). written (wroteNumber r) p o) (v .0 ∙ sym (w .0)) ∙ sym (w .1)
+
 -- ---- the ways out, where code has the refusal `why` of the input as x
 
 -- some refusal applies, and code has the first as z
