@@ -32,12 +32,18 @@ static void call_path_from(void) {
 /* 32 siblings, the most that a path may have. */
 static void call_leads(void) { tb_leads(leaves, 0, rows, 1024, leaves); }
 
-/* The neutral point as key and as R, and S = 0: this verifies, so that all of it is worked out. */
-static uint8_t key[32] = {1}, signature[64] = {1};
+/* RFC 8032's first signature, of no bytes: it verifies, so that all of it is worked out. */
+static const uint8_t KEY[32] = {0xd7, 0x5a, 0x98, 0x01, 0x82, 0xb1, 0x0a, 0xb7, 0xd5, 0x4b, 0xfe,
+                                0xd3, 0xc9, 0x64, 0x07, 0x3a, 0x0e, 0xe1, 0x72, 0xf3, 0xda, 0xa6,
+                                0x23, 0x25, 0xaf, 0x02, 0x1a, 0x68, 0xf7, 0x07, 0x51, 0x1a};
+static const uint8_t SIGNATURE[64] = {
+    0xe5, 0x56, 0x43, 0x00, 0xc3, 0x60, 0xac, 0x72, 0x90, 0x86, 0xe2, 0xcc, 0x80, 0x6e, 0x82, 0x8a,
+    0x84, 0x87, 0x7f, 0x1e, 0xb8, 0xe5, 0xd9, 0x74, 0xd8, 0x73, 0xe0, 0x65, 0x22, 0x49, 0x01, 0x55,
+    0x5f, 0xb8, 0x82, 0x15, 0x90, 0xa3, 0x3b, 0xac, 0xc6, 0x1e, 0x39, 0x70, 0x1c, 0xf9, 0xb4, 0x6b,
+    0xd2, 0x5b, 0xf5, 0xf0, 0x59, 0x5b, 0xbe, 0x24, 0x65, 0x51, 0x41, 0x43, 0x8e, 0x7a, 0x10, 0x0b};
 static bool verified;
 static void call_verify(void) {
-    verified = tb_verify_parts(key, sizeof key, leaves, 34, leaves, 2000, signature,
-                               sizeof signature);
+    verified = tb_verify_parts(KEY, sizeof KEY, leaves, 0, leaves, 0, SIGNATURE, sizeof SIGNATURE);
 }
 
 static const struct operation {
@@ -120,7 +126,7 @@ int main(void) {
         printf("\n");
     }
     size_t verifying = taken(stack, call_verify) - before;
-    printf("%-13s %6zu, and the header says %d\n", "tb_verify", verifying, TB_VERIFY_STACK);
+    printf("%-13s %6zu, and the header says %d\n", "tb_verify_parts", verifying, TB_VERIFY_STACK);
     /* What a call of nothing takes is not the library's, but stands on the same stack. */
     size_t pages = (most + PAGE - 1) / PAGE * PAGE;
     int fits = most - before <= TB_TREE_STACK, enough = all_end_on(TB_TREE_STACK);
