@@ -925,8 +925,8 @@ static void expect_reply(const char *what, struct reply is, uint64_t code, uint6
     expect_wrote(what, wrote, code, at, out, sizeof out, RESPONSE, RESPONSE_LENGTH);
 }
 
-/* The draft's response again, out of its request and its values; and each code, alone and where all
- * that come after it apply too. */
+/* The draft's response again, out of its request and its values; and each code with those after it,
+ * but 23, which comes by itself. */
 static void expect_server(const uint8_t *packet) {
     uint8_t request[TB_REQUEST_LENGTH] = {0}, cert[CERT_LENGTH], root[32] = {0};
     tb_write_request(KEY, packet + NONC_AT, request, sizeof request);

@@ -216,11 +216,11 @@ impl std::error::Error for Refusal {}
 pub struct PacketRefusal {
     /// The refusal.
     pub refusal: Refusal,
-    /// The byte at which the packet is bad, counted from its first one: there is one exactly where
-    /// the code is 4 to 7. It is the start of the first wrong word of a message's header (4, 5), of
-    /// the message that lacks a tag (6) or has a wrong length (4), or of the wrong value with the
-    /// smallest tag (7). Where a response is written it is a byte of the value of CERT, and a RADI
-    /// of 0 has none.
+    /// The byte at which the packet is bad, counted from its first one: there is one where the code
+    /// is 4 to 7, but for the 7 by which a writer tells a RADI of 0. It is the start of the first
+    /// wrong word of a message's header (4, 5), of the message that lacks a tag (6) or has a wrong
+    /// length (4), or of the wrong value with the smallest tag (7). Where a response is written it
+    /// is a byte of the value of CERT.
     pub at: Option<usize>,
 }
 

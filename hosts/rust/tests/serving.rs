@@ -163,8 +163,7 @@ fn both_sides_write_the_same_parts() {
     tally.at_least(500, "CERT", [0]);
 }
 
-/// No byte of a refusal without a place, and no length of any, that the functions of hosts/rust do
-/// not show.
+/// Beside 7 there is a byte exactly where RADI is not 0.
 #[test]
 fn a_radius_of_0_has_no_place() {
     let mut random = Xorshift::new(0x5eed_0104);

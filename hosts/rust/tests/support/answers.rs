@@ -257,7 +257,7 @@ fn unseen_lengths(packet: &[u8]) -> Option<String> {
         ]
     };
     let wrong = writers.iter().any(|wrote| {
-        wrote.length != 0 || !(1..=23).contains(&wrote.code) || unplaced(wrote.code, wrote.at)
+        wrote.length != 0 || !(1..=19).contains(&wrote.code) || unplaced(wrote.code, wrote.at)
     });
     wrong.then(|| format!("the writers answered {writers:?}"))
 }
