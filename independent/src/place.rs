@@ -295,7 +295,7 @@ mod tests {
         let cert = message::encode(&pieces.cert);
         let start = packet.windows(cert.len()).position(|part| part == cert).unwrap();
         let (whole, alone) = (in_response(&packet).unwrap(), in_cert(&cert).unwrap());
-        assert_eq!((alone.kind, alone.cause), (Kind::Dele, Cause::Value));
+        assert_eq!((alone.kind, alone.cause), (Kind::Dele, Cause::Size));
         assert_eq!((whole.at, cert[alone.at]), (start + alone.at, 0xdd));
         assert_eq!(in_cert(&[]).map(|place| place.at), Some(0));
     }
