@@ -197,7 +197,7 @@ static inline const char *tb_code_text(uint32_t code) {
 #define TB_TREE_STACK 40960
 
 /* Bytes of stack that are enough for a verification, which has a table of 10,240 numbers there:
- * 47,720 at the most, measured on aarch64. hosts/c/stack.c measures it anew. */
+ * 48,744 at the most, measured on aarch64. hosts/c/stack.c measures it anew. */
 #define TB_VERIFY_STACK 65536
 
 /* Bytes of a record of a list of servers. */
