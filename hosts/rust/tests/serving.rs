@@ -5,10 +5,12 @@
 mod support;
 
 use independent::appendix::{self, Entry};
+use independent::place::{self, Kind};
 use independent::{check, respond, response, text};
+use std::collections::BTreeMap;
 use support::answers::{self, Both};
 use support::packets::number;
-use support::replies::{Call, Fault, FAULTS};
+use support::replies::{Call, Fault, Frame, CERT_FRAMES, DELE_FRAMES, FAULTS};
 use support::tally::Tally;
 use support::{hex, Xorshift};
 use trawlbeacon::{
@@ -89,16 +91,33 @@ fn some_faults(random: &mut Xorshift) -> Vec<Fault> {
     faults
 }
 
+/// The cause of code 4 that is due, seen to be the one that the independent side finds.
+fn frame_due(call: &Call, first: Fault) -> Option<(Kind, Frame)> {
+    let (kind, frame) = match first {
+        Fault::CertFrame => (Kind::Cert, call.frames[0]?),
+        Fault::DeleFrame => (Kind::Dele, call.frames[1]?),
+        _ => return None,
+    };
+    let found = place::in_cert(&call.cert).expect("its frame is wrong");
+    assert_eq!(found.kind, kind, "{frame:?}: {}", call.show());
+    assert!(frame.is_told_as(found.cause), "{frame:?}: {:?}: {}", found.cause, call.show());
+    Some((kind, frame))
+}
+
 #[test]
 fn both_sides_refuse_the_same_calls() {
     let mut random = Xorshift::new(0x5eed_0102);
     let mut tally = Tally::new(&[FAULTY]);
     let mut alone = [0; FAULTS.len()];
     let mut beside = [0; FAULTS.len()];
+    let mut frames: BTreeMap<(Kind, Frame), usize> = BTreeMap::new();
     for _ in 0..110_000 {
         let faults = some_faults(&mut random);
         let call = Call::with(&mut random, &faults);
         compare(&mut tally, FAULTY, &call, faults[0].code());
+        if let Some(due) = frame_due(&call, faults[0]) {
+            *frames.entry(due).or_insert(0) += 1;
+        }
         let place = faults[0] as usize;
         alone[place] += usize::from(faults.len() == 1);
         let next = FAULTS.get(place + 1);
@@ -109,10 +128,16 @@ fn both_sides_refuse_the_same_calls() {
     for (place, fault) in FAULTS.iter().enumerate() {
         println!("{:>12} {:>7} {:>7}", format!("{fault:?}"), alone[place], beside[place]);
     }
+    println!("how often each cause of code 4 was told, of CERT and of its DELE:");
+    for ((kind, frame), count) in &frames {
+        println!("{:>12} {:>9} {count:>7}", format!("{kind:?}"), format!("{frame:?}"));
+    }
     tally.no_difference();
     tally.at_least(1_000, FAULTY, [4, 5, 6, 7, 10, 11, 14, 19, 23]);
     assert!(alone.iter().all(|count| *count >= 1_000), "{alone:?}");
     assert!(beside[..FAULTS.len() - 1].iter().all(|count| *count >= 1_000), "{beside:?}");
+    assert_eq!(frames.len(), CERT_FRAMES.len() + DELE_FRAMES.len());
+    assert!(frames.values().all(|count| *count >= 500), "{frames:?}");
 }
 
 /// The writers of SREP, DELE and CERT, into buffers of every length up to some beyond what they

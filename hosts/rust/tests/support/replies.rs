@@ -7,6 +7,7 @@ use super::answers::{Bad, Both, Written};
 use super::packets::number;
 use super::{hex, Xorshift};
 use independent::making::LEAST_REQUEST;
+use independent::place::Cause;
 use independent::respond::{self, Unwritten};
 use independent::tag::{Tag, DELE, MAXT, MINT, PUBK, SIG, TYPE, ZZZZ};
 use independent::{hash, message, packet, tree, write};
@@ -67,6 +68,70 @@ impl Fault {
     }
 }
 
+/// What can be wrong with the frame of a message.
+#[derive(Clone, Copy, Debug, PartialEq, Eq, PartialOrd, Ord)]
+pub enum Frame {
+    /// Fewer than 4 bytes.
+    Short,
+    /// A length that is no multiple of 4.
+    Odd,
+    /// The same of the DELE in CERT, with the rest of its last word in the value behind it.
+    OddDele,
+    /// N is 0.
+    NoTags,
+    /// N is above 32.
+    ManyTags,
+    /// The header is longer than the message.
+    Header,
+    /// An offset that is no multiple of 4.
+    Uneven,
+    /// An offset below the one before it.
+    Falling,
+    /// An offset past the values.
+    Outside,
+}
+
+/// All of these can be wrong with CERT.
+pub const CERT_FRAMES: [Frame; 9] = [
+    Frame::Short,
+    Frame::Odd,
+    Frame::OddDele,
+    Frame::NoTags,
+    Frame::ManyTags,
+    Frame::Header,
+    Frame::Uneven,
+    Frame::Falling,
+    Frame::Outside,
+];
+
+/// Those that can be wrong with DELE: where the frame of CERT is good, each value in it has whole
+/// words.
+pub const DELE_FRAMES: [Frame; 7] = [
+    Frame::Short,
+    Frame::NoTags,
+    Frame::ManyTags,
+    Frame::Header,
+    Frame::Uneven,
+    Frame::Falling,
+    Frame::Outside,
+];
+
+impl Frame {
+    /// Whether this is what is told of it. A DELE of odd length can stand in CERT twice, so that
+    /// CERT's own length is odd too.
+    pub fn is_told_as(self, cause: Cause) -> bool {
+        match self {
+            Frame::Short | Frame::Odd => cause == Cause::Length,
+            Frame::OddDele => matches!(cause, Cause::Length | Cause::Uneven),
+            Frame::NoTags | Frame::ManyTags => cause == Cause::Count,
+            Frame::Header => cause == Cause::Header,
+            Frame::Uneven => cause == Cause::Uneven,
+            Frame::Falling => cause == Cause::Falling,
+            Frame::Outside => cause == Cause::Outside,
+        }
+    }
+}
+
 /// A call, and the buffer that is lent with it.
 #[derive(Clone, Debug)]
 pub struct Call {
@@ -79,6 +144,8 @@ pub struct Call {
     pub cert: Vec<u8>,
     pub signature: [u8; 64],
     pub buffer: Vec<u8>,
+    /// What is wrong with the frame of CERT, and with that of its DELE.
+    pub frames: [Option<Frame>; 2],
 }
 
 impl Call {
@@ -87,7 +154,7 @@ impl Call {
         let has = |fault| faults.contains(&fault);
         let path: Vec<u8> = (0..random.below(33)).flat_map(|_| random.array()).collect();
         let (midp, mint, maxt) = times(random, has(Fault::Time));
-        let cert = cert(random, faults, mint, maxt);
+        let (cert, frames) = cert(random, faults, mint, maxt);
         let needed = response_length(path.len(), cert.len());
         let mut call = Call {
             request: request(random, needed, has(Fault::Length)),
@@ -99,6 +166,7 @@ impl Call {
             cert,
             signature: random.bytes(64).try_into().expect("64 bytes were asked for"),
             buffer: Vec::new(),
+            frames,
         };
         if has(Fault::Request) {
             spoil_request(random, &mut call.request);
@@ -207,10 +275,11 @@ fn times(random: &mut Xorshift, outside: bool) -> (u64, u64, u64) {
 }
 
 /// A good request, as long as a response of so many bytes, or longer; or shorter than it. Only with
-/// a bad CERT, which is told before, a response can need more bytes than a request may have.
+/// a bad CERT, which is told before, a response can need more bytes than a request may have, or a
+/// part of a word.
 fn request(random: &mut Xorshift, needed: usize, shorter: bool) -> Vec<u8> {
     let least = LEAST_REQUEST;
-    let needed = needed.min(packet::MOST);
+    let needed = ((needed + 3) / 4 * 4).min(packet::MOST);
     let length = match (shorter, random.once_in(2)) {
         (true, true) => needed - 4,
         (true, false) => needed - 4 - 4 * random.below((needed - least) / 4),
@@ -245,19 +314,32 @@ fn zeros_behind(request: &[u8]) -> usize {
     message.get(ZZZZ).expect("it is padded").len()
 }
 
-/// The value of CERT with its DELE, with these of their faults.
-fn cert(random: &mut Xorshift, faults: &[Fault], mint: u64, maxt: u64) -> Vec<u8> {
+/// The value of CERT with its DELE, with these of their faults, and which frames are wrong in it.
+fn cert(
+    random: &mut Xorshift,
+    faults: &[Fault],
+    mint: u64,
+    maxt: u64,
+) -> (Vec<u8>, [Option<Frame>; 2]) {
     let has = |fault| faults.contains(&fault);
+    let mut frame = |fault, kinds: &[Frame]| has(fault).then(|| random.pick(kinds));
+    let mut outer_frame = frame(Fault::CertFrame, &CERT_FRAMES);
+    let inner_frame = frame(Fault::DeleFrame, &DELE_FRAMES);
+    // Of a DELE that is taken out no length is told.
+    if outer_frame == Some(Frame::OddDele) && has(Fault::CertAbsent) {
+        outer_frame = Some(Frame::Odd);
+    }
     let mut inner: Pairs = vec![
         (PUBK, random.array().to_vec()),
         (MINT, mint.to_le_bytes().to_vec()),
         (MAXT, maxt.to_le_bytes().to_vec()),
     ];
-    let dele = [Fault::DeleFrame, Fault::DeleOrder, Fault::DeleAbsent, Fault::DeleValue].map(has);
-    let inner = value(random, &mut inner, &[PUBK, MINT, MAXT], dele);
+    let dele = [Fault::DeleOrder, Fault::DeleAbsent, Fault::DeleValue].map(has);
+    let inner = value(random, &mut inner, &[PUBK, MINT, MAXT], inner_frame, dele);
     let mut outer: Pairs = vec![(SIG, random.bytes(64)), (DELE, inner)];
-    let cert = [Fault::CertFrame, Fault::CertOrder, Fault::CertAbsent, Fault::CertValue].map(has);
-    value(random, &mut outer, &[SIG, DELE], cert)
+    let cert = [Fault::CertOrder, Fault::CertAbsent, Fault::CertValue].map(has);
+    let cert = value(random, &mut outer, &[SIG, DELE], outer_frame, cert);
+    (cert, [outer_frame, inner_frame])
 }
 
 /// The bytes of a message of these pairs, in which these tags are needed, with a wrong frame, tags
@@ -266,7 +348,8 @@ fn value(
     random: &mut Xorshift,
     pairs: &mut Pairs,
     needed: &[Tag],
-    [frame, order, absent, wrong]: [bool; 4],
+    frame: Option<Frame>,
+    [order, absent, wrong]: [bool; 3],
 ) -> Vec<u8> {
     // A value that is a message is judged by itself; and what is wrong is not taken out.
     let plain = if needed.contains(&DELE) { 1 } else { needed.len() };
@@ -281,14 +364,19 @@ fn value(
         let gone = (spoilt + usize::from(wrong) + random.below(others)) % needed.len();
         pairs.retain(|pair| pair.0 != needed[gone]);
     }
-    // Tags that mean nothing there: with one of them there are always two.
-    if order || frame || random.once_in(3) {
+    // Tags that mean nothing there: with one of them there are always two, and with both three.
+    if order || frame.is_some() || random.once_in(3) {
         pairs.push((TYPE, some_words(random, 0..3)));
     }
-    if random.once_in(4) {
-        pairs.push((ZZZZ, some_words(random, 0..60)));
+    // An offset can only fall where there are three values, and not all are empty.
+    let falls = frame == Some(Frame::Falling);
+    if falls || random.once_in(4) {
+        pairs.push((ZZZZ, some_words(random, usize::from(falls)..60)));
     }
     pairs.sort();
+    if frame == Some(Frame::OddDele) {
+        odd_dele(random, pairs);
+    }
     if order {
         let at = random.below(pairs.len() - 1);
         match random.once_in(2) {
@@ -298,8 +386,8 @@ fn value(
         }
     }
     let mut bytes = message::encode(pairs);
-    if frame {
-        spoil_frame(random, &mut bytes, pairs.len());
+    if let Some(frame) = frame {
+        spoil_frame(random, frame, &mut bytes, pairs.len(), needed.contains(&DELE));
     }
     bytes
 }
@@ -310,15 +398,54 @@ fn some_words(random: &mut Xorshift, count: Range<usize>) -> Vec<u8> {
     random.bytes(4 * words)
 }
 
-/// Makes N or an offset of a message of so many pairs wrong, or cuts it off.
-fn spoil_frame(random: &mut Xorshift, bytes: &mut Vec<u8>, pairs: usize) {
-    let offset = 4 * (1 + random.below(pairs - 1));
-    match random.below(6) {
-        0 => bytes[0] = 0,
-        1 => bytes[0] = 33,
-        2 => bytes.truncate(8 * pairs - 4),
-        3 => bytes[offset] |= 1 + random.below(3) as u8,
-        4 => bytes[offset + 3] = 0x7f,
-        _ => bytes.clear(),
+/// Gives DELE some bytes more and the value behind it the rest of a word, so that only DELE's end is
+/// no multiple of 4.
+fn odd_dele(random: &mut Xorshift, pairs: &mut Pairs) {
+    let at = pairs.iter().position(|pair| pair.0 == DELE).expect("it was not taken out");
+    let more = 1 + random.below(3);
+    pairs[at].1.extend(random.bytes(more));
+    pairs[at + 1].1.extend(random.bytes(4 - more));
+}
+
+/// Makes the frame of a message of so many pairs wrong. Only the outer one can have a length that is
+/// no multiple of 4.
+fn spoil_frame(
+    random: &mut Xorshift,
+    frame: Frame,
+    bytes: &mut Vec<u8>,
+    pairs: usize,
+    outer: bool,
+) {
+    let index = 1 + random.below(pairs - 1);
+    match frame {
+        Frame::Short => bytes.truncate(if outer { random.below(4) } else { 0 }),
+        Frame::Odd => match random.once_in(2) {
+            true => bytes.truncate(bytes.len() - 1 - random.below(3)),
+            false => bytes.extend(&random.array()[..1 + random.below(3)]),
+        },
+        // Its pairs are wrong already.
+        Frame::OddDele => {}
+        Frame::NoTags => put_word(bytes, 0, 0),
+        Frame::ManyTags => put_word(bytes, 0, random.pick(&[33, 34, 1 << 29, u32::MAX])),
+        Frame::Header => bytes.truncate(8 * pairs - 4 * (1 + random.below(2 * pairs - 1))),
+        Frame::Uneven => bytes[4 * index] |= 1 + random.below(3) as u8,
+        Frame::Falling => fall(random, bytes, pairs),
+        Frame::Outside => {
+            let section = (bytes.len() - 8 * pairs) as u32;
+            put_word(bytes, index, random.pick(&[section + 4, 0x7f00_0000, u32::MAX - 3]));
+        }
     }
+}
+
+/// Puts an offset below the one before it, which is made larger than 0 where it is not.
+fn fall(random: &mut Xorshift, bytes: &mut [u8], pairs: usize) {
+    let index = 2 + random.below(pairs - 2);
+    let at = 4 * (index - 1);
+    let before = u32::from_le_bytes(bytes[at..at + 4].try_into().expect("four bytes")).max(4);
+    put_word(bytes, index - 1, before);
+    put_word(bytes, index, 4 * random.below(before as usize / 4) as u32);
+}
+
+fn put_word(bytes: &mut [u8], index: usize, word: u32) {
+    bytes[4 * index..4 * index + 4].copy_from_slice(&word.to_le_bytes());
 }
