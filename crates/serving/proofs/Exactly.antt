@@ -19,21 +19,23 @@ use Rattle.message.proofs.FieldRows.{all-passes}
 use Rattle.refusal.specs.Refusal.{refusals}
 use Rattle.respond.specs.Refusing.{deleOf, replyCode}
 use Rattle.respond.specs.Response.{Reply, responseBytes}
+use Rattle.respond.proofs.Replied.{sized}
 use Rattle.verdict.specs.Check.{checkCode, agreementCode, pathLeads, pathMisses, timeOutside}
 use Rattle.wire.specs.Packet.{body}
 use Rattle.wire.specs.Request.{requestBad, requestCode}
 use Rattle.wire.specs.Response.{srep, cert, dele, midpIn, mintIn, maxtIn, shapeCode, responseMessageCode, responseCode}
 use Rattle.wire.specs.Tables.{certTable, deleTable, srepTable}
 use Rattle.wire.proofs.GoodRequest.{good-request, request-good}
-use Rattle.wire.proofs.GoodResponse.{inner, inner-passes}
+use Rattle.wire.proofs.GoodResponse.{inner, inner-passes, response-good}
 use Rattle.wire.proofs.PacketFields.{encoded, encoded-held}
 use Rattle.wire.proofs.RequestCodes.{lent-good}
 use Rattle.writer.specs.Answered.{answered}
 use Rattle.writer.specs.declared.Wrote.{Wrote}
 use Rattle.writer.specs.declared.Wrote.the-variants.{Done}
 use Rattle.writer.proofs.Answered.{Writes, done-exactly, done-front}
-use Rattle.serving.specs.Answerable.{GoodCert, Answerable, Says}
+use Rattle.serving.specs.Answerable.{Typed, GoodCert, Answerable, Says}
 use Rattle.serving.proofs.Granting.{Granted, granted-exactly}
+use Rattle.serving.proofs.Shortest.{none-shorter}
 
 -- ---- the value of CERT
 
@@ -112,12 +114,12 @@ module _ (a : Reply) where
       let can = answerable-exactly q-bytes c-bytes in
       (λ e. let f = exactly .0 e in (can .0 (f .0), f .1), λ f. exactly .1 (can .1 (f .0), f .1))
 
-  -- and nothing is refused that could have been answered: where any response at all says the same and passes, and it
-  -- would not be longer than the request, none of the codes before 19 is given
-  pub nothing-refused : (p : List ℕ) (d s : Bool) → checkCode (a .request) p d s .code ≡ 0 → Says p a
-      → length (responseBytes a) ≤ length (a .request) → replyCode a .code ≡ 0
+  -- and nothing is refused that could have been answered: where any response at all says the same, passes and is not
+  -- longer than the request, none of the codes before 19 is given
+  pub nothing-refused : Typed a → (p : List ℕ) → Bytes p → (d s : Bool) → checkCode (a .request) p d s .code ≡ 0
+      → Says p a → length p ≤ length (a .request) → replyCode a .code ≡ 0
   unfolding checkCode agreementCode responseCode responseMessageCode shapeCode pathMisses timeOutside
-  nothing-refused p d s z says short =
+  nothing-refused t p bytes d s z says short =
       let c14 = row-quiet refusals _ _ z in
       let c1 = row-quiet refusals _ _ (c14 .1) in
       let c8 = row-quiet refusals _ _ (row-quiet refusals _ _ (c1 .1) .0) in
@@ -131,6 +133,8 @@ module _ (a : Reply) where
       let times = any-parts _ _ (test-quiet refusals _ _ tt (c11 .0)) in
       let led : pathLeads (a .request) (body p) ≡ true = not-false _ (test-quiet refusals _ _ tt (c10 .0)) in
       let more = kept (srep (body p)) srepTable (signed .0) 1 tt refl .more in
+      let sizes = sized a (t .root) (t .signature) (test-quiet refusals _ _ tt (c14 .0)) in
+      let least = none-shorter p (response-good p bytes (c1 .0)) a sizes says in
       granted-exactly a .1
       (record {
         request = test-quiet refusals _ _ tt (c14 .0);
@@ -140,7 +144,7 @@ module _ (a : Reply) where
         leads = rw (says .indx, says .path, says .root) at led;
         from = rw (says .midp, says .cert) at (ltb-false (midpIn (body p)) (mintIn (body p)) (times .0));
         to = rw (says .midp, says .cert) at (ltb-false (maxtIn (body p)) (midpIn (body p)) (any-parts _ _ (times .1) .0));
-        short = short;
+        short = omega (arith, least, short);
       })
 
   -- where `write_response` answers n, it is such a call, and the first n bytes of what it leaves are the response

@@ -2,6 +2,7 @@
 pub mod Granting
 pub mod Made
 pub mod Passing
+pub mod Shortest
 pub mod Exactly
 pub mod Places
 pub mod Delegated
