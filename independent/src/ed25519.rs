@@ -85,7 +85,7 @@ impl Ed25519 {
         let half = |from: usize| -> [u8; 32] {
             signature[from..from + 32].try_into().expect("half of 64 bytes")
         };
-        let (Some(a), Some(r)) = (self.curve.decode(key), self.curve.decode(&half(0))) else {
+        let (Ok(a), Ok(r)) = (self.curve.decode(key), self.curve.decode(&half(0))) else {
             return false;
         };
         let s = Number::from_bytes(&half(32));

@@ -48,6 +48,17 @@ impl Point {
     }
 }
 
+/// Why bytes stand for no point: the step of section 5.1.3 at which decoding fails.
+#[derive(Clone, Copy, Debug, PartialEq, Eq, PartialOrd, Ord)]
+pub enum Undecoded {
+    /// Step 1: y is p or more.
+    PastP,
+    /// Step 3: x^2 has no square root.
+    NoRoot,
+    /// Step 4: x is 0, and its sign is 1.
+    MinusZero,
+}
+
 /// The curve: its d, a square root of -1, and its base point.
 #[derive(Clone, Copy, Debug)]
 pub struct Curve {
@@ -104,28 +115,28 @@ impl Curve {
     }
 
     /// recover_x: by an inversion and a power, and not by 5.1.3's one power for both.
-    fn recover_x(&self, y: Number, sign: bool) -> Option<Element> {
+    fn recover_x(&self, y: Number, sign: bool) -> Result<Element, Undecoded> {
         if y >= P {
-            return None;
+            return Err(Undecoded::PastP);
         }
         let y = Element::new(y);
         let yy = y.times(y);
         let x2 = yy.minus(Element::ONE).times(self.d.times(yy).plus(Element::ONE).inverse());
         if x2 == Element::ZERO {
-            return if sign { None } else { Some(Element::ZERO) };
+            return if sign { Err(Undecoded::MinusZero) } else { Ok(Element::ZERO) };
         }
         let mut x = x2.power(shifted(P.plus(Number::small(3)).0, 3));
         if x.times(x) != x2 {
             x = x.times(self.sqrt_m1);
         }
         if x.times(x) != x2 {
-            return None;
+            return Err(Undecoded::NoRoot);
         }
-        Some(if x.odd() == sign { x } else { Element::ZERO.minus(x) })
+        Ok(if x.odd() == sign { x } else { Element::ZERO.minus(x) })
     }
 
-    /// point_decompress: the point that 32 bytes stand for, or nothing.
-    pub fn decode(&self, bytes: &[u8; 32]) -> Option<Point> {
+    /// point_decompress: the point that 32 bytes stand for, or why they stand for none.
+    pub fn decode(&self, bytes: &[u8; 32]) -> Result<Point, Undecoded> {
         let mut y = *bytes;
         let sign = y[31] >> 7 == 1;
         y[31] &= 0x7f;
@@ -165,6 +176,24 @@ mod tests {
             let decoded = curve.decode(&point.encode()).expect("it is a point");
             assert!(decoded.equal(point) && decoded.encode() == point.encode());
             point = curve.add(curve.add(point, point), curve.base());
+        }
+    }
+
+    /// y = 1 has x = 0, and y = 2 has no x; p + 1 stands for 1, and is told as past p with any sign.
+    #[test]
+    fn what_is_no_point_is_told_by_its_step() {
+        let curve = Curve::new();
+        let why = |y: Number, sign: u8| {
+            let mut bytes = y.to_bytes();
+            bytes[31] |= sign << 7;
+            curve.decode(&bytes).err()
+        };
+        let one = Number::small(1);
+        assert_eq!((why(one, 0), why(one, 1)), (None, Some(Undecoded::MinusZero)));
+        assert_eq!(why(Number::small(2), 0), Some(Undecoded::NoRoot));
+        for sign in [0, 1] {
+            assert_eq!(why(P, sign), Some(Undecoded::PastP));
+            assert_eq!(why(P.plus(one).0, sign), Some(Undecoded::PastP));
         }
     }
 }

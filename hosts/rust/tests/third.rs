@@ -1,11 +1,12 @@
 //! Ed25519 with OpenSSL's as a third beside the proved library and the independent implementation.
-//! OpenSSL takes keys that RFC 8032 refuses: those are counted and told, and nothing else may differ.
+//! OpenSSL takes keys that RFC 8032 refuses: those are counted by the step of 5.1.3 that refuses them,
+//! as the independent implementation's decoding tells it, and nothing else may differ.
 
 mod openssl;
 mod support;
 
 use independent::ed25519::Ed25519;
-use independent::number::{Number, P};
+use independent::edwards::Undecoded;
 use openssl::verifies;
 use support::signed::{self, Case, Maker, DAMAGES};
 use support::Xorshift;
@@ -13,7 +14,7 @@ use support::Xorshift;
 /// How many signatures are made, each asked of as it is and damaged in one way.
 const SIGNATURES: usize = 4_000;
 
-/// Where OpenSSL says yes and RFC 8032 no, by why the key decodes to nothing.
+/// Where OpenSSL says yes and RFC 8032 no, by the step at which decoding the key fails.
 #[derive(Default, Debug)]
 struct Tally {
     compared: usize,
@@ -36,14 +37,13 @@ impl Tally {
         if ours == theirs {
             return;
         }
-        let wrong = ed25519.curve().decode(key).is_none();
-        assert!(theirs && wrong, "{what}: ours {ours}, OpenSSL {theirs}: {key:?} {signature:?}");
-        let mut y = *key;
-        y[31] &= 0x7f;
-        if Number::from_bytes(&y) >= P {
-            self.key_past_p += 1;
-        } else {
-            self.key_minus_zero += 1;
+        let why = ed25519.curve().decode(key).err();
+        match (theirs, why) {
+            (true, Some(Undecoded::PastP)) => self.key_past_p += 1,
+            (true, Some(Undecoded::MinusZero)) => self.key_minus_zero += 1,
+            _ => panic!(
+                "{what}: ours {ours}, OpenSSL {theirs}, the key {why:?}: {key:?} {signature:?}"
+            ),
         }
     }
 }

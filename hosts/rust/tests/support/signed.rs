@@ -168,7 +168,7 @@ fn small_points(ed25519: &Ed25519) -> Vec<Point> {
     loop {
         let bytes = Number::small(y).to_bytes();
         y += 1;
-        let Some(point) = curve.decode(&bytes) else { continue };
+        let Ok(point) = curve.decode(&bytes) else { continue };
         let small = curve.times(L, point);
         let four = curve.times(Number::small(4), small);
         if !four.equal(Point::NEUTRAL) {
