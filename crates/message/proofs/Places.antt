@@ -4,13 +4,13 @@ use Prim.Native.Nat.{ℕ, zero, suc, zero-le, _+_, _-_, _*_, _≤_, _<_}
 use mathlib.Core.Path.{_≡_, refl, sym, ap, _∙_}
 use mathlib.Core.Logic.{_↔_}
 use mathlib.Core.List.{List, [], _∷_}
-use mathlib.Core.Bool.{Bool, true, false, not, cond, _&&_, true≢false}
+use mathlib.Core.Bool.{Bool, true, false, not, cond, true≢false}
 use native.Mathlib.Nat.{le-refl, add-zero}
 use native.Mathlib.Omega.{arith, by-contra}
 use borrow.Author.Tests.{eqb-false, leb-false, lt-leb}
 use lib.ListN.{length, take, drop}
 use Rattle.laws.specs.Least.{least, somewhere, IsFirst}
-use Rattle.laws.proofs.Holds.{fails-exactly}
+use Rattle.laws.proofs.Holds.{fails-exactly, both}
 use Rattle.laws.proofs.Least.{somewhere-at, nowhere-at, least-first}
 use Rattle.refusal.specs.declared.Refusal.{Refusal}
 use Rattle.message.specs.Frame.{notAbove, count, tagAt, edge, offsetBad, firstBadOffset, firstLowTag, frameCode}
@@ -95,11 +95,6 @@ module _ (m : List ℕ) where
       (λ s h o t. omega (arith, h .fits, somewhere-at (notAbove m (4 * count m)) (count m - 1) t .0))
 
 -- ---- laws for codes 6 and 7
-
--- both tests hold
-both : (a b : Bool) → (a && b) ≡ true → (a ≡ true) × (b ≡ true)
-both true b e = (refl, e)
-both false b e = absurd (true≢false (sym e))
 
 not-true : (b : Bool) → not b ≡ true → b ≡ false
 not-true true e = absurd (true≢false (sym e))

@@ -1,11 +1,12 @@
 -- The two questions as sentences: first of any numbers and keys, and then of what the response check answered.
 use Prim.Native.Nat.{ℕ, _≤_}
-use mathlib.Core.Path.{_≡_, refl, sym, subst, ap, ap₂, _∙_}
-use mathlib.Core.Bool.{Bool, true, false, _&&_, true≢false}
+use mathlib.Core.Path.{_≡_, sym, subst, ap, ap₂, _∙_}
+use mathlib.Core.Bool.{Bool, true, _&&_}
 use mathlib.Core.List.{List}
 use mathlib.Core.Logic.{_↔_}
 use borrow.Author.Tests.{eq-eqb, eqb-true, le-leb, leb-true}
 use Rattle.laws.specs.Bytes.{Bytes}
+use Rattle.laws.proofs.Holds.{both}
 use Rattle.laws.proofs.Same.{same-refl, same-true}
 use Rattle.wire.specs.Packet.{body}
 use Rattle.wire.specs.Response.{maxtIn}
@@ -16,11 +17,6 @@ use Rattle.verdict.specs.declared.Window.{Window}
 use Rattle.verdict.proofs.Exactly.{code-exactly, window-own}
 use Rattle.verdict.proofs.Lent.{verdict-says, key-by}
 use Rattle.reuse.specs.Reuse.{mayUse, sameDelegation}
-
--- of two tests that hold at once, each by itself
-both : (a b : Bool) → (a && b) ≡ true → (a ≡ true) × (b ≡ true)
-both true b e = (refl, e)
-both false b e = absurd (true≢false (sym e))
 
 -- a window may be used exactly where the answer is valid and the time is MAXT or earlier
 pub use-exactly : (number maxt time : ℕ) → mayUse number maxt time ≡ true ↔ ((number ≡ 0) × (time ≤ maxt))

@@ -1,11 +1,12 @@
 // The state: start, and take window after window. Any state at all may come in.
 ghost use mathlib.Core.Path.{_≡_};
 ghost use mathlib.Core.List.{[]};
-ghost use Prim.Native.Nat.{_+_, _-_, max};
+ghost use Prim.Native.Nat.{_+_, max};
 ghost use lib.Dec.{ltb};
 ghost use Rattle.tally.specs.Kept.{tallyOf, talliedOf, AsItGoes};
 use super::Tallied;
 use super::Tally;
+use verdict::low_end;
 
 // The state before any window. That it is 0 and says "none so far" as well as "none above 0" loses nothing, since no
 // MIDP + RADI is below 0.
@@ -40,13 +41,6 @@ fn ends_below(midp: u64, radi: u64, most: u64) -> bool
         return false;
     }
     radi < most - midp
-}
-
-// MIDP - RADI, but not below 0.
-fn low_end(midp: u64, radi: u64) -> u64
-    ensures { λ r. ⌜ r ≡ midp - radi ⌝ }
-{
-    if midp < radi { 0 } else { midp - radi }
 }
 
 fn larger(a: u64, b: u64) -> u64

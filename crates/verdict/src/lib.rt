@@ -7,6 +7,7 @@ mod windows;
 
 pub use checking::check_response;
 use refusal::Refusal;
+pub use windows::low_end;
 
 // What a valid response says of the time: MIDP and RADI, and the ends of its window, which stop at 0 and at 2^64 - 1;
 // and from when to when its key is trusted, MINT and MAXT.

@@ -36,7 +36,7 @@ fn window_at(midp: u64, radi: u32, mint: u64, maxt: u64) -> Window
 }
 
 // max(0, MIDP - RADI).
-fn low_end(midp: u64, radi: u64) -> u64
+pub fn low_end(midp: u64, radi: u64) -> u64
     ensures { λ r. ⌜ r ≡ lowOf midp radi ⌝ }
 {
     if radi <= midp { midp - radi } else { 0 }
