@@ -3,10 +3,10 @@ ghost use mathlib.Core.Path.{_≡_};
 ghost use Rattle.laws.specs.Written.{written};
 ghost use Rattle.refusal.specs.Refusal.{passed};
 ghost use Rattle.writer.specs.Answered.{answered};
-ghost use Rattle.respond.specs.Delegation.{deleBytes, certBytes};
+ghost use Rattle.seals.specs.Delegation.{deleBytes, certBytes};
 ghost use Rattle.respond.specs.Refusing.{replyCode};
 ghost use Rattle.respond.specs.Response.{reply, responseBytes};
-ghost use Rattle.respond.specs.Signed.{srepBytes, radiusCode};
+ghost use Rattle.seals.specs.Signed.{srepBytes, radiusCode};
 ghost use Rattle.told.specs.Writing.{tbWrote};
 use told::TbWrote;
 
@@ -18,7 +18,7 @@ pub extern "C" fn tb_write_srep(root: &[u8; 32], midp: u64, radi: u32, out: &mut
     ensures { λ r. ⌜ now (out .exit)
         ≡ written (r .code) (srepBytes (now (root .entry)) midp radi) (now (out .entry)) ⌝ }
 {
-    told::wrote_told(respond::write_srep(*root, midp, radi, out))
+    told::wrote_told(seals::write_srep(*root, midp, radi, out))
 }
 
 // The whole response to a request, at the front of out.
@@ -71,7 +71,7 @@ pub extern "C" fn tb_write_dele(pubk: &[u8; 32], mint: u64, maxt: u64, out: &mut
     ensures { λ r. ⌜ now (out .exit)
         ≡ written (r .code) (deleBytes (now (pubk .entry)) mint maxt) (now (out .entry)) ⌝ }
 {
-    told::wrote_told(respond::write_dele(*pubk, mint, maxt, out))
+    told::wrote_told(seals::write_dele(*pubk, mint, maxt, out))
 }
 
 // CERT for the same and the signature over that DELE, at the front of out.
@@ -89,5 +89,5 @@ pub extern "C" fn tb_write_cert(
     ensures { λ r. ⌜ now (out .exit)
         ≡ written (r .code) (certBytes (now (pubk .entry)) mint maxt (now (signature .entry))) (now (out .entry)) ⌝ }
 {
-    told::wrote_told(respond::write_cert(*pubk, mint, maxt, *signature, out))
+    told::wrote_told(seals::write_cert(*pubk, mint, maxt, *signature, out))
 }

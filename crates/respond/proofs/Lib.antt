@@ -1,6 +1,4 @@
--- Laws that belong to no one function. Pieces has the pieces that the writers put, one after the other: they are the
--- messages of their fields.
-pub mod Words
+-- Laws that belong to no one function.
 pub mod Pieces
 pub mod Certified
 pub mod Replied

@@ -1,29 +1,11 @@
--- Each operation's contract settles its result, and what it leaves in the lent buffer.
+-- The contract settles the result, and what is left in the lent buffer.
 use mathlib.Core.Path.{sym, ap, _∙_}
 use mathlib.Core.List.{List}
 use Prim.Native.Nat.{ℕ}
 use Rattle.laws.proofs.Once.{Settles}
 use Rattle.writer.proofs.Answered.{leaves-once}
-use Rattle.respond.proofs.signing.write_srep.Kinds as srep-kinds
-use Rattle.respond.proofs.signing.write_srep.Reads as srep-reads
-use Rattle.respond.proofs.delegating.write_dele.Kinds as dele-kinds
-use Rattle.respond.proofs.delegating.write_dele.Reads as dele-reads
-use Rattle.respond.proofs.delegating.write_cert.Kinds as cert-kinds
-use Rattle.respond.proofs.delegating.write_cert.Reads as cert-reads
 use Rattle.respond.proofs.responding.write_response.Kinds as response-kinds
 use Rattle.respond.proofs.responding.write_response.Reads as response-reads
-
-pub write-srep-once : Settles srep-kinds.ps srep-kinds.r srep-reads.Learnt
-write-srep-once κs a x u y v p q =
-    (p .0 ∙ sym (q .0), ap (λ (out : List ℕ). (tt, (tt, (tt, (out, tt))))) (leaves-once _ _ _ p q))
-
-pub write-dele-once : Settles dele-kinds.ps dele-kinds.r dele-reads.Learnt
-write-dele-once κs a x u y v p q =
-    (p .0 ∙ sym (q .0), ap (λ (out : List ℕ). (tt, (tt, (tt, (out, tt))))) (leaves-once _ _ _ p q))
-
-pub write-cert-once : Settles cert-kinds.ps cert-kinds.r cert-reads.Learnt
-write-cert-once κs a x u y v p q =
-    (p .0 ∙ sym (q .0), ap (λ (out : List ℕ). (tt, (tt, (tt, (tt, (out, tt)))))) (leaves-once _ _ _ p q))
 
 pub write-response-once : Settles response-kinds.ps response-kinds.r response-reads.Learnt
 write-response-once κs a x u y v p q = (

@@ -18,7 +18,7 @@ use Rattle.wire.proofs.Packets.{packet-0}
 use Rattle.wire.proofs.RequestCodes.{lent-good, lent-body}
 use Rattle.respond.specs.Refusing.{certCode, replyMisses, midpOutside, replyLonger, replyCode}
 use Rattle.respond.specs.Response.{Reply}
-use Rattle.respond.specs.Signed.{radiusCode}
+use Rattle.seals.specs.Signed.{radiusCode}
 use Rattle.respond.specs.Steps.{fitCode, testsCode}
 use Rattle.respond.proofs.Pieces.{Sized, length-response}
 

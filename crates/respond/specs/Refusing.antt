@@ -16,7 +16,7 @@ use Rattle.refusal.specs.declared.Refusal.{Refusal}
 use Rattle.tree.specs.PathCheck.{leadsOf}
 use Rattle.wire.specs.Request.{requestBad}
 use Rattle.wire.specs.Tables.{certTable, deleTable}
-use Rattle.respond.specs.Signed.{radiusCode}
+use Rattle.seals.specs.Signed.{radiusCode}
 use Rattle.respond.specs.Response.{Reply, responseBytes}
 
 -- the DELE within the value of CERT, and its first and last second

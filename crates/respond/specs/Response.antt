@@ -6,7 +6,7 @@ use Rattle.message.specs.Encode.{Field, _≔_, encode}
 use Rattle.message.specs.Tags.{SIG, NONC, TYPE, PATH, SREP, CERT, INDX}
 use Rattle.message.specs.Values.{valueOf}
 use Rattle.wire.specs.Packet.{packetOf, body}
-use Rattle.respond.specs.Signed.{srepBytes}
+use Rattle.seals.specs.Signed.{srepBytes}
 
 -- what the writer takes: the request packet, the place of its leaf, the root of the batch and the leaf's path, the time
 -- and its radius, the value of CERT, and the signature over SREP

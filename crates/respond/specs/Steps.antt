@@ -11,7 +11,7 @@ use Rattle.refusal.specs.declared.Refusal.{Refusal}
 use Rattle.wire.specs.Packet.{mark}
 use Rattle.wire.specs.Request.{requestBad}
 use Rattle.respond.specs.Refusing.{certCode, replyMisses, midpOutside}
-use Rattle.respond.specs.Signed.{srepBytes, radiusCode}
+use Rattle.seals.specs.Signed.{srepBytes, radiusCode}
 
 -- 11 and 23, where the response would have n bytes
 unfoldable pub fitCode : List ℕ → ℕ → List ℕ → ℕ → Refusal

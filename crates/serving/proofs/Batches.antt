@@ -23,7 +23,7 @@ use Rattle.laws.proofs.Upto.{upto-length, upto-at}
 use Rattle.refusal.specs.Refusal.{first, when}
 use Rattle.respond.specs.Refusing.{certCode, replyMisses, midpOutside, replyLonger, replyCode}
 use Rattle.respond.specs.Response.{Reply, responseBytes}
-use Rattle.respond.specs.Signed.{srepBytes, radiusCode}
+use Rattle.seals.specs.Signed.{srepBytes, radiusCode}
 use Rattle.tree.specs.PathCheck.{leadsOf}
 use Rattle.tree.specs.Tree.{nodeIn}
 use Rattle.tree.proofs.Nodes.{whole-upto, flat-length, flat-at}

@@ -11,7 +11,7 @@ use Rattle.message.specs.Tags.{SIG, DELE, PUBK, MINT, MAXT}
 use Rattle.message.specs.Values.{valueOf}
 use Rattle.message.proofs.Encoded.{value-encoded}
 use Rattle.refusal.specs.Refusal.{passed}
-use Rattle.respond.specs.Delegation.{deleFields, deleBytes, certFields, certBytes}
+use Rattle.seals.specs.Delegation.{deleFields, deleBytes, certFields, certBytes}
 use Rattle.respond.specs.Refusing.{mintOf, maxtOf}
 use Rattle.writer.specs.declared.Wrote.{Wrote}
 use Rattle.writer.specs.declared.Wrote.the-variants.{Done}

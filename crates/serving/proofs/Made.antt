@@ -9,10 +9,11 @@ use Rattle.laws.specs.Least.{least, somewhere}
 use Rattle.laws.specs.Numbers.{leBytes}
 use Rattle.message.specs.Encode.{Fields, values}
 use Rattle.message.proofs.FieldsKept.{tagsWrong, fields-kept}
-use Rattle.respond.specs.Delegation.{deleFields, certFields}
+use Rattle.seals.specs.Delegation.{deleFields, certFields}
 use Rattle.respond.specs.Response.{Reply, responseFields, responseBytes}
-use Rattle.respond.specs.Signed.{srepFields, srepBytes}
-use Rattle.respond.proofs.Pieces.{Sized, length-srep, length-dele, length-response}
+use Rattle.seals.specs.Signed.{srepFields, srepBytes}
+use Rattle.respond.proofs.Pieces.{Sized, length-response}
+use Rattle.seals.proofs.Pieces.{length-srep, length-dele}
 use Rattle.wire.specs.Good.{PacketFields}
 use Rattle.wire.proofs.PacketFields.{fields-packed}
 

@@ -24,7 +24,7 @@ use Rattle.message.proofs.FieldRows.{AllHeld, all-passes}
 use Rattle.refusal.specs.Refusal.{passed, moved, refusals}
 use Rattle.respond.specs.Refusing.{deleOf, mintOf, maxtOf}
 use Rattle.respond.specs.Response.{Reply, nonceOf, responseFields, responseBytes}
-use Rattle.respond.specs.Signed.{srepFields, srepBytes}
+use Rattle.seals.specs.Signed.{srepFields, srepBytes}
 use Rattle.respond.proofs.Certified.{leads-siblings}
 use Rattle.respond.proofs.Pieces.{Sized, length-response}
 use Rattle.respond.proofs.Replied.{lent-short, sized}

@@ -8,8 +8,9 @@ use denote.Ref.{now}
 use Rattle.laws.specs.Numbers.{leBytes}
 use Rattle.laws.proofs.Written.{puts-one, puts-put, puts-as}
 use Rattle.message.specs.Encode.{words}
-use Rattle.respond.proofs.Pieces.{length-srep, rest-is}
-use Rattle.respond.specs.Signed.{srepBytes}
+use Rattle.seals.proofs.Pieces.{length-srep}
+use Rattle.respond.proofs.Pieces.{rest-is}
+use Rattle.seals.specs.Signed.{srepBytes}
 use borrow.Author.Needs.{needs}
 use Rattle.respond.proofs.responding.put_rest.Statement.{statement}
 use Rattle.respond.proofs.responding.put_rest.Tie as tie

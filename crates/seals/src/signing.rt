@@ -5,7 +5,7 @@ ghost use lib.ListN.{length};
 ghost use Rattle.laws.specs.Pasted.{pasted};
 ghost use Rattle.laws.specs.Written.{written};
 ghost use Rattle.writer.specs.Answered.{wroteNumber, answered};
-ghost use Rattle.respond.specs.Signed.{srepBytes, radiusCode};
+ghost use Rattle.seals.specs.Signed.{srepBytes, radiusCode};
 use super::wording::put_words;
 use message::tags::MIDP;
 use message::tags::RADI;

@@ -5,10 +5,10 @@ use native.Mathlib.Omega.{arith}
 use denote.Ref.{now}
 use lib.ListN.{length}
 use Rattle.laws.proofs.Written.{puts-length}
-use Rattle.respond.proofs.Words.{Worded, worded-none, worded-more, worded-all}
+use Rattle.seals.proofs.Words.{Worded, worded-none, worded-more, worded-all}
 use borrow.Author.Needs.{needs}
-use Rattle.respond.proofs.wording.put_words.Statement.{statement}
-use Rattle.respond.proofs.wording.put_words.Tie as tie
+use Rattle.seals.proofs.wording.put_words.Statement.{statement}
+use Rattle.seals.proofs.wording.put_words.Tie as tie
 
 abbrev Inv-loop : tie.InvT-loop
 Inv-loop dst₀ at ws i₀ dst i = (i ≤ length ws) × (length dst ≡ length dst₀) × Worded dst₀ at ws i dst

@@ -2,8 +2,8 @@
 use Rattle.laws.specs.First.{whenOf}
 use borrow.Author.Tests.{eq-eqb, ne-eqb}
 use borrow.Author.Needs.{needs}
-use Rattle.respond.proofs.signing.radius_code.Statement.{statement}
-use Rattle.respond.proofs.signing.radius_code.Tie as tie
+use Rattle.seals.proofs.signing.radius_code.Statement.{statement}
+use Rattle.seals.proofs.signing.radius_code.Tie as tie
 
 returns : tie.Need-returns
 unfolding whenOf

@@ -6,7 +6,7 @@ ghost use Rattle.laws.specs.Pasted.{pasted};
 ghost use Rattle.laws.specs.Written.{written};
 ghost use Rattle.refusal.specs.Refusal.{passed};
 ghost use Rattle.writer.specs.Answered.{wroteNumber, answered};
-ghost use Rattle.respond.specs.Delegation.{deleBytes, certBytes};
+ghost use Rattle.seals.specs.Delegation.{deleBytes, certBytes};
 use super::wording::put_words;
 use message::tags::DELE;
 use message::tags::MAXT;

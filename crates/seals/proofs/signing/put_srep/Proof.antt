@@ -8,10 +8,10 @@ use Rattle.laws.proofs.Written.{puts-one, puts-put, puts-as}
 use Rattle.message.specs.Encode.{words}
 use Prim.Native.Nat.{_+_}
 use mathlib.Core.List.{[], _∷_}
-use Rattle.respond.proofs.Pieces.{srep-head, srep-is}
+use Rattle.seals.proofs.Pieces.{srep-head, srep-is}
 use borrow.Author.Needs.{needs}
-use Rattle.respond.proofs.signing.put_srep.Statement.{statement}
-use Rattle.respond.proofs.signing.put_srep.Tie as tie
+use Rattle.seals.proofs.signing.put_srep.Statement.{statement}
+use Rattle.seals.proofs.signing.put_srep.Tie as tie
 
 returns : tie.Need-returns
 unfolding words leBytes

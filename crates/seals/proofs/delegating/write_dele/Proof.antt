@@ -3,11 +3,11 @@ use mathlib.Core.Path.{refl}
 use native.Mathlib.Omega.{arith}
 use Rattle.laws.proofs.Written.{puts-one}
 use Rattle.writer.proofs.Answered.{writer-short, writer-done}
-use Rattle.respond.proofs.Pieces.{length-dele}
-use Rattle.respond.specs.Delegation.{deleBytes}
+use Rattle.seals.proofs.Pieces.{length-dele}
+use Rattle.seals.specs.Delegation.{deleBytes}
 use borrow.Author.Needs.{needs}
-use Rattle.respond.proofs.delegating.write_dele.Statement.{statement}
-use Rattle.respond.proofs.delegating.write_dele.Tie as tie
+use Rattle.seals.proofs.delegating.write_dele.Statement.{statement}
+use Rattle.seals.proofs.delegating.write_dele.Tie as tie
 
 returns : tie.Need-returns
 returns c =

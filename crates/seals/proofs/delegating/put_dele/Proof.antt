@@ -7,10 +7,10 @@ use Rattle.laws.specs.Numbers.{leBytes}
 use Rattle.laws.specs.Pasted.{pasted}
 use Rattle.laws.proofs.Written.{puts-one, puts-put, puts-as}
 use Rattle.message.specs.Encode.{words}
-use Rattle.respond.proofs.Pieces.{dele-head, dele-pieces}
+use Rattle.seals.proofs.Pieces.{dele-head, dele-pieces}
 use borrow.Author.Needs.{needs}
-use Rattle.respond.proofs.delegating.put_dele.Statement.{statement}
-use Rattle.respond.proofs.delegating.put_dele.Tie as tie
+use Rattle.seals.proofs.delegating.put_dele.Statement.{statement}
+use Rattle.seals.proofs.delegating.put_dele.Tie as tie
 
 returns : tie.Need-returns
 unfolding words leBytes

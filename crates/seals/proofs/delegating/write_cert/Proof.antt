@@ -6,11 +6,11 @@ use Rattle.laws.specs.Numbers.{leBytes}
 use Rattle.laws.proofs.Written.{puts-one, puts-put, puts-as}
 use Rattle.message.specs.Encode.{words}
 use Rattle.writer.proofs.Answered.{writer-short, writer-done}
-use Rattle.respond.proofs.Pieces.{cert-head, cert-is, length-dele, length-cert}
-use Rattle.respond.specs.Delegation.{deleBytes}
+use Rattle.seals.proofs.Pieces.{cert-head, cert-is, length-dele, length-cert}
+use Rattle.seals.specs.Delegation.{deleBytes}
 use borrow.Author.Needs.{needs}
-use Rattle.respond.proofs.delegating.write_cert.Statement.{statement}
-use Rattle.respond.proofs.delegating.write_cert.Tie as tie
+use Rattle.seals.proofs.delegating.write_cert.Statement.{statement}
+use Rattle.seals.proofs.delegating.write_cert.Tie as tie
 
 returns : tie.Need-returns
 returns c =

@@ -2,11 +2,11 @@
 use native.Mathlib.Omega.{arith}
 use Rattle.laws.proofs.Written.{puts-one}
 use Rattle.writer.proofs.Answered.{writer-refused, writer-short, writer-done}
-use Rattle.respond.proofs.Pieces.{length-srep}
-use Rattle.respond.specs.Signed.{srepBytes}
+use Rattle.seals.proofs.Pieces.{length-srep}
+use Rattle.seals.specs.Signed.{srepBytes}
 use borrow.Author.Needs.{needs}
-use Rattle.respond.proofs.signing.write_srep.Statement.{statement}
-use Rattle.respond.proofs.signing.write_srep.Tie as tie
+use Rattle.seals.proofs.signing.write_srep.Statement.{statement}
+use Rattle.seals.proofs.signing.write_srep.Tie as tie
 
 no-radius : tie.Need-returns
 no-radius c = writer-refused _ _ (c .before .before .radius-code .ensures) (c .if1 .taken)
