@@ -1,4 +1,4 @@
--- `respond::delegating::put_dele` meets its contract. The four pieces follow each other.
+-- `seals::delegating::put_dele` meets its contract. The four pieces follow each other.
 use mathlib.Core.Path.{_≡_, refl, sym, ap, _∙_}
 use native.Mathlib.Omega.{arith}
 use lib.ListN.{length}

@@ -1,4 +1,4 @@
--- `respond::delegating::write_dele` meets its contract.
+-- `seals::delegating::write_dele` meets its contract.
 use mathlib.Core.Path.{refl}
 use native.Mathlib.Omega.{arith}
 use Rattle.laws.proofs.Written.{puts-one}

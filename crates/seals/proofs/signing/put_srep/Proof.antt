@@ -1,4 +1,4 @@
--- `respond::signing::put_srep` meets its contract. The four pieces follow each other.
+-- `seals::signing::put_srep` meets its contract. The four pieces follow each other.
 use mathlib.Core.Path.{_≡_, refl, sym, ap, _∙_}
 use native.Mathlib.Omega.{arith}
 use lib.ListN.{length}

@@ -1,4 +1,4 @@
--- `respond::signing::write_srep` meets its contract.
+-- `seals::signing::write_srep` meets its contract.
 use native.Mathlib.Omega.{arith}
 use Rattle.laws.proofs.Written.{puts-one}
 use Rattle.writer.proofs.Answered.{writer-refused, writer-short, writer-done}
