@@ -1,4 +1,8 @@
--- Laws that belong to no one function.
+-- Laws that belong to no one function. What the crate claims of itself stands in Fed, Passing, OwnRuns and Once, and of
+-- Own in `own-bad-exactly`.
 pub mod Verdicts
 pub mod Own
+pub mod Fed
+pub mod Passing
+pub mod OwnRuns
 pub mod Once

@@ -29,7 +29,7 @@ module _ (pile : List ℕ) where
   unfolding ownAnswers
   own-length = upto-length (ownAnswer pile) (2 * recordsIn pile)
 
-  own-at : (i : ℕ) → i < 2 * recordsIn pile → getD (ownAnswers pile) i 0 ≡ ownAnswer pile i
+  pub own-at : (i : ℕ) → i < 2 * recordsIn pile → getD (ownAnswers pile) i 0 ≡ ownAnswer pile i
   unfolding ownAnswers
   own-at i h = upto-at (ownAnswer pile) (2 * recordsIn pile) i 0 h
 

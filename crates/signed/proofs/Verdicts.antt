@@ -75,7 +75,7 @@ module _ (q p : List ℕ) (d s : Bool) where
   )
 
 -- answers by their refusals
-same-checked : (q p : List ℕ) (d s e t : Bool) → checkCode q p d s ≡ checkCode q p e t
+pub same-checked : (q p : List ℕ) (d s e t : Bool) → checkCode q p d s ≡ checkCode q p e t
     → checkedOf q p d s ≡ checkedOf q p e t
 unfolding verdictOf keyOf
 same-checked q p d s e t f = rw f
