@@ -10,8 +10,8 @@ returns c =
     let start = c .before .before .before in
     let p = start .args .pile .now in
     let k = start .args .k in
-    rw (said-delegated p k (omega arith), said-responded p k (omega arith), ← c .before .record-at .ensures .0)
-    (c .checked-on .ensures)
+    rw (said-delegated p k (omega arith), said-responded p k (omega arith))
+    (rw (c .before .record-at .ensures .0) at (c .checked-on .ensures))
 
 pub checked-at-spec : {M : Type 1} → statement M
 checked-at-spec = tie.close (tie.spec (λ c κs. search needs) (λ c κs. search needs) returns)

@@ -33,14 +33,10 @@ returns-2 c =
     let k = c .before .before .before in
     let t = k .before in
     let b = sym (t .before .record-bad .ensures) ∙ t .if1 .left in
-    let e = c .check-signed .ensures .1 in
-    rw (
-      before-false refusals _ _ _ b,
-      ← c .before .response-of .ensures,
-      ← c .before .before .request-of .ensures,
-      ← k .copy32 .ensures,
-    )
-    e
+    let e =
+    rw (k .copy32 .ensures, c .before .before .request-of .ensures, c .before .response-of .ensures)
+    at (c .check-signed .ensures .1) in
+    rw (before-false refusals _ _ _ b) e
 
 pub checked-on-spec : {M : Type 1} → statement M
 checked-on-spec =

@@ -1,11 +1,12 @@
 -- `signed::listing::answers_in` meets its contract.
-use mathlib.Core.Path.{_≡_, sym, ap, _∙_}
+use mathlib.Core.Path.{_≡_, sym, ap, ap₂, _∙_}
 use mathlib.Core.List.{List}
 use Prim.Native.Nat.{ℕ}
 use native.Mathlib.Omega.{arith}
 use lib.ListN.{length}
 use lib.Seq.{take-all}
 use Rattle.pile.specs.Pile.{responseLength, responseArea, responsePacket}
+use Rattle.signed.specs.Answers.{answersOf}
 use borrow.Author.Needs.{needs}
 use Rattle.signed.proofs.listing.answers_in.Statement.{statement}
 use Rattle.signed.proofs.listing.answers_in.Tie as tie
@@ -20,7 +21,7 @@ returns c =
     let n : length (responseArea r) ≡ 2000 = ap length (sym (area .0)) ∙ area .1 in
     let e : responsePacket r ≡ responseArea r =
     take-all (responseLength r) (responseArea r) (omega (arith, t .if1 .taken, t .before .le32 .ensures)) in
-    rw (e, ← area .0, ← a .before .copy32 .ensures) (c .answers .ensures)
+    c .answers .ensures ∙ ap₂ answersOf (a .before .copy32 .ensures) (area .0 ∙ sym e)
 
 response-of-requires : tie.Need-response-of-requires
 response-of-requires c κs = (search needs, omega (arith, c .before .if1 .left, c .before .before .le32 .ensures))
@@ -28,7 +29,7 @@ response-of-requires c κs = (search needs, omega (arith, c .before .if1 .left, 
 returns-2 : tie.Need-returns-2
 returns-2 c =
     let a = c .before in
-    rw (← a .response-of .ensures, ← a .before .copy322 .ensures) (c .answers2 .ensures)
+    c .answers2 .ensures ∙ ap₂ answersOf (a .before .copy322 .ensures) (a .response-of .ensures)
 
 pub answers-in-spec : {M : Type 1} → statement M
 answers-in-spec =
