@@ -54,7 +54,8 @@ pub extern "C" fn tb_check_signed_report(pile: &[u8]) -> TbReported
 // The shortest run that convicts by itself, at the front of out.
 #[no_mangle]
 pub extern "C" fn tb_cut_signed_run(pile: &[u8], out: &mut [u8]) -> TbCut
-    ensures { λ r. ⌜ Cuts (now (pile .entry)) (ownAnswers (now (pile .entry))) (now (out .entry)) r (now (out .exit)) ⌝ }
+    ensures { λ r. ⌜ Cuts (now (pile .entry)) (ownAnswers (now (pile .entry))) (now (out .entry)) r
+        (now (out .exit)) ⌝ }
 {
     told::run_told(signed::cut_signed_run(pile, out))
 }

@@ -21,8 +21,8 @@ pub fn tell_named(i: usize, j: usize) {
     tell(&pile[..n], &answers[..m]);
 }
 
-// Tells of the pile that the program's argument i names, with no answers beside it: what is told with those that our own
-// Ed25519 gives. Of a pile of a wrong length there are none.
+// Tells of the pile that the program's argument i names, with no answers beside it: what is told with those that our
+// own Ed25519 gives. Of a pile of a wrong length there are none.
 pub fn tell_alone(i: usize) {
     let mut pile = [0u8; 65537];
     let n = read_named(i, &mut pile);

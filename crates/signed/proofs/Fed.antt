@@ -1,16 +1,12 @@
 -- Each check that needs no answers answers what the one with lent answers does, when it is given those of our own
 -- Ed25519: of two results, one that the old operation's contract allows and one that the new one's does, for the same
 -- packets, piles and buffers, both are the same, and so is what is left in the buffers.
-use mathlib.Core.Path.{_≡_, sym, ap, _∙_}
-use mathlib.Core.List.{List}
-use Prim.Native.Nat.{ℕ}
+use mathlib.Core.Path.{_≡_, sym, _∙_}
 use denote.Ref.{now}
 use denote.Triple.Clauses.{atExit}
 use borrow.Fn.Kinds.{endedOf}
 use Rattle.report.proofs.Says.{report-once}
 use Rattle.report.proofs.Runs.{takes-once}
-use Rattle.verdict.specs.Check.{checkedOf}
-use Rattle.pile.specs.Valid.{judgementOf}
 use Rattle.verdict.proofs.check_response.Kinds as check-kinds
 use Rattle.verdict.proofs.check_response.Reads as check-reads
 use Rattle.pile.proofs.judge.Kinds as judge-kinds

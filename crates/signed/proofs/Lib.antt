@@ -2,6 +2,7 @@
 -- Own in `own-bad-exactly`.
 pub mod Verdicts
 pub mod Own
+pub mod Stopping
 pub mod Fed
 pub mod Passing
 pub mod OwnRuns

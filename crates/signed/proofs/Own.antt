@@ -1,8 +1,8 @@
--- Laws of the answers that our own Ed25519 gives for a pile: two a record, each 1 or 0, so that they are never what code
--- 15 is about.
+-- Laws of the answers that our own Ed25519 gives for a pile: two a record, each 1 or 0, so that they are never what
+-- code 15 is about.
 use Prim.Native.Nat.{ℕ, _+_, _*_, _/_, _%_, _≤_, _<_}
 use mathlib.Core.Path.{_≡_, refl, sym, ap, _∙_}
-use mathlib.Core.Bool.{Bool, true, false, not, cond}
+use mathlib.Core.Bool.{Bool, true, false, cond}
 use mathlib.Core.List.{List, [], _∷_}
 use native.Mathlib.Omega.{arith}
 use borrow.Author.Tests.{eq-eqb, le-ltb}
@@ -35,7 +35,8 @@ module _ (pile : List ℕ) where
 
   -- bytes that are these up to their end begin with them
   pub own-front : (l : List ℕ) → 2 * recordsIn pile ≤ length l
-      → ((i : ℕ) → i < 2 * recordsIn pile → getD l i 0 ≡ ownAnswer pile i) → take (2 * recordsIn pile) l ≡ ownAnswers pile
+      → ((i : ℕ) → i < 2 * recordsIn pile → getD l i 0 ≡ ownAnswer pile i)
+      → take (2 * recordsIn pile) l ≡ ownAnswers pile
   own-front l h f =
       let n = 2 * recordsIn pile in
       ext-getD 0 (take n l) (ownAnswers pile) (length-take-le n l h ∙ sym own-length)

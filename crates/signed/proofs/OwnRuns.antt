@@ -1,21 +1,19 @@
 -- The answers of a run that is cut out are those of its records in the pile, since the rand, which alone is changed,
 -- plays no part in them. So what is cut out stands by itself, with no answers beside it.
-use mathlib.Core.Path.{_≡_, refl, sym, subst, ap, ap₂, _∙_}
-use mathlib.Core.Bool.{Bool, cond}
+use mathlib.Core.Path.{_≡_, sym, subst, ap, ap₂, _∙_}
 use mathlib.Core.List.{List}
 use mathlib.Core.Logic.{_↔_}
-use Prim.Native.Nat.{ℕ, zero, suc, _+_, _-_, _*_, _/_, _%_, _≤_, _<_}
+use Prim.Native.Nat.{ℕ, zero, suc, _+_, _-_, _*_, _/_, _%_, _≤_}
 use native.Mathlib.Nat.{add-zero}
 use native.Mathlib.Omega.{arith}
-use lib.Dec.{eqb}
-use lib.ListN.{length, take, drop, getD, replicate, length-take, length-drop}
+use lib.ListN.{length, take, drop, length-take, length-drop}
 use lib.Seq.{ext-getD, getD-take, getD-drop, take-at, length-take-le}
 use Rattle.laws.specs.Bytes.{Bytes}
 use Rattle.laws.specs.Pairs.{IsLeast}
 use Rattle.laws.specs.Pasted.{pasted}
 use Rattle.laws.proofs.Pasted.{length-part}
 use Rattle.pile.specs.Meaning.{WholePile}
-use Rattle.pile.specs.Pile.{recordsIn, recordAt, keyIn, responsePacket}
+use Rattle.pile.specs.Pile.{recordAt, keyIn}
 use Rattle.report.specs.Meaning.{IsReport, ReportIn}
 use Rattle.report.specs.Report.{Reports}
 use Rattle.report.specs.Taking.{Takes, runBytes, runAnswers}
@@ -27,7 +25,7 @@ use Rattle.report.proofs.CutBytes.{RunIn, count-run, record-first, record-later
 use Rattle.report.proofs.CutReports.{taken-exactly, none-exactly}
 use Rattle.report.proofs.Stands.{taken-run, cut-is-report, cut-stands}
 use Rattle.runs.proofs.SamePile.{same-least}
-use Rattle.signed.specs.Answers.{delegated, responded, delegatedAt, respondedAt, answerByte, ownAnswer, ownAnswers}
+use Rattle.signed.specs.Answers.{delegated, responded, delegatedAt, respondedAt, ownAnswer, ownAnswers}
 use Rattle.signed.specs.Meaning.{SignedReportIn}
 use Rattle.signed.proofs.Own.{own-length, own-at, own-good}
 

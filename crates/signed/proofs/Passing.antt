@@ -1,8 +1,8 @@
--- A response passes exactly when document 01's sentence holds with "verifies" for the answers; and a refusal that is not
--- 12 or 13 is told whatever the signatures are.
+-- A response passes exactly when document 01's sentence holds with "verifies" for the answers; and a refusal that is
+-- not 12 or 13 is told whatever the signatures are.
 use Prim.Native.Nat.{ℕ}
 use mathlib.Core.Path.{_≡_, refl, sym, ap, ap₂, _∙_}
-use mathlib.Core.Bool.{Bool, true, false, true≢false, _&&_}
+use mathlib.Core.Bool.{Bool, true, false}
 use mathlib.Core.List.{List}
 use mathlib.Core.Logic.{_↔_}
 use borrow.Author.Tests.{eqb-true, eqb-false}

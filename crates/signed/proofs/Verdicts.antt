@@ -4,9 +4,8 @@ use Prim.Native.Nat.{ℕ}
 use mathlib.Core.Path.{_≡_, refl, sym, ap, ap₂, _∙_}
 use mathlib.Core.Bool.{Bool, true, false, cond}
 use mathlib.Core.List.{List, [], _∷_}
-use borrow.Author.Tests.{eq-eqb, eqb-true, eqb-false}
+use borrow.Author.Tests.{eq-eqb, eqb-false}
 use lib.Dec.{eqb}
-use lib.ListN.{length}
 use Rattle.ed25519.specs.Verification.{verifies}
 use Rattle.laws.specs.First.{firstOf, whenOf}
 use Rattle.laws.proofs.First.{says-0, is-last, row-quiet, quiet-of}
@@ -14,7 +13,7 @@ use Rattle.message.specs.Tags.{SIG, PUBK}
 use Rattle.message.specs.Values.{valueOf}
 use Rattle.refusal.specs.Refusal.{refusals, first}
 use Rattle.refusal.specs.declared.Refusal.{Refusal}
-use Rattle.verdict.specs.Check.{answersCode, agreementCode, checkCode, windowIn, pubkIn, verdictBy, keyBy}
+use Rattle.verdict.specs.Check.{answersCode, agreementCode, checkCode, windowIn, pubkIn, verdictBy}
 use Rattle.verdict.specs.Check.{verdictOf, keyOf, checkedOf, verdictNumber}
 use Rattle.verdict.specs.declared.Checked.{Checked}
 use Rattle.verdict.specs.declared.Verdict.the-variants.{Valid, Refused}

@@ -1,5 +1,6 @@
--- What our own Ed25519 says of the two signatures of a response, and of those of a pile (request P11; document 01, "When
--- a response is valid"; draft 19, 5.2.1 and 5.2.6). A yes means that the signature verifies under the key, by RFC 8032.
+-- What our own Ed25519 says of the two signatures of a response, and of those of a pile (request P11; document 01,
+-- "When a response is valid"; draft 19, 5.2.1 and 5.2.6). A yes means that the signature verifies under the key, by RFC
+-- 8032.
 use Prim.Native.Nat.{ℕ, _*_, _/_, _%_}
 use mathlib.Core.Bool.{Bool, true, false, cond, _&&_}
 use mathlib.Core.List.{List}

@@ -1,5 +1,5 @@
--- Document 01's sentences with "verifies under the key" for a yes (request P11). They are proved to hold exactly where the
--- checks refuse nothing.
+-- Document 01's sentences with "verifies under the key" for a yes (request P11). They are proved to hold exactly where
+-- the checks refuse nothing.
 use mathlib.Core.Path.{_≡_}
 use mathlib.Core.Bool.{true}
 use mathlib.Core.List.{List}

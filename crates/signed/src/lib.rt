@@ -1,6 +1,6 @@
-// The checks that need no answers (request P11): our own Ed25519 verifies the two signatures of a response, that of CERT
-// under the server's long-term key, which is lent or stands in the record, and that of the response under the PUBK of
-// its DELE. Each check answers what the one with lent answers does when it is given these. All take any bytes.
+// The checks that need no answers (request P11): our own Ed25519 verifies the two signatures of a response, that of
+// CERT under the server's long-term key, which is lent or stands in the record, and that of the response under the PUBK
+// of its DELE. Each check answers what the one with lent answers does when it is given these. All take any bytes.
 // Signatures are looked at last, and only where nothing cheaper refuses: a damaged record costs no verification.
 mod checking;
 mod cutting;

@@ -1,12 +1,11 @@
 // The answers that our own Ed25519 gives for a pile, as bytes.
 ghost use mathlib.Core.Path.{_≡_};
-ghost use Prim.Native.Nat.{ℕ, _+_, _*_, _<_, _≤_};
+ghost use Prim.Native.Nat.{ℕ, _*_, _<_};
 ghost use lib.ListN.{length, getD};
 ghost use Rattle.laws.specs.Written.{written};
 ghost use Rattle.pile.specs.Meaning.{WholePile};
-ghost use Rattle.pile.specs.Pile.{recordsIn, keyIn, responsePacket};
+ghost use Rattle.pile.specs.Pile.{recordsIn, keyIn, responsePacket, lengthBad};
 ghost use Rattle.refusal.specs.Refusal.{when};
-ghost use Rattle.pile.specs.Pile.{lengthBad};
 ghost use Rattle.writer.specs.Answered.{wroteNumber, answered};
 ghost use Rattle.signed.specs.Answers.{answerByte, answersOf, ownAnswer, ownAnswers};
 use super::Verified;

@@ -1,5 +1,5 @@
-// The two signatures of a response, verified. Their texts are hashed in two parts, the context and the value as it stands
-// in the packet, so that neither is copied.
+// The two signatures of a response, verified. Their texts are hashed in two parts, the context and the value as it
+// stands in the packet, so that neither is copied.
 ghost use mathlib.Core.Path.{_≡_};
 ghost use mathlib.Core.List.{_++_};
 ghost use Rattle.ed25519.specs.Verification.{verifies};

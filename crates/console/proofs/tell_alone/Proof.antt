@@ -7,7 +7,9 @@ use Rattle.console.proofs.tell_alone.Statement.{statement}
 use Rattle.console.proofs.tell_alone.Tie as tie
 
 slice-aggregate-tell-2 : tie.Need-slice-aggregate-tell-2
-slice-aggregate-tell-2 c = sym (length-take-le _ _ (omega (arith, c .before .before .before .put-answers .ensures .0 .0)))
+slice-aggregate-tell-2 c =
+    let put = c .before .before .before .put-answers in
+    sym (length-take-le _ _ (omega (arith, put .ensures .0 .0)))
 
 pub tell-alone-spec : {M : Type 1} → statement M
 tell-alone-spec =

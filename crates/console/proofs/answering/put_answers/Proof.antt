@@ -1,12 +1,10 @@
 -- `console::answering::put_answers` meets its contract. What is answered says how many bytes were written.
-use mathlib.Core.Path.{_≡_, refl, sym, ap, _∙_}
-use mathlib.Core.List.{List}
-use Prim.Native.Nat.{ℕ}
+use mathlib.Core.Path.{sym, ap, _∙_}
 use native.Mathlib.Omega.{arith}
 use Rattle.laws.specs.Written.{written}
 use Rattle.pile.specs.Pile.{lengthBad}
 use Rattle.refusal.specs.Refusal.{when}
-use Rattle.writer.specs.Answered.{wroteNumber, wroteLength, answered}
+use Rattle.writer.specs.Answered.{wroteNumber, wroteLength}
 use Rattle.writer.specs.declared.Wrote.{Wrote}
 use Rattle.writer.proofs.Answered.{done-exactly}
 use Rattle.signed.specs.Answers.{ownAnswers}

@@ -1,5 +1,5 @@
 -- `signed::checking::check_signed` meets its contract.
-use mathlib.Core.Path.{_≡_, refl, sym, ap, ap₂, _∙_}
+use mathlib.Core.Path.{_≡_, refl, sym, ap, _∙_}
 use mathlib.Core.Bool.{true}
 use Rattle.refusal.specs.declared.Refusal.{Refusal}
 use Rattle.verdict.specs.Check.{answersCode, checkCode}

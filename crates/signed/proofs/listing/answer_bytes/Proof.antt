@@ -1,11 +1,11 @@
--- `signed::listing::answer_bytes` meets its contract. The answers of the records that were passed stand in their places.
+-- `signed::listing::answer_bytes` meets its contract. The answers of the records passed stand in their places.
 use mathlib.Core.Path.{_≡_, refl, sym, ap, _∙_}
 use mathlib.Core.List.{List}
 use Prim.Native.Nat.{ℕ, _+_, _-_, _*_, _≤_, _<_}
 use native.Mathlib.Omega.{arith}
 use lib.ListN.{length, getD, set, length-set}
 use Rattle.laws.proofs.Fill.{fill-next}
-use Rattle.signed.specs.Answers.{delegatedAt, respondedAt, answerByte, ownAnswer, answersOf}
+use Rattle.signed.specs.Answers.{delegatedAt, respondedAt, answerByte, ownAnswer}
 use Rattle.signed.specs.declared.Verified.{Verified}
 use Rattle.signed.proofs.Own.{own-delegation, own-response}
 use borrow.Author.Needs.{needs}
@@ -65,7 +65,9 @@ loop-again c =
       simp length-set (loop .inv .1),
       pair-next p (loop .bytes) k (c .before .answer-byte .result) (c .answer-byte2 .result)
           (omega (arith, start .pre .to)) (loop .inv .2)
-          (c .before .answer-byte .ensures ∙ ap (λ (x : Verified). answerByte (x .delegation)) a ∙ sym (own-delegation p k))
+          (c .before .answer-byte .ensures
+          ∙ ap (λ (x : Verified). answerByte (x .delegation)) a
+          ∙ sym (own-delegation p k))
           (c .answer-byte2 .ensures ∙ ap (λ (x : Verified). answerByte (x .signature)) a ∙ sym (own-response p k)),
     )
 

@@ -1,16 +1,13 @@
 -- `signed::listing::pile_answers` meets its contract.
 use mathlib.Core.Path.{_≡_, refl, sym, ap, _∙_}
 use mathlib.Core.Bool.{Bool, true, false}
-use mathlib.Core.List.{List}
-use Prim.Native.Nat.{ℕ, _*_}
+use Prim.Native.Nat.{_*_}
 use native.Mathlib.Nat.{zero-add}
 use native.Mathlib.Omega.{arith}
-use lib.ListN.{length, take}
+use lib.ListN.{take}
 use lib.Seq.{length-take-le}
 use Rattle.laws.specs.First.{whenOf}
-use Rattle.laws.specs.Pasted.{pasted}
 use Rattle.laws.proofs.Written.{puts-one}
-use Rattle.pile.specs.Meaning.{WholePile}
 use Rattle.pile.specs.Pile.{recordsIn, lengthBad}
 use Rattle.pile.proofs.Wholes.{whole}
 use Rattle.refusal.specs.Refusal.{refusal, passed, when}
@@ -39,15 +36,16 @@ returns : tie.Need-returns
 returns c =
     let i = c .before in
     let b = sym (i .before .length-bad .ensures) ∙ i .if1 .taken in
-    writer-refused _ _ (c .refuse .ensures ∙ refused-is _ b) (λ z. omega (arith, ap (λ (r : Refusal). r .code) (c .refuse .ensures)))
+    let n = ap (λ (r : Refusal). r .code) (c .refuse .ensures) in
+    writer-refused _ _ (c .refuse .ensures ∙ refused-is _ b) (λ z. omega (arith, n))
 
 returns-2 : tie.Need-returns-2
 returns-2 c =
     let i = c .before in
     let start = i .before .before .before .before .before in
     let p = start .args .pile .now in
-    writer-short (ownAnswers p) (start .args .out .now) (passed-is _ (good-length (i .before))) refl (c .refuse2 .ensures)
-    (omega (arith, own-length p, i .if2 .taken))
+    writer-short (ownAnswers p) (start .args .out .now) (passed-is _ (good-length (i .before))) refl
+    (c .refuse2 .ensures) (omega (arith, own-length p, i .if2 .taken))
 
 answer-bytes-requires : tie.Need-answer-bytes-requires
 answer-bytes-requires c κs = whole _ (good-length (c .before))

@@ -1,8 +1,5 @@
 -- `signed::verifying::answers` meets its contract.
-use mathlib.Core.Path.{_≡_, sym, ap, ap₂, _∙_}
-use mathlib.Core.Bool.{Bool}
-use mathlib.Core.List.{List}
-use Prim.Native.Nat.{ℕ}
+use mathlib.Core.Path.{sym}
 use borrow.Author.Tests.{ne-eqb}
 use Rattle.laws.proofs.First.{quiet-of}
 use Rattle.refusal.specs.Refusal.{refusals}
