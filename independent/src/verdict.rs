@@ -1,14 +1,27 @@
 //! What is printed of a pile: a line for each record, and the run that convicts.
 
 use crate::check::Window;
-use crate::{pile, report};
+use crate::ed25519::Ed25519;
+use crate::pile::Judge;
+use crate::{pile, report, signed};
 
 /// The lines for a pile and its answers, each with its end.
 pub fn lines(pile: &[u8], answers: &[u8]) -> String {
-    let records = match pile::read(pile, answers) {
-        Ok(records) => records,
-        Err(refusal) => return format!("refused {}\n", refusal.code()),
-    };
+    match pile::read(pile, answers) {
+        Ok(records) => record_lines(&records),
+        Err(refusal) => format!("refused {}\n", refusal.code()),
+    }
+}
+
+/// The lines for a pile alone, which is judged by its own signatures.
+pub fn signed_lines(pile: &[u8]) -> String {
+    match signed::read(&Ed25519::new(), pile) {
+        Ok(records) => record_lines(&records),
+        Err(refusal) => format!("refused {}\n", refusal.code()),
+    }
+}
+
+fn record_lines(records: &[impl Judge]) -> String {
     let mut lines = format!("records {}\n", records.len());
     for (number, record) in records.iter().enumerate() {
         lines += &match (record.judge(), record.place()) {
@@ -23,7 +36,7 @@ pub fn lines(pile: &[u8], answers: &[u8]) -> String {
         };
     }
     lines
-        + &report::run(pile, answers)
+        + &report::run_of(records)
             .map_or("run none\n".into(), |(first, last)| format!("run {first} {last}\n"))
 }
 
