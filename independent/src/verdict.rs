@@ -43,7 +43,8 @@ fn record_lines(records: &[impl Judge]) -> String {
 #[cfg(test)]
 mod tests {
     use super::*;
-    use crate::making;
+    use crate::appendix;
+    use crate::making::{self, Made};
 
     #[test]
     fn the_lines_are_those_of_the_document() {
@@ -56,6 +57,19 @@ mod tests {
         made.answers[7] = 0;
         assert_eq!(lines(&made.pile, &made.answers), format!("{head}3 refused 13\nrun none\n"));
         assert_eq!(lines(&[], &[]), "refused 15\n");
+    }
+
+    /// The draft's own report, and with a byte of its second key changed.
+    #[test]
+    fn a_pile_alone_is_told_by_its_signatures() {
+        let Made { mut pile, answers } = appendix::pile();
+        let due = lines(&pile, &answers);
+        assert!(due.ends_with("run 0 1\n"), "{due}");
+        assert_eq!(signed_lines(&pile), due);
+        pile[pile::RECORD] ^= 1;
+        let told = signed_lines(&pile);
+        assert!(told.contains("\n1 refused 12\n") && told.ends_with("\nrun none\n"), "{told}");
+        assert_eq!(signed_lines(&pile[1..]), "refused 15\n");
     }
 
     /// N of a response's outermost message is byte 12 of its packet.
