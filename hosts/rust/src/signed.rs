@@ -89,6 +89,9 @@ pub fn judge_signed(pile: &[u8], place: usize) -> Result<Checked, PacketRefusal>
 /// judged by its own key. The refusals are the same, but for 15, which is about the pile's length
 /// alone.
 ///
+/// The keys are those that the records themselves hold, in their first 32 bytes. Whose they are is
+/// for the caller to know: anybody can make a report with keys of his own.
+///
 /// ```
 /// use trawlbeacon::{check_signed_report, Pair, Refusal, ReportRefusal};
 ///
