@@ -179,15 +179,19 @@ impl Evidence {
             let ours = work(move || trawlbeacon::check_signed(&key, &request, &response));
             subjects.push(self.counted(&name, verifications, 1, ours));
         }
-        let reports =
-            [("valid", 32, self.pile.clone()), ("first damaged", 0, self.damaged(|k| k == 0))];
+        // The check of a report judges every record, whichever is the first that is bad.
+        let reports = [
+            ("valid", 32, self.pile.clone()),
+            ("first damaged", 30, self.damaged(|place| place == 0)),
+            ("all damaged", 0, self.damaged(|_| true)),
+        ];
         for (what, verifications, pile) in reports {
             let ours = work(move || trawlbeacon::check_signed_report(black_box(&pile)));
             subjects.push(self.counted(&format!("report, {what}"), verifications, 16, ours));
         }
         let piles = [
             ("valid", 32, self.pile.clone()),
-            ("every second damaged", 16, self.damaged(|k| k % 2 == 0)),
+            ("every second damaged", 16, self.damaged(|place| place % 2 == 0)),
             ("all damaged", 0, self.damaged(|_| true)),
         ];
         for (what, verifications, pile) in piles {
