@@ -203,6 +203,24 @@ fn turned(seen: &mut Comparison) {
     }
 }
 
+/// Bytes that nobody meant anything by, in the place of either packet.
+fn noise(seen: &mut Comparison) {
+    for i in 0..200 {
+        let mut pair = seen.pair();
+        let mut exchange = exchange(seen.random.array(), &pair);
+        if i % 2 == 0 {
+            exchange = seen.sign(&mut pair);
+        }
+        let length = seen.random.below(2_100);
+        let bytes = seen.random.bytes(length);
+        match i % 4 {
+            0 | 1 => exchange.response = bytes,
+            _ => exchange.request = bytes,
+        }
+        seen.ask(&exchange, None, None);
+    }
+}
+
 #[test]
 fn both_sides_say_the_same_of_signed_responses() {
     let mut seen = Comparison::new();
@@ -212,6 +230,7 @@ fn both_sides_say_the_same_of_signed_responses() {
     bad_requests(&mut seen);
     bad_responses(&mut seen);
     turned(&mut seen);
+    noise(&mut seen);
     println!(
         "{} responses with real signatures, ours compared with independent; how often each code \
          was given:\n{}",
