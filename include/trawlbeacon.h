@@ -196,8 +196,10 @@ static inline const char *tb_code_text(uint32_t code) {
  * aarch64. tb_path_from takes next to nothing, and tb_leads 1,456. */
 #define TB_TREE_STACK 40960
 
-/* Bytes of stack that are enough for a verification, which has a table of 10,240 numbers there:
- * 48,744 at the most, measured on aarch64. hosts/c/stack.c measures it anew. */
+/* Bytes of stack that are enough for a verification, which has a table of 10,240 numbers there, and
+ * for every function that verifies by itself: 48,744 at the most for the first, measured on aarch64,
+ * and 48,864 on x86-64, where tb_cut_signed_run takes the most of all, 53,200. hosts/c/stack.c
+ * measures them anew. */
 #define TB_VERIFY_STACK 65536
 
 /* Bytes of a record of a list of servers. */
@@ -663,7 +665,8 @@ struct tb_reported {
 struct tb_reported tb_check_report(const uint8_t *pile, size_t pile_len, const uint8_t *answers,
                                    size_t answers_len);
 
-/* The same with no answers lent: each record as tb_judge_signed judges it. */
+/* The same with no answers lent: each record as tb_judge_signed judges it. Whose keys stand in the
+ * records is for the caller to look at: anybody can make a report with keys of his own. */
 struct tb_reported tb_check_signed_report(const uint8_t *pile, size_t pile_len);
 
 /* Which run was cut: the places in the pile of its first and last record. */
