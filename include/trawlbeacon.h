@@ -197,9 +197,9 @@ static inline const char *tb_code_text(uint32_t code) {
 #define TB_TREE_STACK 40960
 
 /* Bytes of stack that are enough for a verification, which has a table of 10,240 numbers there, and
- * for every function that verifies by itself: 48,744 at the most for the first, measured on aarch64,
- * and 48,864 on x86-64, where tb_cut_signed_run takes the most of all, 53,200. hosts/c/stack.c
- * measures them anew. */
+ * for every function that verifies by itself. A verification takes 48,744 at the most, measured on
+ * aarch64, and 48,864 on x86-64, where tb_cut_signed_run takes the most of all, 53,200.
+ * hosts/c/stack.c measures them anew. */
 #define TB_VERIFY_STACK 65536
 
 /* Bytes of a record of a list of servers. */
