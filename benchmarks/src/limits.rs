@@ -56,7 +56,7 @@ impl Limits {
             sha2_short: limit("BENCH_LIMIT_SHA2_SHORT", 1.25),
             pieces: limit("BENCH_LIMIT_PIECES", 1.05),
             piles: limit("BENCH_LIMIT_PILES", 0.87),
-            openssl: limit("BENCH_LIMIT_OPENSSL", 1.7),
+            openssl: limit("BENCH_LIMIT_OPENSSL", 1.8),
             signed: limit("BENCH_LIMIT_SIGNED", 0.95),
             servers: limit("BENCH_LIMIT_SERVERS", 0.70),
         }
