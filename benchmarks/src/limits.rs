@@ -15,6 +15,8 @@ pub struct Limits {
     pub piles: f64,
     /// A verification against OpenSSL's.
     pub openssl: f64,
+    /// A response and a full pile by their own signatures against the independent implementation.
+    pub signed: f64,
     /// A server with a whole batch against the independent implementation.
     pub servers: f64,
 }
@@ -38,6 +40,13 @@ pub const PATH_FROM: f64 = 0.5;
 /// One pass over the windows of a full pile against every pair of them, of which there are 120.
 pub const ONE_PASS: f64 = 0.25;
 
+/// What is judged by its signatures, against one verification of a delegation, where it makes so many
+/// and reads so many records or responses: a response's text may be longer than a delegation's, and
+/// each record is read and hashed.
+pub fn verifications(made: u32, records: u32) -> f64 {
+    1.15 * f64::from(made) + 0.125 * f64::from(records) + 0.5
+}
+
 impl Limits {
     /// Those that the environment sets, or else the defaults.
     pub fn read() -> Self {
@@ -47,7 +56,8 @@ impl Limits {
             sha2_short: limit("BENCH_LIMIT_SHA2_SHORT", 1.25),
             pieces: limit("BENCH_LIMIT_PIECES", 1.05),
             piles: limit("BENCH_LIMIT_PILES", 0.87),
-            openssl: limit("BENCH_LIMIT_OPENSSL", 1.7),
+            openssl: limit("BENCH_LIMIT_OPENSSL", 1.8),
+            signed: limit("BENCH_LIMIT_SIGNED", 0.95),
             servers: limit("BENCH_LIMIT_SERVERS", 0.70),
         }
     }

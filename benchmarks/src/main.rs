@@ -14,6 +14,7 @@ mod piles;
 mod servers;
 mod sides;
 mod signatures;
+mod signed;
 mod timing;
 mod trees;
 mod windows;
@@ -27,6 +28,8 @@ struct Table {
     width: usize,
     unit: &'static str,
     sides: &'static [Side],
+    /// Whether each side is timed by itself, and not in turns with the others.
+    apart: bool,
     /// How many digits a time has behind its point.
     digits: usize,
     /// From the bytes and the seconds of one call.
@@ -37,6 +40,7 @@ const HASHES: Table = Table {
     width: 22,
     unit: "MB/s",
     sides: SIDES,
+    apart: false,
     digits: 1,
     show: |length, seconds| length as f64 / seconds / 1e6,
 };
@@ -47,6 +51,7 @@ const PILES: Table = Table {
     width: 40,
     unit: "us",
     sides: &[Side::Ours, Side::Independent],
+    apart: false,
     digits: 1,
     show: |_, seconds| seconds * 1e6,
 };
@@ -55,6 +60,7 @@ const TREES: Table = Table {
     width: 26,
     unit: "us",
     sides: &[Side::Ours, Side::Hashing, Side::Rows, Side::Independent],
+    apart: false,
     digits: 3,
     show: |_, seconds| seconds * 1e6,
 };
@@ -63,16 +69,21 @@ const WINDOWS: Table = Table {
     width: 40,
     unit: "ns",
     sides: &[Side::Ours, Side::Pairs],
+    apart: false,
     digits: 1,
     show: |_, seconds| seconds * 1e9,
 };
 
 const SIGNATURES: Table = Table { sides: &[Side::Ours, Side::Independent, Side::OpenSsl], ..PILES };
 
+const VERIFICATIONS: Table =
+    Table { sides: &[Side::Ours, Side::Verification], apart: true, ..PILES };
+
 const SERVERS: Table = Table {
     width: 26,
     unit: "/s",
     sides: &[Side::Ours, Side::Independent],
+    apart: false,
     digits: 0,
     show: |answers, seconds| answers as f64 / seconds,
 };
@@ -93,7 +104,11 @@ impl Table {
     /// Times one subject on each side that has it, prints its line, and adds what is above its
     /// limit to `above`.
     fn report(&self, mut subject: Subject, above: &mut Vec<String>) {
-        let times = timing::best_times(&mut subject.works);
+        let times = if self.apart {
+            timing::best_times_apart(&mut subject.works)
+        } else {
+            timing::best_times(&mut subject.works)
+        };
         let time_of =
             |side: Side| times.iter().find(|(timed, _)| *timed == side).map(|(_, time)| *time);
         let ours = time_of(Side::Ours).expect("every subject has our side");
@@ -172,6 +187,28 @@ fn main() -> ExitCode {
     println!("{}", SIGNATURES.header());
     for signed in &signatures::signed(&data) {
         SIGNATURES.report(signed.subject(&limits), &mut above);
+    }
+    println!(
+        "by its own signatures, each of which is verified; limit: ours/independent {}; no buffer is \
+         cleared between runs",
+        limits.signed
+    );
+    println!("{}", PILES.header());
+    let evidence = signed::Evidence::new();
+    for subject in evidence.valid(&limits) {
+        PILES.report(subject, &mut above);
+    }
+    println!(
+        "the same by the verifications that it makes: the ratio is about their number; limits: {} \
+         for a response with two, {} with none, {} for 16 records with 32, {} with none",
+        limits::verifications(2, 1),
+        limits::verifications(0, 1),
+        limits::verifications(32, 16),
+        limits::verifications(0, 16)
+    );
+    println!("{}", VERIFICATIONS.header());
+    for subject in evidence.refused() {
+        VERIFICATIONS.report(subject, &mut above);
     }
     println!(
         "a server with a batch of {}, by its parts; limit for the whole: ours/independent {}",

@@ -12,14 +12,14 @@ use std::hint::black_box;
 /// The shape of a pile, whose records are all alike.
 #[derive(Clone, Copy)]
 pub struct Shape {
-    records: usize,
-    siblings: usize,
+    pub records: usize,
+    pub siblings: usize,
     /// Bytes of each packet; a response that needs more has as many as it needs.
-    packet: usize,
+    pub packet: usize,
 }
 
 /// As much as a pile can hold.
-const FULL: Shape = Shape { records: pile::MOST_RECORDS, siblings: 32, packet: packet::MOST };
+pub const FULL: Shape = Shape { records: pile::MOST_RECORDS, siblings: 32, packet: packet::MOST };
 
 impl Shape {
     /// The window of a record. Only the first and the last contradict each other, so that every
@@ -32,7 +32,8 @@ impl Shape {
         }
     }
 
-    fn made(self) -> Made {
+    /// What stands in each record.
+    pub fn links(self) -> Vec<Link> {
         let link = |place: usize| {
             let (midp, radi) = self.window(place);
             let Shape { siblings, packet, .. } = self;
@@ -43,13 +44,17 @@ impl Shape {
                 ..Link::new(place as u8, midp, radi)
             }
         };
-        making::chain(&(0..self.records).map(link).collect::<Vec<_>>())
+        (0..self.records).map(link).collect()
+    }
+
+    fn made(self) -> Made {
+        making::chain(&self.links())
     }
 }
 
 /// What is done with a pile.
 #[derive(Clone, Copy, PartialEq)]
-enum Operation {
+pub enum Operation {
     Verdicts,
     Report,
     Cutter,
@@ -58,7 +63,11 @@ enum Operation {
 }
 
 impl Operation {
-    fn name(self) -> &'static str {
+    /// Each part, and then the whole.
+    pub const ALL: [Operation; 4] =
+        [Operation::Verdicts, Operation::Report, Operation::Cutter, Operation::Whole];
+
+    pub fn name(self) -> &'static str {
         match self {
             Operation::Verdicts => "verdicts",
             Operation::Report => "report",
@@ -67,7 +76,7 @@ impl Operation {
         }
     }
 
-    fn has(self, part: Operation) -> bool {
+    pub fn has(self, part: Operation) -> bool {
         self == Operation::Whole || self == part
     }
 }
@@ -131,8 +140,7 @@ pub struct Plan {
 
 /// Every operation on a full pile, and then the whole on piles that are smaller in one way.
 pub fn plans() -> Vec<Plan> {
-    let full = [Operation::Verdicts, Operation::Report, Operation::Cutter, Operation::Whole]
-        .map(|operation| (operation, FULL));
+    let full = Operation::ALL.map(|operation| (operation, FULL));
     let fewer = [1, 2, 4, 8].map(|records| Shape { records, ..FULL });
     let shallower = [0, 8, 16, 24].map(|siblings| Shape { siblings, ..FULL });
     // With no sibling a response takes 404 bytes, so that packets of every one of these sizes can

@@ -18,6 +18,8 @@ pub enum Side {
     Whole,
     /// Ours too, every pair of windows compared.
     Pairs,
+    /// Ours too, one verification alone.
+    Verification,
     /// OpenSSL's Ed25519. No work of it is made where OpenSSL is not linked.
     OpenSsl,
 }
@@ -32,6 +34,7 @@ impl Side {
             Side::Sha2 => "sha2",
             Side::Whole => "whole",
             Side::Pairs => "pairs",
+            Side::Verification => "verification",
             Side::OpenSsl => "openssl",
         }
     }

@@ -29,6 +29,12 @@ fn calls_for_a_turn(work: &mut Work) -> u32 {
     calls
 }
 
+/// The same with each side by itself, and with a count of calls of its own: for sides of which one
+/// takes a hundred times as long as another.
+pub fn best_times_apart(works: &mut [(Side, Work)]) -> Vec<(Side, f64)> {
+    works.chunks_mut(1).flat_map(best_times).collect()
+}
+
 /// The best time of one call on each side, in seconds.
 ///
 /// Each round gives every side one turn, and each round starts with another side, so that none

@@ -4,12 +4,14 @@
  * function to what the header says of it: a hash by the digest of its parts joined, also where they
  * come in pieces, a tree of three leaves by its nodes and the largest one by a path through it, a
  * reader and the check by a request of ours and by a response that draft 19 prints, a verification
- * by signatures of RFC 8032 and of that response, a lookup by the place of the record, old stamps by
+ * by signatures of RFC 8032 and of that response, what verifies by itself by the draft's whole
+ * report and by the forms that take answers, a lookup by the place of the record, old stamps by
  * both sides of each limit, a pile by the times it was made of, windows as they come by every pair
- * of them, a writer by what it leaves in a buffer, a server by the draft's response, which it writes
- * again out of its values, the words of a code by some of them. Whether all of that is right on
- * every input is for the tests of hosts/rust.
+ * of them, a writer by what it leaves in a buffer, a server by the draft's response, which it
+ * writes again out of its values, the words of a code by some of them. Whether all of that is right
+ * on every input is for the tests of hosts/rust.
  */
+#include "report.h"
 #include "response.h"
 #include "trawlbeacon.h"
 
@@ -1069,6 +1071,157 @@ static void expect_signed(const uint8_t *packet) {
                   tb_verify(key, 32, text, n, parts.delegation, 64), 0);
 }
 
+/* The answers about a response under a key, the check that verifies by itself, and the one that
+ * takes those answers. */
+static void expect_signed_check(const char *what, const uint8_t key[32], const uint8_t *request,
+                                size_t n, const uint8_t *response, size_t m, uint8_t delegation,
+                                uint8_t signature, struct tb_verdict should) {
+    uint8_t out[4] = {0xee, 0xee, 0xee, 0xee};
+    tb_answers(key, response, m, out + 1);
+    expect_number(what, out[1], delegation);
+    expect_number(what, out[2], signature);
+    expect_number(what, out[0] + out[3], 2 * 0xee);
+    expect_verdict(what, tb_check_signed(key, request, n, response, m), should);
+    expect_verdict(what, tb_check_response(request, n, response, m, out[1], out[2]), should);
+}
+
+/* Where a byte is changed in the response, and what comes of it. */
+static const struct changed {
+    const char *what;
+    size_t at, n;
+    uint32_t code;
+    uint8_t delegation, signature;
+} CHANGED[] = {
+    {"a changed signature", SIG_AT, 64, 13, 1, 0},
+    {"a changed delegation", CERT_SIG_AT, 64, 12, 0, 1},
+    {"a changed delegated key", PUBK_AT, 32, 12, 0, 0},
+    {"a changed MINT", MINT_AT, 2, 12, 0, 1},
+    {"a changed MAXT", MAXT_AT, 2, 12, 0, 1},
+    {"a changed MIDP", MIDP_AT, 1, 13, 1, 0},
+    {"a changed RADI", RADI_AT, 4, 13, 1, 0},
+    {"a changed ROOT", ROOT_AT, 32, 10, 1, 0},
+    {"a changed nonce", NONC_AT, 32, 9, 1, 1},
+    {"a changed TYPE", TYPE_AT, 4, 8, 1, 1},
+};
+
+/* The draft's response, by its own signatures: as it is, with a byte changed of it or of the key,
+ * and with no signature to be read. */
+static void expect_signed_checks(const uint8_t *packet) {
+    uint8_t request[TB_REQUEST_LENGTH] = {0}, other[RESPONSE_LENGTH], key[32];
+    size_t n = sizeof request, m = sizeof other;
+    struct tb_verdict valid = drafts(packet), refused = {.code = 12};
+    memcpy(other, packet, m);
+    memcpy(key, KEY, sizeof key);
+    tb_write_request(KEY, packet + NONC_AT, request, n);
+    expect_signed_check("the draft's signatures", key, request, n, packet, m, 1, 1, valid);
+    for (size_t i = 0; i < sizeof CHANGED / sizeof *CHANGED; i++) {
+        struct changed changed = CHANGED[i];
+        refused.code = changed.code;
+        for (size_t k = changed.at; k < changed.at + changed.n; k++) {
+            other[k]++;
+            expect_signed_check(changed.what, key, request, n, other, m, changed.delegation,
+                                changed.signature, refused);
+            other[k]--;
+        }
+    }
+    refused.code = 12;
+    for (size_t k = 0; k < sizeof key; k++) {
+        key[k]++;
+        expect_signed_check("a changed key", key, request, n, packet, m, 0, 1, refused);
+        key[k]--;
+    }
+    memcpy(other + SIG_AT, packet + CERT_SIG_AT, 64);
+    memcpy(other + CERT_SIG_AT, packet + SIG_AT, 64);
+    expect_signed_check("signatures exchanged", key, request, n, other, m, 0, 0, refused);
+    struct tb_verdict bad = {.code = 14}, cut = {.code = 3}, none = {.code = 1};
+    struct tb_verdict value = {.code = 7, .at = RADI_AT};
+    expect_signed_check("signed, for a bad request", key, request, n - 1, packet, m, 1, 1, bad);
+    expect_signed_check("signed and cut short", key, request, n, packet, m - 1, 0, 0, cut);
+    expect_signed_check("nothing signed", key, request, n, packet, 0, 0, 0, none);
+    memset(other + RADI_AT, 0, 4);
+    expect_signed_check("signed without a radius", key, request, n, other, m, 0, 0, value);
+}
+
+/* Holds every form that takes a pile alone to 15. */
+static void expect_no_pile(const char *what, const uint8_t *pile, size_t n) {
+    static uint8_t out[(TB_MOST_RECORDS + 1) * TB_RECORD_LENGTH];
+    struct tb_verdict bad = {.code = 15};
+    memset(out, 0xee, sizeof out);
+    expect_judged(what, tb_judge_signed(pile, n, 1), 1, bad);
+    expect_reported(what, tb_check_signed_report(pile, n), 15, 0, 0, 0);
+    expect_cut(what, tb_cut_signed_run(pile, n, out, sizeof out), 15, 0, 0);
+    expect_cut(what, tb_cut_signed_run(pile, n, out, 0), 15, 0, 0);
+    expect_all(what, out, 0xee, sizeof out);
+}
+
+/* The draft's report with a byte changed in one of its records: what is said of that record, of the
+ * pile as a report and as one to be cut. The run is that of the first two, so that the third does
+ * not matter to it. */
+static void expect_changed_record(const char *what, uint8_t *pile, size_t k, size_t at,
+                                  uint32_t code) {
+    static uint8_t out[REPORT_LENGTH];
+    struct tb_verdict refused = {.code = code};
+    uint8_t *byte = pile + k * TB_RECORD_LENGTH + at;
+    (*byte)++;
+    memset(out, 0xee, sizeof out);
+    if (code != 17)
+        expect_judged(what, tb_judge_signed(pile, REPORT_LENGTH, k), k, refused);
+    expect_reported(what, tb_check_signed_report(pile, REPORT_LENGTH), code, k, 0, 0);
+    bool stands = k == 2 || (code == 17 && k == 0);
+    expect_cut(what, tb_cut_signed_run(pile, REPORT_LENGTH, out, sizeof out), stands ? 0 : 18, 0,
+               stands);
+    (*byte)--;
+}
+
+/* The draft's report, by its own signatures. */
+static void expect_signed_report(void) {
+    static const uint8_t many[(TB_MOST_RECORDS + 1) * TB_RECORD_LENGTH];
+    static uint8_t pile[REPORT_LENGTH], out[REPORT_LENGTH + 8];
+    size_t n = REPORT_LENGTH, two = 2 * TB_RECORD_LENGTH;
+    struct tb_verdict nothing = {.code = 15};
+    lay_report(pile);
+    memset(out, 0xee, sizeof out);
+    for (size_t k = 0; k < DRAFTS; k++) {
+        struct tb_judged alone = tb_judge_signed(pile, n, k);
+        struct tb_judged given = tb_judge(pile, n, YES, 2 * DRAFTS, k);
+        expect_number("code of a signed record", alone.code, 0);
+        expect_number("place of a signed record", alone.place, k);
+        expect_number("midp of a signed record", alone.midp, k == 0 ? 1773685571 : 1773599171);
+        expect_bytes("a signed record", (const uint8_t *)&alone, (const uint8_t *)&given,
+                     sizeof alone);
+    }
+    expect_judged("no signed record", tb_judge_signed(pile, n, DRAFTS), DRAFTS, nothing);
+    expect_reported("tb_check_signed_report", tb_check_signed_report(pile, n), 0, 0, 0, 1);
+    expect_reported("tb_check_signed_report of a record",
+                    tb_check_signed_report(pile, TB_RECORD_LENGTH), 18, 0, 0, 0);
+    expect_cut("tb_cut_signed_run without room", tb_cut_signed_run(pile, n, out, n - 1), 19, 0, 0);
+    expect_cut("tb_cut_signed_run of a record",
+               tb_cut_signed_run(pile, TB_RECORD_LENGTH, out, sizeof out), 18, 0, 0);
+    expect_all("the buffer of a refused signed cut", out, 0xee, sizeof out);
+    expect_cut("tb_cut_signed_run", tb_cut_signed_run(pile, n, out, sizeof out), 0, 0, 1);
+    expect_bytes("the signed run", out, pile, two);
+    expect_all("what follows the signed run", out + two, 0xee, sizeof out - two);
+    expect_reported("tb_check_signed_report of the run", tb_check_signed_report(out, two), 0, 0, 0,
+                    1);
+    for (size_t k = 0; k < DRAFTS; k++) {
+        for (size_t i = 0; i < 32; i += 7) {
+            expect_changed_record("a key of a pile", pile, k, i, 12);
+            expect_changed_record("a rand of a pile", pile, k, RAND_AT + i, 17);
+            expect_changed_record("a delegation of a pile", pile, k, RESPONSE_AT + CERT_SIG_AT + i,
+                                  12);
+        }
+        expect_changed_record("a gap of a pile", pile, k, GAP_AT, 16);
+        expect_changed_record("a request of a pile", pile, k, REQUEST_AT, 14);
+    }
+    /* The next record is linked to the whole response, its signature too. */
+    for (size_t i = 0; i < 64; i += 9)
+        expect_changed_record("a signature of a pile", pile, 2, RESPONSE_AT + SIG_AT + i, 13);
+    expect_no_pile("no bytes, signed", pile, 0);
+    expect_no_pile("a byte too little, signed", pile, n - 1);
+    expect_no_pile("17 records, signed", many, sizeof many);
+    expect_no_pile("half a record, signed", pile, TB_RECORD_LENGTH / 2);
+}
+
 static void expect_piles(void) {
     static uint8_t pile[PILE_LENGTH];
     for (size_t k = 0; k < RECORDS; k++) lay_record(pile + k * TB_RECORD_LENGTH, k, TIMES[k]);
@@ -1096,11 +1249,13 @@ int main(void) {
     expect_verified();
     expect_signed(packet);
     expect_checks(packet);
+    expect_signed_checks(packet);
     expect_no_radius(packet);
     expect_versions(packet);
     expect_lookups();
     expect_old_windows();
     expect_piles();
+    expect_signed_report();
     expect_tally();
     expect_server_parts(packet);
     expect_server(packet);

@@ -1,4 +1,5 @@
-/* Asks one server for the time, as a console does, with OpenSSL's Ed25519. Link it with -lcrypto.
+/* Asks one server for the time, as a console does that verifies signatures by itself, here with
+ * OpenSSL's Ed25519. Link it with -lcrypto. example.c leaves that to the library.
  *
  *     console KEY NONCE RESPONSE
  *
@@ -11,11 +12,9 @@
  * and 32 random bytes, and would send the request over UDP.
  */
 #include "packet.h"
-#include "response.h"
 #include "trawlbeacon.h"
 
 #include <openssl/evp.h>
-#include <string.h>
 
 /* What OpenSSL says of a signature under a public key: 1 where it is right, and else 0, or a number
  * below 0 where OpenSSL itself failed. tb_check_response takes it as it is: only 1 is a yes. */
@@ -49,35 +48,11 @@ static struct tb_verdict check(const uint8_t key[32], const uint8_t *request, si
     return tb_check_response(request, request_len, response, response_len, delegation, signature);
 }
 
-/* Reads 32 bytes from 64 digits of hex. */
-static bool read_hex(const char *text, uint8_t bytes[32]) {
-    if (strspn(text, "0123456789abcdefABCDEF") != 64 || text[64] != '\0') return false;
-    for (size_t i = 0; i < 32; i++) {
-        const char digits[3] = {text[2 * i], text[2 * i + 1], '\0'};
-        bytes[i] = (uint8_t)strtoul(digits, NULL, 16);
-    }
-    return true;
-}
-
-/* The draft's own server, nonce and response. */
-static void take_the_drafts(uint8_t key[32], uint8_t nonce[32], struct packet *response) {
-    memcpy(key, KEY, sizeof KEY);
-    memcpy(response->bytes, RESPONSE, sizeof RESPONSE);
-    response->length = sizeof RESPONSE;
-    memcpy(nonce, tb_read_response(RESPONSE, sizeof RESPONSE).nonc, 32);
-}
-
 int main(int argc, char **argv) {
-    static struct packet response; /* zeros at first */
-    uint8_t key[32], nonce[32], request[TB_REQUEST_LENGTH] = {0};
-    if (argc == 4 && read_hex(argv[1], key) && read_hex(argv[2], nonce)) {
-        read_file(argv[3], &response);
-    } else if (argc == 1) {
-        take_the_drafts(key, nonce, &response);
-    } else {
-        fprintf(stderr, "usage: %s [KEY NONCE RESPONSE]\n", argv[0]);
-        return 2;
-    }
-    struct tb_wrote wrote = tb_write_request(key, nonce, request, sizeof request);
-    return print_verdict(check(key, request, wrote.length, response.bytes, response.length));
+    static struct exchange asked; /* zeros at first */
+    uint8_t request[TB_REQUEST_LENGTH] = {0};
+    read_arguments(argc, argv, &asked);
+    struct tb_wrote wrote = tb_write_request(asked.key, asked.nonce, request, sizeof request);
+    return print_verdict(check(asked.key, request, wrote.length, asked.response.bytes,
+                               asked.response.length));
 }

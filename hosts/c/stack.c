@@ -1,12 +1,15 @@
 /* Measures the stack that each tree operation takes, and holds the most of them to the header's
  * TB_TREE_STACK: with that much every operation ends, and on one page less than the most some
- * operation runs off the end. A verification is measured too, and held to TB_VERIFY_STACK.
+ * operation runs off the end. A verification is measured too, and every form that verifies by
+ * itself, and the most of those is held to TB_VERIFY_STACK.
  *
  * Each call runs on a stack of this program's own, which is painted first and has memory below it
  * that nobody may touch. That is done with contexts and not with threads, since a C library wants
  * more for a thread than an operation takes.
  */
 #define _GNU_SOURCE
+#include "report.h"
+#include "response.h"
 #include "trawlbeacon.h"
 
 #include <stdio.h>
@@ -33,9 +36,9 @@ static void call_path_from(void) {
 static void call_leads(void) { tb_leads(leaves, 0, rows, 1024, leaves); }
 
 /* RFC 8032's first signature, of no bytes: it verifies, so that all of it is worked out. */
-static const uint8_t KEY[32] = {0xd7, 0x5a, 0x98, 0x01, 0x82, 0xb1, 0x0a, 0xb7, 0xd5, 0x4b, 0xfe,
-                                0xd3, 0xc9, 0x64, 0x07, 0x3a, 0x0e, 0xe1, 0x72, 0xf3, 0xda, 0xa6,
-                                0x23, 0x25, 0xaf, 0x02, 0x1a, 0x68, 0xf7, 0x07, 0x51, 0x1a};
+static const uint8_t SIGNER[32] = {
+    0xd7, 0x5a, 0x98, 0x01, 0x82, 0xb1, 0x0a, 0xb7, 0xd5, 0x4b, 0xfe, 0xd3, 0xc9, 0x64, 0x07, 0x3a,
+    0x0e, 0xe1, 0x72, 0xf3, 0xda, 0xa6, 0x23, 0x25, 0xaf, 0x02, 0x1a, 0x68, 0xf7, 0x07, 0x51, 0x1a};
 static const uint8_t SIGNATURE[64] = {
     0xe5, 0x56, 0x43, 0x00, 0xc3, 0x60, 0xac, 0x72, 0x90, 0x86, 0xe2, 0xcc, 0x80, 0x6e, 0x82, 0x8a,
     0x84, 0x87, 0x7f, 0x1e, 0xb8, 0xe5, 0xd9, 0x74, 0xd8, 0x73, 0xe0, 0x65, 0x22, 0x49, 0x01, 0x55,
@@ -43,7 +46,27 @@ static const uint8_t SIGNATURE[64] = {
     0xd2, 0x5b, 0xf5, 0xf0, 0x59, 0x5b, 0xbe, 0x24, 0x65, 0x51, 0x41, 0x43, 0x8e, 0x7a, 0x10, 0x0b};
 static bool verified;
 static void call_verify(void) {
-    verified = tb_verify_parts(KEY, sizeof KEY, leaves, 0, leaves, 0, SIGNATURE, sizeof SIGNATURE);
+    verified = tb_verify_parts(SIGNER, sizeof SIGNER, leaves, 0, leaves, 0, SIGNATURE,
+                               sizeof SIGNATURE);
+}
+
+/* The forms that verify by themselves, on the report that draft 19 prints, all of whose signatures
+ * are right; each tells its code, so that it is seen to have gone to its end. */
+static uint8_t pile[REPORT_LENGTH], run[REPORT_LENGTH], told[2];
+static uint32_t code;
+static void call_answers(void) {
+    tb_answers(KEY, RESPONSE, sizeof RESPONSE, told);
+    code = told[0] == 1 && told[1] == 1 ? 0 : 12;
+}
+static void call_check_signed(void) {
+    code = tb_check_signed(KEY, pile + 96, TB_REQUEST_LENGTH, RESPONSE, sizeof RESPONSE).code;
+}
+static void call_judge_signed(void) { code = tb_judge_signed(pile, sizeof pile, 2).code; }
+static void call_check_signed_report(void) {
+    code = tb_check_signed_report(pile, sizeof pile).code;
+}
+static void call_cut_signed_run(void) {
+    code = tb_cut_signed_run(pile, sizeof pile, run, sizeof run).code;
 }
 
 static const struct operation {
@@ -54,6 +77,12 @@ static const struct operation {
                   {"tb_rows", call_rows},
                   {"tb_path_from", call_path_from},
                   {"tb_leads", call_leads}};
+
+static const struct operation SIGNED[] = {{"tb_answers", call_answers},
+                                          {"tb_check_signed", call_check_signed},
+                                          {"tb_judge_signed", call_judge_signed},
+                                          {"tb_check_signed_report", call_check_signed_report},
+                                          {"tb_cut_signed_run", call_cut_signed_run}};
 
 /* Around the numbers at which another row is taken or a level comes. */
 static const size_t COUNTS[] = {1, 2, 32, 33, 512, 513, 900, TB_MOST_LEAVES};
@@ -126,7 +155,15 @@ int main(void) {
         printf("\n");
     }
     size_t verifying = taken(stack, call_verify) - before;
-    printf("%-13s %6zu, and the header says %d\n", "tb_verify_parts", verifying, TB_VERIFY_STACK);
+    printf("%-22s %6zu, and the header says %d\n", "tb_verify_parts", verifying, TB_VERIFY_STACK);
+    lay_report(pile);
+    for (size_t i = 0; i < SIZE(SIGNED); i++) {
+        code = UINT32_MAX;
+        size_t n = taken(stack, SIGNED[i].call) - before;
+        verified = verified && code == TB_PASSED;
+        if (n > verifying) verifying = n;
+        printf("%-22s %6zu\n", SIGNED[i].name, n);
+    }
     /* What a call of nothing takes is not the library's, but stands on the same stack. */
     size_t pages = (most + PAGE - 1) / PAGE * PAGE;
     int fits = most - before <= TB_TREE_STACK, enough = all_end_on(TB_TREE_STACK);

@@ -12,9 +12,9 @@
 //! It has SHA-512, the hashes that Roughtime makes of it and the Merkle tree, a reader of packets,
 //! requests and responses, the check of a response, the writer of a request, the texts that are
 //! signed, the writer of a response with its delegation, the lookup of a server, piles of responses
-//! and the reports that are made of them, the timestamps of an old draft, and Ed25519. Beside them
-//! stands what all this is tried with: what makes piles and signatures, and a server that answers
-//! batches.
+//! and the reports that are made of them, the timestamps of an old draft, and Ed25519, by which
+//! responses and piles are judged with no answers beside them. Beside all this stands what it is
+//! tried with: what makes piles and signatures, and a server that answers batches.
 
 #![forbid(unsafe_code)]
 #![warn(missing_docs)]
@@ -42,6 +42,8 @@ pub mod response;
 pub mod server;
 pub mod servers;
 pub mod sha512;
+pub mod signed;
+pub mod signing;
 pub mod stamp;
 pub mod tag;
 pub mod text;

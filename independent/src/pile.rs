@@ -53,6 +53,11 @@ impl<'a> Record<'a> {
         self.area(at::RESPONSE, at::RESPONSE_LENGTH)
     }
 
+    /// The long-term key of the server.
+    pub fn key(self) -> &'a [u8; 32] {
+        self.bytes[..at::RAND].try_into().expect("it has 32 bytes")
+    }
+
     /// What blinds the nonce.
     pub fn rand(self) -> &'a [u8; 32] {
         self.bytes[at::RAND..at::REQUEST_LENGTH].try_into().expect("it has 32 bytes")
@@ -91,6 +96,25 @@ fn is_zero(bytes: &[u8]) -> bool {
     bytes.iter().fold(0, |seen, byte| seen | byte) == 0
 }
 
+/// A record and a way to judge it.
+pub trait Judge: Copy {
+    /// The record.
+    fn record(&self) -> Record<'_>;
+
+    /// What the record tells, where it is valid.
+    fn judge(&self) -> Result<Valid, Refusal>;
+
+    /// Where the response of the record is bad, where that is why the record is not valid: the
+    /// codes 4 to 7. A bad request is told by no place, since 14 is not one of them.
+    fn place(&self) -> Option<Place> {
+        let (_, response) = self.record().packets().ok()?;
+        match self.judge() {
+            Err(refusal) if (4..=7).contains(&refusal.code()) => place::in_response(response),
+            _ => None,
+        }
+    }
+}
+
 /// A record with the answers about its signatures.
 #[derive(Clone, Copy, Debug, PartialEq, Eq)]
 pub struct Answered<'a> {
@@ -102,26 +126,19 @@ pub struct Answered<'a> {
     pub signature: bool,
 }
 
-impl Answered<'_> {
-    /// What the record tells, where it is valid.
-    pub fn judge(self) -> Result<Valid, Refusal> {
-        let (request, response) = self.record.packets()?;
-        check::check(request, response, self.delegation, self.signature)
+impl Judge for Answered<'_> {
+    fn record(&self) -> Record<'_> {
+        self.record
     }
 
-    /// Where the response of the record is bad, where that is why the record is not valid: the
-    /// codes 4 to 7. A bad request is told by no place, since 14 is not one of them.
-    pub fn place(self) -> Option<Place> {
-        let (_, response) = self.record.packets().ok()?;
-        match self.judge() {
-            Err(refusal) if (4..=7).contains(&refusal.code()) => place::in_response(response),
-            _ => None,
-        }
+    fn judge(&self) -> Result<Valid, Refusal> {
+        let (request, response) = self.record.packets()?;
+        check::check(request, response, self.delegation, self.signature)
     }
 }
 
 /// The records of a pile, where there are 1 to 16 whole ones.
-fn records(pile: &[u8]) -> Result<Vec<Record<'_>>, Refusal> {
+pub fn records(pile: &[u8]) -> Result<Vec<Record<'_>>, Refusal> {
     let count = pile.len() / RECORD;
     if pile.len() % RECORD != 0 || !(1..=MOST_RECORDS).contains(&count) {
         return Err(Refusal::Pile);
@@ -144,7 +161,7 @@ pub fn read<'a>(pile: &'a [u8], answers: &[u8]) -> Result<Vec<Answered<'a>>, Ref
 
 /// What each record tells: its window and its key, or why it is not valid.
 pub fn judge_all(pile: &[u8], answers: &[u8]) -> Result<Vec<Result<Valid, Refusal>>, Refusal> {
-    Ok(read(pile, answers)?.into_iter().map(Answered::judge).collect())
+    Ok(read(pile, answers)?.iter().map(Answered::judge).collect())
 }
 
 /// Whether the record at `place` is linked to the one before it. Where that cannot be asked, it is

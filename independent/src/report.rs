@@ -1,7 +1,7 @@
 //! Reports: piles that convict a server by themselves (draft 19, section 8.2; house rules), and the
 //! cutter, which takes the shortest run of records out of a pile that does so.
 
-use crate::pile::{self, Answered};
+use crate::pile::{self, Judge};
 use crate::refusal::Refusal;
 use crate::write;
 use std::ops::RangeInclusive;
@@ -17,7 +17,7 @@ pub fn contradicts(earlier: Time, later: Time) -> bool {
 }
 
 /// What a record tells of the time, where it is valid.
-pub(crate) fn time(record: Answered) -> Result<Time, Refusal> {
+pub(crate) fn time(record: impl Judge) -> Result<Time, Refusal> {
     record.judge().map(|valid| (valid.window.midp, valid.window.radi))
 }
 
@@ -43,7 +43,14 @@ impl NoReport {
 /// The places of the two records for which a pile is a report: of all pairs that contradict each
 /// other the closest, and of equally close ones the first.
 pub fn check(pile: &[u8], answers: &[u8]) -> Result<(usize, usize), NoReport> {
-    let records = pile::read(pile, answers).map_err(NoReport::of)?;
+    check_records(pile, &pile::read(pile, answers).map_err(NoReport::of)?)
+}
+
+/// The same of the records of a pile, however each is judged.
+pub(crate) fn check_records(
+    pile: &[u8],
+    records: &[impl Judge],
+) -> Result<(usize, usize), NoReport> {
     let judged = records.iter().enumerate().map(|(place, record)| (place, time(*record)));
     let times: Result<Vec<Time>, _> = judged
         .map(|(place, verdict)| verdict.map_err(|refusal| NoReport::at(place, refusal)))
@@ -59,8 +66,8 @@ pub fn check(pile: &[u8], answers: &[u8]) -> Result<(usize, usize), NoReport> {
 }
 
 /// Whether the second of two neighbours is linked to the first.
-fn follows(pair: &[Answered]) -> bool {
-    pair[1].record.follows(pair[0].record)
+fn follows(pair: &[impl Judge]) -> bool {
+    pair[1].record().follows(pair[0].record())
 }
 
 /// Any two of `count` places, the lower one first: the closest come first, and of equally close
@@ -82,7 +89,7 @@ struct Evidence {
 }
 
 impl Evidence {
-    fn gather(records: &[Answered]) -> Self {
+    fn gather(records: &[impl Judge]) -> Self {
         let links = records.windows(2).map(follows);
         Evidence {
             times: records.iter().map(|record| time(*record).ok()).collect(),
@@ -108,17 +115,30 @@ impl Evidence {
 
 /// The places of the first and the last record of the run that the cutter takes.
 pub fn run(pile: &[u8], answers: &[u8]) -> Result<(usize, usize), Refusal> {
-    Evidence::gather(&pile::read(pile, answers)?).run().ok_or(Refusal::NoContradiction)
+    run_of(&pile::read(pile, answers)?)
+}
+
+/// The same of records, however each is judged.
+pub(crate) fn run_of(records: &[impl Judge]) -> Result<(usize, usize), Refusal> {
+    Evidence::gather(records).run().ok_or(Refusal::NoContradiction)
 }
 
 /// Writes that run at the front of `out`, which must have room for the whole pile, and tells its
 /// places.
 pub fn cut(pile: &[u8], answers: &[u8], out: &mut [u8]) -> Result<(usize, usize), Refusal> {
-    let records = pile::read(pile, answers)?;
+    cut_records(pile, &pile::read(pile, answers)?, out)
+}
+
+/// The same of the records of a pile, however each is judged.
+pub(crate) fn cut_records(
+    pile: &[u8],
+    records: &[impl Judge],
+    out: &mut [u8],
+) -> Result<(usize, usize), Refusal> {
     if out.len() < pile.len() {
         return Err(Refusal::BufferTooShort);
     }
-    let (first, last) = Evidence::gather(&records).run().ok_or(Refusal::NoContradiction)?;
+    let (first, last) = run_of(records)?;
     write::put(&pile[first * pile::RECORD..(last + 1) * pile::RECORD], out)?;
     out[pile::at::RAND..pile::at::REQUEST_LENGTH].fill(0);
     Ok((first, last))

@@ -7,6 +7,8 @@ use Rattle.report.proofs.Runs.{takes-once}
 use Rattle.report.specs.Taking.{Takes}
 use Rattle.report.specs.declared.Taken.{Taken}
 use Rattle.console.specs.Text.{verdictText}
+use Rattle.console.proofs.answering.put_answers.Kinds as put-answers-kinds
+use Rattle.console.proofs.answering.put_answers.Reads as put-answers-reads
 use Rattle.console.proofs.verdicts.taken_from.Kinds as taken-from-kinds
 use Rattle.console.proofs.verdicts.taken_from.Reads as taken-from-reads
 use Rattle.console.proofs.verdicts.put_verdict.Kinds as put-verdict-kinds
@@ -23,3 +25,8 @@ put-verdict-once κs a x u y v p q =
 pub text-once : (pile answers : List ℕ) (t u : Taken) → Takes pile answers 65536 t → Takes pile answers 65536 u
     → verdictText pile answers t ≡ verdictText pile answers u
 text-once pile answers t u p q = ap (verdictText pile answers) (takes-once pile answers 65536 t u p q)
+
+-- and so are the answers of a pile that comes alone
+pub put-answers-once : Settles put-answers-kinds.ps put-answers-kinds.r put-answers-reads.Learnt
+put-answers-once κs a x u y v p q =
+    (p .0 .1 ∙ sym (q .0 .1), ap (λ (out : List ℕ). (tt, (out, tt))) (p .1 ∙ sym (q .1)))

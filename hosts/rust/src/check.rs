@@ -35,7 +35,7 @@ pub struct Checked {
 /// The caller checks both signatures with what [`signed_parts`](crate::signed_parts) hands out:
 /// `delegation` says whether the delegation's verifies, over
 /// [`delegation_text`](crate::delegation_text), and `signature` whether the response's does, over
-/// [`response_text`](crate::response_text).
+/// [`response_text`](crate::response_text). [`check_signed`](crate::check_signed) needs neither.
 pub fn check_response(
     request: &[u8],
     response: &[u8],
@@ -53,8 +53,20 @@ pub fn check_response(
             u32::from(signature),
         )
     };
+    of_verdict(verdict)
+}
+
+/// What the library answered, as a result.
+pub(crate) fn of_verdict(verdict: raw::tb_verdict) -> Result<Checked, PacketRefusal> {
     PacketRefusal::check(verdict.code, verdict.at)?;
     let raw::tb_verdict { midp, radi, low, high, mint, maxt, pubk, .. } = verdict;
+    Ok(Checked { window: Window { midp, radi, low, high, mint, maxt }, pubk })
+}
+
+/// What the library answered about a record, as a result.
+pub(crate) fn of_judged(judged: raw::tb_judged) -> Result<Checked, PacketRefusal> {
+    PacketRefusal::check(judged.code, judged.at)?;
+    let raw::tb_judged { midp, radi, low, high, mint, maxt, pubk, .. } = judged;
     Ok(Checked { window: Window { midp, radi, low, high, mint, maxt }, pubk })
 }
 

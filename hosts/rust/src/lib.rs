@@ -1,14 +1,16 @@
 //! The proved Roughtime library, for Rust.
 //!
 //! Each function here calls the function of the proved library that has the same name after `tb_`,
-//! and adds nothing to it; [`cut`], [`Record`] and [`Pile`] only lay out bytes beside such calls,
-//! and [`Sha512`] and [`Tally`] hold the state between those that end in `_fields` or `_field`. The proofs speak of the
-//! library's own code; that these few lines declare and call it rightly is shown by the tests
-//! alone, which compare every function with an implementation that shares no code with the library.
+//! and adds nothing to it; [`cut`], [`cut_signed`], [`Record`], [`Pile`] and [`SignedPile`] only lay
+//! out bytes beside such calls, and [`Sha512`] and [`Tally`] hold the state between those that end
+//! in `_fields` or `_field`. The proofs speak of the library's own code; that these few lines
+//! declare and call it rightly is shown by the tests alone, which compare every function with an
+//! implementation that shares no code with the library.
 //!
-//! H, below, is Roughtime's hash: the first 32 bytes of SHA-512. The example `console` goes from
-//! the request to the window, with both signatures verified, and takes a file for what the server
-//! answered; the example `server` delegates a key and answers a batch of 900 requests.
+//! H, below, is Roughtime's hash: the first 32 bytes of SHA-512. The example `time` goes from the
+//! request to the window by [`check_signed`], and takes a file for what the server answered; the
+//! example `console` does the same with an Ed25519 of the host's; the example `server` delegates a
+//! key and answers a batch of 900 requests.
 //!
 //! ```
 //! use trawlbeacon::Refusal;
@@ -40,6 +42,7 @@ pub mod raw;
 mod refusal;
 mod servers;
 mod serving;
+mod signed;
 mod signing;
 mod stamps;
 mod tally;
@@ -47,7 +50,7 @@ mod trees;
 mod verifying;
 
 pub use check::{check_response, may_use, same_delegation, Checked, Window};
-pub use gathering::{Pile, Record};
+pub use gathering::{Pile, Record, SignedPile};
 pub use packets::{
     read_request, read_response, write_request, Request, Response, LONGEST_PACKET, REQUEST_LENGTH,
 };
@@ -61,6 +64,9 @@ pub use servers::{find_server, Found, List, SERVER_LENGTH};
 pub use serving::{
     response_length, write_cert, write_dele, write_response, write_srep, Reply, CERT_LENGTH,
     DELEGATION_CONTEXT, DELE_LENGTH, RESPONSE_CONTEXT, SREP_LENGTH,
+};
+pub use signed::{
+    answers, check_signed, check_signed_report, cut_signed, cut_signed_run, judge_signed, Answers,
 };
 pub use signing::{delegation_text, response_text, signed_parts, SignedParts, LONGEST_TEXT};
 pub use stamps::{old_window, OldWindow};

@@ -8,7 +8,8 @@
 
 use core::fmt;
 
-use crate::{raw, Checked, PacketRefusal, Refusal, Window};
+use crate::check::of_judged;
+use crate::{raw, Checked, PacketRefusal, Refusal};
 
 /// Bytes of a record of a pile. Numbers in it are least significant byte first.
 ///
@@ -121,10 +122,7 @@ pub fn pile_code(pile: &[u8], answers: &[u8]) -> Result<(), Refusal> {
 pub fn judge(pile: &[u8], answers: &[u8], place: usize) -> Result<Checked, PacketRefusal> {
     let (from, told) = (pile.as_ptr(), answers.as_ptr());
     // SAFETY: see raw.
-    let judged = unsafe { raw::tb_judge(from, pile.len(), told, answers.len(), place) };
-    PacketRefusal::check(judged.code, judged.at)?;
-    let raw::tb_judged { midp, radi, low, high, mint, maxt, pubk, .. } = judged;
-    Ok(Checked { window: Window { midp, radi, low, high, mint, maxt }, pubk })
+    of_judged(unsafe { raw::tb_judge(from, pile.len(), told, answers.len(), place) })
 }
 
 /// Whether the record at `place` is linked: the NONC of its request is H(whole response packet of
@@ -180,7 +178,11 @@ pub fn contradicts(earlier: (u64, u32), later: (u64, u32)) -> bool {
 pub fn check_report(pile: &[u8], answers: &[u8]) -> Result<Pair, ReportRefusal> {
     let (from, told) = (pile.as_ptr(), answers.as_ptr());
     // SAFETY: see raw.
-    let checked = unsafe { raw::tb_check_report(from, pile.len(), told, answers.len()) };
+    of_reported(unsafe { raw::tb_check_report(from, pile.len(), told, answers.len()) })
+}
+
+/// What the library answered about a report, as a result.
+pub(crate) fn of_reported(checked: raw::tb_reported) -> Result<Pair, ReportRefusal> {
     match PacketRefusal::check(checked.code, checked.at) {
         Ok(()) => Ok(Pair { first: checked.first as usize, second: checked.second as usize }),
         Err(PacketRefusal { refusal, at }) => {
@@ -208,17 +210,28 @@ pub fn check_report(pile: &[u8], answers: &[u8]) -> Result<Pair, ReportRefusal> 
 pub fn cut_run(pile: &[u8], answers: &[u8], out: &mut [u8]) -> Result<Run, Refusal> {
     let (from, told, to) = (pile.as_ptr(), answers.as_ptr(), out.as_mut_ptr());
     // SAFETY: see raw.
-    let cut = unsafe { raw::tb_cut_run(from, pile.len(), told, answers.len(), to, out.len()) };
+    of_cut(unsafe { raw::tb_cut_run(from, pile.len(), told, answers.len(), to, out.len()) })
+}
+
+/// What the library answered about a run, as a result.
+pub(crate) fn of_cut(cut: raw::tb_cut) -> Result<Run, Refusal> {
     Refusal::check(cut.code)?;
     Ok(Run { first: cut.first as usize, last: cut.last as usize })
 }
 
 /// What [`cut_run`] does, without a buffer that is lent. The refusals are 15 and 18.
 pub fn cut(pile: &[u8], answers: &[u8]) -> Result<Cut, Refusal> {
-    // No room is taken for bytes that are no pile.
-    pile_code(pile, answers)?;
-    let mut bytes = vec![0; pile.len()];
-    let run = cut_run(pile, answers, &mut bytes)?;
+    own_cut(pile, |out| cut_run(pile, answers, out))
+}
+
+/// Cuts into a buffer of our own, which has no more room than the longest pile needs: what is longer
+/// is refused with 15, which comes before 19.
+pub(crate) fn own_cut(
+    pile: &[u8],
+    cut: impl FnOnce(&mut [u8]) -> Result<Run, Refusal>,
+) -> Result<Cut, Refusal> {
+    let mut bytes = vec![0; pile.len().min(MOST_RECORDS * RECORD_LENGTH)];
+    let run = cut(&mut bytes)?;
     bytes.truncate(run.records() * RECORD_LENGTH);
     Ok(Cut { run, bytes })
 }

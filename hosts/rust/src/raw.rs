@@ -97,7 +97,7 @@ pub struct tb_parts {
     pub pubk: [u8; 32],
 }
 
-/// What [`tb_check_response`] answers.
+/// What [`tb_check_response`] and [`tb_check_signed`] answer.
 #[repr(C)]
 #[derive(Clone, Copy, Debug, PartialEq, Eq)]
 pub struct tb_verdict {
@@ -365,6 +365,16 @@ extern "C" {
         delegation: u32,
         signature: u32,
     ) -> tb_verdict;
+    /// Whether the two signatures of a response verify: the delegation's, then the response's own.
+    pub fn tb_answers(key: &[u8; 32], response: *const u8, response_len: usize, out: &mut [u8; 2]);
+    /// Checks a response, and verifies its signatures.
+    pub fn tb_check_signed(
+        key: &[u8; 32],
+        request: *const u8,
+        request_len: usize,
+        response: *const u8,
+        response_len: usize,
+    ) -> tb_verdict;
     /// Whether the window of an answer may still be used at a time.
     pub fn tb_may_use(code: u32, maxt: u64, time: u64) -> bool;
     /// Whether two answers come from one delegation.
@@ -464,6 +474,17 @@ extern "C" {
         pile_len: usize,
         answers: *const u8,
         answers_len: usize,
+        out: *mut u8,
+        out_len: usize,
+    ) -> tb_cut;
+    /// Judges a record of a pile by its own signatures.
+    pub fn tb_judge_signed(pile: *const u8, pile_len: usize, place: usize) -> tb_judged;
+    /// Checks whether a pile is a report by its own signatures.
+    pub fn tb_check_signed_report(pile: *const u8, pile_len: usize) -> tb_reported;
+    /// Writes the run of a pile that convicts by its own signatures.
+    pub fn tb_cut_signed_run(
+        pile: *const u8,
+        pile_len: usize,
         out: *mut u8,
         out_len: usize,
     ) -> tb_cut;

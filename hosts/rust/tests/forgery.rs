@@ -3,7 +3,8 @@
 //! He deceives a host that looks for a key, a signature or a text at the place in the packet where
 //! it stands in an ordinary response: a packet may have tags that nobody knows, and a path may have
 //! any siblings, so that he moves what is read by its tag and puts what he likes where it stood.
-//! The same host is not deceived where it verifies what the library hands out.
+//! The same host is not deceived where it verifies what the library hands out, or leaves that to the
+//! library.
 
 mod openssl;
 
@@ -62,6 +63,11 @@ fn told(
 ) -> Result<Window, Refusal> {
     let (delegation, signature) = answer(&asked.key, packet);
     Ok(trawlbeacon::check_response(&asked.request, packet, delegation, signature)?.window)
+}
+
+/// What a host is told that leaves both questions to the library.
+fn by_itself(asked: &Asked, packet: &[u8]) -> Result<Window, Refusal> {
+    Ok(trawlbeacon::check_signed(&asked.key, &asked.request, packet)?.window)
 }
 
 /// A host asks the server with this key.
@@ -159,6 +165,7 @@ fn all_hosts_agree_on_an_ordinary_response() {
     let windows = [by_the_parts, parts_at_fixed_places, all_at_fixed_places]
         .map(|answer| told(answer, &asked, &response).map(|window| window.midp));
     assert_eq!(windows, [Ok(1_773_685_571); 3]);
+    assert_eq!(by_itself(&asked, &response).map(|window| window.midp), windows[0]);
 }
 
 #[test]
@@ -175,6 +182,7 @@ fn a_hidden_key_deceives_who_reads_keys_and_signatures_at_fixed_places() {
     assert_eq!(told(parts_at_fixed_places, &asked, &forged), Ok(window));
     assert_eq!(by_the_parts(&seen.key, &forged), (true, false));
     assert_eq!(told(by_the_parts, &asked, &forged), Err(Refusal::Signature));
+    assert_eq!(by_itself(&asked, &forged), Err(Refusal::Signature));
     println!("a forged time that passes with parts at fixed places: refused with 13 by the parts");
 }
 
@@ -190,6 +198,7 @@ fn a_hidden_response_deceives_who_reads_texts_at_fixed_places() {
         assert_eq!(told(all_at_fixed_places, &asked, &forged), Ok(window));
         assert_eq!(by_the_parts(&seen.key, &forged), (false, false));
         assert_eq!(told(by_the_parts, &asked, &forged), Err(Refusal::Delegation));
+        assert_eq!(by_itself(&asked, &forged), Err(Refusal::Delegation));
     }
     println!("4 forged times that pass with texts at fixed places: refused with 12 by the parts");
 }

@@ -7,9 +7,12 @@ mod support;
 
 use independent::ed25519::Ed25519;
 use independent::edwards::Undecoded;
-use openssl::verifies;
+use openssl::{by_the_parts, verifies};
+use support::pairs::Pair;
 use support::signed::{self, Case, Maker, DAMAGES};
+use support::signing::{Servers, FORGERIES};
 use support::Xorshift;
+use trawlbeacon::Answers;
 
 /// How many signatures are made, each asked of as it is and damaged in one way.
 const SIGNATURES: usize = 4_000;
@@ -76,4 +79,33 @@ fn openssl_agrees_but_on_keys_that_rfc_8032_refuses() {
          with the sign 1",
         key_past_p + key_minus_zero,
     );
+}
+
+/// Responses that are signed by a server, or forged in each way: the library's own two answers are
+/// those of a host that asks OpenSSL, and so is what the check says that verifies by itself.
+#[test]
+fn a_host_with_openssl_says_what_the_library_says_by_itself() {
+    let mut random = Xorshift::new(0x5eed_0822);
+    let servers = Servers::new(&mut random, 6);
+    let mut compared = 0;
+    for turn in 0..16 * FORGERIES.len() {
+        let depth = random.below(33);
+        let mut pair = Pair::random(&mut random, depth);
+        let forgery = Some(FORGERIES[turn % FORGERIES.len()]);
+        let forged = random.pick(&[[None, None], [forgery, None], [None, forgery]]);
+        let key = servers.sign_as(&mut random, &mut pair, forged).key;
+        let asked = pair.question();
+        let (delegation, signature) = by_the_parts(&key, &asked.response);
+        assert_eq!([delegation, signature], forged.map(|forged| forged.is_none()), "{forged:?}");
+        let answers = trawlbeacon::answers(&key, &asked.response);
+        assert_eq!(answers, Answers { delegation, signature }, "{forged:?}");
+        let (request, response) = (&asked.request, &asked.response);
+        assert_eq!(
+            trawlbeacon::check_signed(&key, request, response),
+            trawlbeacon::check_response(request, response, delegation, signature),
+            "{forged:?}"
+        );
+        compared += 1;
+    }
+    println!("{compared} responses, signed or forged: ours by itself compared with OpenSSL");
 }

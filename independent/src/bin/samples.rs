@@ -1,20 +1,19 @@
 //! `samples DIR` writes piles and their answers into DIR, the same in every run: NAME.pile and
-//! NAME.answers, for the programs that print a verdict to be tried with. It prints the names of the
-//! files, a pair a line.
+//! NAME.answers, for the programs that print a verdict to be tried with, and piles alone whose
+//! signatures are real. It prints the names of the files, a pair or a pile a line.
 
 use independent::appendix;
+use independent::ed25519::Ed25519;
 use independent::making::{self, pile_of, pile_within, Link, Made};
-use independent::pieces::put;
+use independent::pieces::{put, Pieces};
 use independent::pile::RECORD;
+use independent::signing::{self, Keys};
 use independent::tag::{MAXT, NONC, ROOT, SIG, TYPE};
 use std::path::Path;
 use std::{env, fs, io, process};
 
-/// A record that is refused with this code, and the answers about it. It comes after no other.
-fn refused(code: u8) -> Made {
-    let link = Link::new(code, 1000, 5);
-    let mut request = link.request(&[]);
-    let mut pieces = link.response(&request, &[]);
+/// Changes what a response says so that it is refused with this code, where that is its own fault.
+fn spoil_pieces(code: u8, pieces: &mut Pieces) {
     match code {
         5 => pieces.outer.swap(0, 1),
         6 => pieces.outer.retain(|pair| pair.0 != SIG),
@@ -23,10 +22,12 @@ fn refused(code: u8) -> Made {
         9 => put(&mut pieces.outer, NONC, &[0; 32]),
         10 => put(&mut pieces.srep, ROOT, &[0; 32]),
         11 => put(&mut pieces.dele, MAXT, &999u64.to_le_bytes()),
-        14 => request[0] ^= 1,
         _ => (),
     }
-    let mut response = pieces.packet();
+}
+
+/// The same, where it is the fault of its bytes.
+fn spoil_response(code: u8, response: &mut Vec<u8>) {
     match code {
         1 => response.truncate(8),
         2 => response[0] ^= 1,
@@ -35,6 +36,19 @@ fn refused(code: u8) -> Made {
         4 => response[12] = 0,
         _ => (),
     }
+}
+
+/// A record that is refused with this code, and the answers about it. It comes after no other.
+fn refused(code: u8) -> Made {
+    let link = Link::new(code, 1000, 5);
+    let mut request = link.request(&[]);
+    let mut pieces = link.response(&request, &[]);
+    spoil_pieces(code, &mut pieces);
+    if code == 14 {
+        request[0] ^= 1;
+    }
+    let mut response = pieces.packet();
+    spoil_response(code, &mut response);
     let mut pile = making::record(&link.key, &link.rand, &request, &response);
     if code == 16 {
         pile[RECORD - 1] = 1;
@@ -110,6 +124,98 @@ fn delegations() -> Made {
     making::chain(&links.collect::<Vec<_>>())
 }
 
+/// Servers that sign, each with keys of its own.
+struct Signers {
+    ed25519: Ed25519,
+    servers: Vec<Keys>,
+}
+
+impl Signers {
+    fn new() -> Self {
+        let ed25519 = Ed25519::new();
+        let servers = (1..=3).map(|seed| Keys::new(&ed25519, [seed; 32], [0x40 + seed; 32]));
+        Signers { servers: servers.collect(), ed25519 }
+    }
+
+    /// The servers take turns.
+    fn server(&self, place: usize) -> &Keys {
+        &self.servers[place % self.servers.len()]
+    }
+
+    /// The pile of these midpoints and radii, all valid by their signatures, linked, and the first
+    /// rand zero.
+    fn pile(&self, windows: &[(u64, u32)]) -> Vec<u8> {
+        let link = |(i, (midp, radi)): (usize, &(u64, u32))| Link {
+            mint: 900,
+            maxt: 2000,
+            ..Link::new(i as u8, *midp, *radi)
+        };
+        let links: Vec<Link> = windows.iter().enumerate().map(link).collect();
+        signing::chain(&self.ed25519, &links, |place| self.server(place))
+    }
+
+    /// Four records, of which the two in the middle contradict each other.
+    fn middle(&self) -> Vec<u8> {
+        self.pile(&[(1000, 10), (1500, 10), (1400, 10), (1405, 10)])
+    }
+
+    /// The same with one of them forged. The record behind it is linked to what it was, so that it
+    /// is not linked any more where its response is another.
+    fn forged(&self, place: usize, forge: impl Fn(&Self, &mut [u8])) -> Vec<u8> {
+        let mut pile = self.middle();
+        forge(self, &mut pile[place * RECORD..(place + 1) * RECORD]);
+        pile
+    }
+
+    /// A record that is refused with this code, with real signatures but for 12 and 13, and a good
+    /// one for 15. It comes after no other.
+    fn refused(&self, code: u8) -> Vec<u8> {
+        let keys = self.server(usize::from(code));
+        let key = keys.long_term.public;
+        let link = Link { key, ..Link::new(code, 1000, 5) };
+        let mut request = link.request(&[]);
+        let mut pieces = link.response(&request, &[]);
+        spoil_pieces(code, &mut pieces);
+        keys.sign(&self.ed25519, &mut pieces);
+        match code {
+            7 => put(&mut pieces.outer, SIG, &[0; 60]),
+            12 => put(&mut pieces.cert, SIG, &[0x33; 64]),
+            13 => put(&mut pieces.outer, SIG, &[0x33; 64]),
+            14 => request[0] ^= 1,
+            _ => (),
+        }
+        let mut response = pieces.packet();
+        spoil_response(code, &mut response);
+        let mut record = making::record(&key, &link.rand, &request, &response);
+        if code == 16 {
+            record[RECORD - 1] = 1;
+        }
+        record
+    }
+}
+
+/// Where things stand in a record whose response has no tag but those that it needs, and no
+/// siblings.
+mod at {
+    pub const SIG: usize = 2096 + 68;
+    pub const CERT_SIG: usize = 2096 + 276;
+}
+
+/// Piles that are judged by their own signatures.
+fn signed_samples() -> Vec<(&'static str, Vec<u8>)> {
+    let signers = Signers::new();
+    let key = signers.server(0).long_term.public;
+    vec![
+        ("signed2", signers.pile(&[(1000, 5), (990, 4)])),
+        ("signed4", signers.middle()),
+        ("forged-response", signers.forged(2, |_, record| record[at::SIG] ^= 1)),
+        ("forged-delegation", signers.forged(1, |_, record| record[at::CERT_SIG] ^= 1)),
+        ("other-server", signers.forged(2, |_, record| record[..32].copy_from_slice(&key))),
+        ("signed-norun", signers.pile(&[(1000, 5), (1010, 5), (1020, 5)])),
+        ("signed-codes", (1..=16).flat_map(|code| signers.refused(code)).collect()),
+    ]
+}
+
 /// Two records that contradict each other, with one between them that was not linked.
 fn unlinked() -> Made {
     let mut made = pile_of(&[(100, 1), (95, 20), (80, 1)]);
@@ -147,6 +253,10 @@ fn write(folder: &Path) -> io::Result<()> {
         fs::write(folder.join(format!("{name}.pile")), pile)?;
         fs::write(folder.join(format!("{name}.answers")), answers)?;
         println!("{name}.pile {name}.answers");
+    }
+    for (name, pile) in signed_samples() {
+        fs::write(folder.join(format!("{name}.pile")), pile)?;
+        println!("{name}.pile");
     }
     Ok(())
 }

@@ -6,12 +6,15 @@
 
 pub mod answers;
 pub mod damage;
+pub mod due;
 pub mod packets;
 pub mod pairs;
 pub mod pile_answers;
 pub mod piles;
 pub mod replies;
 pub mod signed;
+pub mod signed_answers;
+pub mod signing;
 pub mod tally;
 pub mod trees;
 

@@ -196,6 +196,20 @@ impl Said for Checked {
     }
 }
 
+/// Every field of what C is answered: all but the code and the byte is 0 where a call is refused.
+pub fn whole(told: &Result<Checked, Bad>) -> raw::tb_verdict {
+    match *told {
+        Ok(Checked { window: Window { midp, radi, low, high, mint, maxt }, pubk }) => {
+            raw::tb_verdict { code: 0, radi, at: 0, midp, low, high, mint, maxt, pubk }
+        }
+        Err(Bad { code, at }) => {
+            let (at, pubk) = (at.unwrap_or(0) as u64, [0; 32]);
+            let [midp, low, high, mint, maxt] = [0; 5];
+            raw::tb_verdict { code, radi: 0, at, midp, low, high, mint, maxt, pubk }
+        }
+    }
+}
+
 /// The independent side's answer, as ours has it.
 pub fn same_checked(check::Valid { window, pubk }: check::Valid) -> Checked {
     let check::Window { midp, radi, low, high, mint, maxt } = window;
@@ -227,17 +241,7 @@ impl Question {
         // SAFETY: the library only reads both packets.
         let verdict =
             unsafe { raw::tb_check_response(start, n, start_too, m, delegation, signature) };
-        let due = match *ours {
-            Ok(Checked { window: Window { midp, radi, low, high, mint, maxt }, pubk }) => {
-                raw::tb_verdict { code: 0, radi, at: 0, midp, low, high, mint, maxt, pubk }
-            }
-            Err(Bad { code, at }) => {
-                let (at, pubk) = (at.unwrap_or(0) as u64, [0; 32]);
-                let [midp, low, high, mint, maxt] = [0; 5];
-                raw::tb_verdict { code, radi: 0, at, midp, low, high, mint, maxt, pubk }
-            }
-        };
-        (verdict != due).then(|| format!("tb_check_response answered {verdict:?}"))
+        (verdict != whole(ours)).then(|| format!("tb_check_response answered {verdict:?}"))
     }
 
     pub fn show(&self) -> String {

@@ -3,6 +3,7 @@
 use super::answers::{self, placed, Answer, Bad, Both, Said, Written};
 use super::pairs::same_checked;
 use independent::check;
+use independent::pile::Judge;
 use independent::place::Place;
 use independent::refusal::Refusal;
 use independent::{pairs, pile, report};

@@ -4,9 +4,10 @@
 //! before it, broken as wished, and laid into its bytes. No reader's help is needed to know what it
 //! must be refused with.
 
-use super::damage;
+use super::damage::{self, Damaged};
 use super::packets::{RequestFields, ResponseFields};
 use super::pairs::{Pair, Question};
+use super::signing::Servers;
 use super::Xorshift;
 use independent::hash::{self, Hash};
 use independent::making::{self, Made};
@@ -56,6 +57,8 @@ pub struct Wish {
     /// Rules of the response check that are broken, named by their codes and rising.
     pub rules: Vec<u32>,
     pub bad_response: bool,
+    /// The code that the damage to the response is to lead to, where it is not to be any.
+    pub damage: Option<u32>,
     pub bad_request: bool,
     pub bad_layout: bool,
 }
@@ -71,8 +74,19 @@ impl Wish {
             tie: Tie::Linked,
             rules: vec![],
             bad_response: false,
+            damage: None,
             bad_request: false,
             bad_layout: false,
+        }
+    }
+
+    /// Wishes for the fault that a record is refused with this code for.
+    pub fn fault(&mut self, code: u32) {
+        match code {
+            16 => self.bad_layout = true,
+            14 => self.bad_request = true,
+            1..=7 => (self.bad_response, self.damage) = (true, Some(code)),
+            _ => self.rules.push(code),
         }
     }
 
@@ -161,35 +175,59 @@ const REQUEST: usize = 0;
 const RESPONSE: usize = 1;
 
 /// A pile in the making.
-pub struct Builder {
+pub struct Builder<'a> {
     pub made: Made,
     pub truth: Truth,
     /// The response of the last record, where its length is not too large.
     before: Option<Vec<u8>>,
+    /// Who signs, where anybody does.
+    servers: Option<&'a Servers>,
 }
 
 /// The pile of these records, the first with a rand of zeros or any other.
 pub fn build(random: &mut Xorshift, wishes: &[Wish], first_rand_zero: bool) -> (Made, Truth) {
+    build_by(random, wishes, first_rand_zero, None)
+}
+
+/// The same, with every response signed by these servers, or forged where the answer about a
+/// signature is to be a no. The answers beside the pile are what its signatures must be found to be,
+/// where no response is damaged.
+pub fn build_signed(
+    random: &mut Xorshift,
+    wishes: &[Wish],
+    first_rand_zero: bool,
+    servers: &Servers,
+) -> (Made, Truth) {
+    build_by(random, wishes, first_rand_zero, Some(servers))
+}
+
+fn build_by(
+    random: &mut Xorshift,
+    wishes: &[Wish],
+    first_rand_zero: bool,
+    servers: Option<&Servers>,
+) -> (Made, Truth) {
     let made = Made { pile: vec![], answers: vec![] };
     let truth = Truth { first_rand_zero, ..Truth::default() };
-    let mut builder = Builder { made, truth, before: None };
+    let mut builder = Builder { made, truth, before: None, servers };
     for wish in wishes {
         builder.add(random, wish);
     }
     (builder.made, builder.truth)
 }
 
-impl Builder {
+impl Builder<'_> {
     fn add(&mut self, random: &mut Xorshift, wish: &Wish) {
         let first = self.truth.verdicts.is_empty();
         let mut rand = if first && self.truth.first_rand_zero { [0; 32] } else { random.array() };
         let tie = if first { Tie::OtherNonce } else { wish.tie };
         let nonce = nonce(random, tie, self.before.as_deref().unwrap_or(&[]), &mut rand);
-        let pair = pair(random, wish, nonce);
+        let mut pair = pair(random, wish, nonce);
+        let key = self.servers.map(|servers| servers.sign(random, &mut pair).key);
         let mut due = wrong_versions(&pair).or(wish.rules.first().copied());
         let Question { mut request, mut response, delegation, signature } = pair.question();
         if wish.bad_response {
-            let damaged = damage::bad_response(random, &pair.response);
+            let damaged = damaged(random, wish, &pair.response);
             response = damaged.packet;
             due = damage::first(&damaged.done).map(|done| done.1).or(due);
         }
@@ -197,7 +235,7 @@ impl Builder {
             request = damage::bad_request(random, &pair.request);
             due = Some(14);
         }
-        let mut record = lay(random, &rand, [&request, &response]);
+        let mut record = lay(random, key, &rand, [&request, &response]);
         if wish.bad_layout {
             spoil_layout(random, &mut record);
         }
@@ -214,6 +252,16 @@ impl Builder {
         self.truth.linked.push(linked);
         self.made.pile.extend(record);
         self.made.answers.extend([u8::from(delegation), u8::from(signature)]);
+    }
+}
+
+/// The response with damage of any kind, or of the one that is wished for.
+fn damaged(random: &mut Xorshift, wish: &Wish, response: &ResponseFields) -> Damaged {
+    loop {
+        let damaged = damage::bad_response(random, response);
+        if wish.damage.map_or(true, |code| damage::first_code(&damaged.done) == code) {
+            return damaged;
+        }
     }
 }
 
@@ -299,11 +347,12 @@ fn plain(random: &mut Xorshift, depth: usize) -> Pair {
     Pair { request, response, delegation: true, signature: true }
 }
 
-/// The bytes of a record. A packet that is too long for its area is cut off there, and its length
+/// The bytes of a record, with any key where none is given. A packet that is too long for its area is cut off there, and its length
 /// is told as it is.
-fn lay(random: &mut Xorshift, rand: &Hash, packets: [&[u8]; 2]) -> Vec<u8> {
+fn lay(random: &mut Xorshift, key: Option<[u8; 32]>, rand: &Hash, packets: [&[u8]; 2]) -> Vec<u8> {
+    let key = key.unwrap_or_else(|| random.array());
     let [request, response] = packets.map(|packet| &packet[..packet.len().min(packet::MOST)]);
-    let mut record = making::record(&random.array(), rand, request, response);
+    let mut record = making::record(&key, rand, request, response);
     for (packet, at) in packets.iter().zip(LENGTHS_AT) {
         set_length(&mut record, at, packet.len());
     }

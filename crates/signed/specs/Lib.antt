@@ -1,0 +1,6 @@
+-- The checks that need no answers: what a reader must believe is Answers, beside what the checks with lent answers say.
+-- Meaning is document 01's sentences with "verifies under the key" for a yes. Facts is what private functions promise
+-- each other; nothing public is stated by it.
+pub mod Answers
+pub mod Meaning
+pub mod Facts
