@@ -15,13 +15,14 @@
  * nothing, and keep no pointer and no state of their own; an answer is a value of its own. Inputs
  * may overlap each other, but not such a state.
  *
- * The functions of hashes write the whole of out, and they and those that answer with a bool cannot
- * fail, but for tb_sha512_take. That one and every other take any bytes and answer with a code: 0
- * where it passed, or else the first that applies of those that it names, in the order in which it
- * names them. Of a response, 4 to 7 are judged for its outermost message, then SREP, then CERT,
- * then DELE, and 8 comes after them all. A RADI of 0 is a 7 of SREP. 8 is given where TYPE or
- * SREP's VER is not 1, or VERS lacks SREP's VER; where a request is lent, also where its VER lacks
- * SREP's VER, or some version that is larger than SREP's VER stands in both its VER and VERS.
+ * The functions of hashes and tb_answers write the whole of out, and they and those that answer
+ * with a bool cannot fail, but for tb_sha512_take. That one and every other take any bytes and
+ * answer with a code: 0 where it passed, or else the first that applies of those that it names, in
+ * the order in which it names them. Of a response, 4 to 7 are judged for its outermost message,
+ * then SREP, then CERT, then DELE, and 8 comes after them all. A RADI of 0 is a 7 of SREP. 8 is
+ * given where TYPE or SREP's VER is not 1, or VERS lacks SREP's VER; where a request is lent, also
+ * where its VER lacks SREP's VER, or some version that is larger than SREP's VER stands in both its
+ * VER and VERS.
  *
  * The codes 4 to 7 come with at, the byte of the packet at which it is bad, counted from the
  * packet's first byte; beside any other code, 14 too, at is 0 and means nothing. Where a response
@@ -338,17 +339,18 @@ struct tb_wrote tb_write_request(const uint8_t key[32], const uint8_t nonce[32],
 
 /* ---- Signatures ----
  *
- * The functions with "signed" in their names, tb_check_signed, tb_judge_signed,
- * tb_check_signed_report and tb_cut_signed_run, verify signatures by themselves. Those without
- * verify none: the caller asks whether both verify, of tb_answers, of tb_verify or of an Ed25519 of
- * its own, and says there what came out. All questions go by what the library hands out, and
- * nothing is to be read from the packet by the caller's own code: one that reads a key or a
- * signature at the place where it usually stands can be made to accept a forged time. */
+ * Four checks verify signatures by themselves: tb_check_signed, tb_judge_signed,
+ * tb_check_signed_report and tb_cut_signed_run. Those that take answers, tb_check_response,
+ * tb_judge, tb_check_report, tb_cut_run and tb_pile_contradicts, verify none: the caller asks
+ * whether both verify, of tb_answers, of tb_verify or of an Ed25519 of its own, and says there what
+ * came out. All questions go by what the library hands out, and nothing is to be read from the
+ * packet by the caller's own code: one that reads a key or a signature at the place where it
+ * usually stands can be made to accept a forged time. */
 
-/* Whether the signature of the text verifies under the key: Ed25519 of RFC 8032, 5.1.7, with S below
- * the group order and the group equation without the cofactor. Any lengths are taken: a key that is
- * not 32 bytes, or a signature that is not 64, is a no. It is not of one time for all inputs, and is
- * given nothing that is secret. */
+/* Whether the signature of the text verifies under the key: Ed25519 of RFC 8032, 5.1.7, with S
+ * below the group order and the group equation without the cofactor. Any lengths are taken: a key
+ * that is not 32 bytes, or a signature that is not 64, is a no. It is not of one time for all
+ * inputs, and is given nothing that is secret. */
 bool tb_verify(const uint8_t *key, size_t key_len, const uint8_t *text, size_t text_len,
                const uint8_t *signature, size_t signature_len);
 
@@ -414,9 +416,9 @@ void tb_answers(const uint8_t key[32], const uint8_t *response, size_t response_
                 uint8_t out[2]);
 
 /* Checks a response against the request that it answers, and its signatures under the server's
- * long-term key: what tb_check_response says with what tb_answers says. Signatures are verified
- * last, and only where no other code applies; the response's only where the delegation's
- * verifies. */
+ * long-term key: what tb_check_response says with what tb_answers says. The codes are 14 and 1 to
+ * 13. Signatures are verified last, and only where no other code applies; the response's only where
+ * the delegation's verifies. */
 struct tb_verdict tb_check_signed(const uint8_t key[32], const uint8_t *request, size_t request_len,
                                   const uint8_t *response, size_t response_len);
 
