@@ -199,7 +199,7 @@ static inline const char *tb_code_text(uint32_t code) {
 
 /* Bytes of stack that are enough for a verification, which has a table of 10,240 numbers there, and
  * for every function that verifies by itself. A verification takes 48,744 at the most, measured on
- * aarch64, and 48,864 on x86-64, where tb_cut_signed_run takes the most of all, 53,200.
+ * aarch64, and 48,864 on x86-64, where tb_cut_signed_run takes the most of all, 52,128.
  * hosts/c/stack.c measures them anew. */
 #define TB_VERIFY_STACK 65536
 
