@@ -107,6 +107,11 @@ enum tb_code {
     TB_UNKNOWN_SERVER = 22,
     /* the response would be longer than the request that it answers */
     TB_RESPONSE_LENGTH = 23,
+    /* the text is no report: not JSON, too deep, bad base64, or a member missing, repeated or
+     * wrong */
+    TB_REPORT_TEXT = 24,
+    /* the text has no entry, over 16 entries, or a packet above 2,000 bytes */
+    TB_ENTRIES = 25,
     /* an old stamp's date is under 40587, or its microseconds are 86,401,000,000 or more */
     TB_OLD_STAMP = 29,
     /* the pieces of a message come to more than 2^64 - 1 bytes */
@@ -165,6 +170,11 @@ static inline const char *tb_code_text(uint32_t code) {
         return "no list has the server";
     case TB_RESPONSE_LENGTH:
         return "the response would be longer than the request that it answers";
+    case TB_REPORT_TEXT:
+        return "the text is no report: not JSON, too deep, bad base64, or a member missing, "
+               "repeated or wrong";
+    case TB_ENTRIES:
+        return "the text has no entry, over 16 entries, or a packet above 2,000 bytes";
     case TB_OLD_STAMP:
         return "an old stamp's date is under 40587, or its microseconds are 86,401,000,000 or more";
     case TB_PIECES:
