@@ -23,7 +23,12 @@ recordAt pile k = take 4096 (drop (4096 * k) pile)
 
 -- ---- a record r
 
--- rand 32-63; the key, 0-31, is for the host, who checks the signatures: nothing here reads it
+-- key 0-31, the server's long-term key: no check here reads it, since signatures come as answers; those that verify
+-- them by themselves do (request P11)
+abbrev pub keyIn : List ℕ → List ℕ
+keyIn r = part 0 32 r
+
+-- rand 32-63
 abbrev pub randIn : List ℕ → List ℕ
 randIn r = part 32 64 r
 

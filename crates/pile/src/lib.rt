@@ -1,19 +1,25 @@
 // Piles (document 01, "Piles and reports"): records of 4,096 bytes, what each of them says, and whether it is linked to
 // the one before.
 // `pile_code`, `judge`, `linked` and `first_rand_zero` take any bytes and any place.
-// `verdict_at` is for the crate above, which has asked whether the pile is good.
+// `verdict_at` and the parts of a record are for the crates above, which have asked whether the pile is good.
 mod damage;
 mod judging;
 mod linking;
 mod piles;
 mod records;
 
+pub use damage::record_bad;
 pub use judging::judge;
 pub use judging::verdict_at;
 pub use linking::first_rand_zero;
 pub use linking::linked;
+pub use piles::length_bad;
 pub use piles::pile_code;
 pub use records::RECORD;
+pub use records::record_at;
+pub use records::request_of;
+pub use records::response_area;
+pub use records::response_of;
 use verdict::Verdict;
 
 // What is said of one record: its place, from 0, its window or its refusal, and the delegated key, 32 zero bytes on a

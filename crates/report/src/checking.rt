@@ -33,7 +33,7 @@ pub fn check_report<'a>(pile: &'a [u8], answers: &'a [u8]) -> Report
 
 // The same of n records of which the verdicts and flags are known. Where no record is refused and no flag is missing,
 // the two ends of the shortest run are the pair.
-fn said_of(verdicts: [Verdict; 16], flags: [bool; 16], n: usize) -> Report
+pub fn said_of(verdicts: [Verdict; 16], flags: [bool; 16], n: usize) -> Report
     requires { ⌜ n ≤ 16 ⌝ }
     ensures { λ r. ⌜ Says (verdictIn verdicts) (flagIn flags) n r ⌝ }
 {

@@ -41,7 +41,7 @@ pub fn cut_run<'a>(pile: &'a [u8], answers: &'a [u8], out: &mut [u8]) -> Taken
 }
 
 // The shortest run. The first flag, which is about the first rand, plays no part in it.
-fn run_in<'a>(pile: &'a [u8], answers: &'a [u8]) -> Span
+pub fn run_in<'a>(pile: &'a [u8], answers: &'a [u8]) -> Span
     requires { ⌜ GoodPile (now pile) (now answers) ⌝ }
     ensures { λ r. ⌜ Answers (ConvictsIn (now (pile .entry)) (now (answers .entry))) r ⌝ }
 {
@@ -52,7 +52,7 @@ fn run_in<'a>(pile: &'a [u8], answers: &'a [u8]) -> Span
 }
 
 // Records i to j at the front of out, the first one's rand set to zero.
-fn put_run(pile: &[u8], i: usize, j: usize, out: &mut [u8])
+pub fn put_run(pile: &[u8], i: usize, j: usize, out: &mut [u8])
     requires { ⌜ (i ≤ j) × (4096 * j + 4096 ≤ length (now pile)) × (length (now pile) ≤ length (now out)) ⌝ }
     ensures { λ _. ⌜
         Puts (now (out .entry)) 0 (runBytes i j (now (pile .entry))) (now (out .exit)) (4096 * j + 4096 - 4096 * i)

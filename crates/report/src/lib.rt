@@ -1,12 +1,17 @@
 // Reports and the cutter (document 01, "Piles and reports"): whether a pile is a report, and the shortest run of a pile
-// that convicts by itself. Both take any bytes.
+// that convicts by itself. Both take any bytes. What else is public is for the crates above, which have asked whether
+// the pile is good.
 mod checking;
 mod cutting;
 mod gathering;
 mod scanning;
 
 pub use checking::check_report;
+pub use checking::said_of;
 pub use cutting::cut_run;
+pub use cutting::put_run;
+pub use cutting::run_in;
+pub use gathering::flags_of;
 pub use gathering::verdicts_of;
 use refusal::Refusal;
 
