@@ -51,7 +51,7 @@ extern "C" {
 
 /* The version of this header: a change of the first number breaks callers. */
 #define TB_VERSION_MAJOR 0
-#define TB_VERSION_MINOR 12
+#define TB_VERSION_MINOR 13
 
 /* ---- Codes ---- */
 
@@ -346,11 +346,12 @@ struct tb_wrote tb_write_request(const uint8_t key[32], const uint8_t nonce[32],
 
 /* ---- Signatures ----
  *
- * tb_check_response verifies no signature by itself: the caller asks whether both verify, of
- * tb_verify or of an Ed25519 of its own, and says there what came out. Both questions go by what
- * the library hands out, and nothing is to be read from the packet by the caller's own code: one
- * that reads a key or a signature at the place where it usually stands can be made to accept a
- * forged time. */
+ * The functions with "signed" in their names, tb_check_signed, tb_judge_signed,
+ * tb_check_signed_report and tb_cut_signed_run, verify signatures by themselves. Those without
+ * verify none: the caller asks whether both verify, of tb_answers, of tb_verify or of an Ed25519 of
+ * its own, and says there what came out. All questions go by what the library hands out, and
+ * nothing is to be read from the packet by the caller's own code: one that reads a key or a
+ * signature at the place where it usually stands can be made to accept a forged time. */
 
 /* Whether the signature of the text verifies under the key: Ed25519 of RFC 8032, 5.1.7, with S below
  * the group order and the group equation without the cofactor. Any lengths are taken: a key that is
@@ -412,6 +413,20 @@ struct tb_verdict {
 struct tb_verdict tb_check_response(const uint8_t *request, size_t request_len,
                                     const uint8_t *response, size_t response_len,
                                     uint32_t delegation, uint32_t signature);
+
+/* Whether the two signatures of a response verify: out[0] is 1 where that of the delegation does
+ * under the server's long-term key, out[1] is 1 where that of the response does under its delegated
+ * key, and each is 0 where it does not. Both are 0 where one of the codes 1 to 7 applies to the
+ * response. It writes both bytes and cannot fail. */
+void tb_answers(const uint8_t key[32], const uint8_t *response, size_t response_len,
+                uint8_t out[2]);
+
+/* Checks a response against the request that it answers, and its signatures under the server's
+ * long-term key: what tb_check_response says with what tb_answers says. Signatures are verified
+ * last, and only where no other code applies; the response's only where the delegation's
+ * verifies. */
+struct tb_verdict tb_check_signed(const uint8_t key[32], const uint8_t *request, size_t request_len,
+                                  const uint8_t *response, size_t response_len);
 
 /* Whether the window of an answer that was kept may still be used at a time: code is 0, and the
  * time is not past maxt. maxt itself is the last second that counts. That the time is not before
@@ -556,8 +571,9 @@ struct tb_found tb_find_server(const uint8_t *owner, size_t owner_len, const uin
  *
  * Beside a pile come its answers, two bytes a record and in its records' order: whether the
  * delegation's signature verifies, and then whether the response's does; 1 for yes and 0 for no,
- * and no other byte. The caller finds them out: the functions below check no signature, and so
- * they do not read the key.
+ * and no other byte. The caller finds them out. The functions below that take them check no
+ * signature, and so do not read the key; those with "signed" in their names take none, and verify
+ * each record's signatures by the key that stands in it.
  *
  * A record is valid where none of 16, 14 and 1 to 13 applies to it. It is linked where the nonce of
  * its request is tb_link of the whole response packet of the record before it and its own rand. */
@@ -587,6 +603,11 @@ struct tb_judged {
  * no such record, 16, 14 and 1 to 13. */
 struct tb_judged tb_judge(const uint8_t *pile, size_t pile_len, const uint8_t *answers,
                           size_t answers_len, size_t place);
+
+/* The same with no answers lent: the signatures are verified by tb_answers of the key that stands
+ * in the record, last, and only where no other code applies. 15 is about the pile's length and the
+ * place alone. */
+struct tb_judged tb_judge_signed(const uint8_t *pile, size_t pile_len, size_t place);
 
 /* Whether the record at a place is linked to the one before it. It is not where that cannot be
  * asked: the pile is not 1 to 16 whole records, there is no such record or none before it, the
@@ -652,6 +673,9 @@ struct tb_reported {
 struct tb_reported tb_check_report(const uint8_t *pile, size_t pile_len, const uint8_t *answers,
                                    size_t answers_len);
 
+/* The same with no answers lent: each record as tb_judge_signed judges it. */
+struct tb_reported tb_check_signed_report(const uint8_t *pile, size_t pile_len);
+
 /* Which run was cut: the places in the pile of its first and last record. */
 struct tb_cut {
     uint32_t code;
@@ -667,6 +691,10 @@ struct tb_cut {
  * pile, however short the run is. The codes are 15, 19 and 18. */
 struct tb_cut tb_cut_run(const uint8_t *pile, size_t pile_len, const uint8_t *answers,
                          size_t answers_len, uint8_t *out, size_t out_len);
+
+/* The same with no answers lent: each record as tb_judge_signed judges it, so that what is written
+ * is a report by tb_check_signed_report, with nothing beside it. */
+struct tb_cut tb_cut_signed_run(const uint8_t *pile, size_t pile_len, uint8_t *out, size_t out_len);
 
 /* ---- Old captures ----
  *

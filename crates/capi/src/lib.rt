@@ -11,6 +11,7 @@ mod piling;
 mod reading;
 mod reusing;
 mod serving;
+mod signing;
 mod stamping;
 mod tallying;
 mod verifying;

@@ -6,5 +6,6 @@ pub mod Finding
 pub mod Judging
 pub mod Piling
 pub mod Reading
+pub mod Signing
 pub mod Stamping
 pub mod Writing

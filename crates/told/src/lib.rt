@@ -8,6 +8,7 @@ mod judging;
 mod numbers;
 mod piling;
 mod reading;
+mod signing;
 mod stamping;
 mod writing;
 
@@ -23,6 +24,7 @@ pub use piling::run_told;
 pub use reading::parts_told;
 pub use reading::request_told;
 pub use reading::response_told;
+pub use signing::answers_told;
 pub use stamping::old_told;
 pub use writing::wrote_told;
 

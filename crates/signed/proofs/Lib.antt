@@ -1,0 +1,4 @@
+-- Laws that belong to no one function.
+pub mod Verdicts
+pub mod Own
+pub mod Once

@@ -1,0 +1,59 @@
+-- `signed::reporting::check_signed_report` meets its contract. What is said of the arrays is said of the pile.
+use mathlib.Core.Path.{sym, _∙_}
+use mathlib.Core.Bool.{true≢false}
+use native.Mathlib.Omega.{arith}
+use Rattle.pile.specs.Meaning.{WholePile}
+use Rattle.pile.specs.Pile.{recordsIn}
+use Rattle.pile.proofs.Exactly.{whole-exactly}
+use Rattle.pile.proofs.Wholes.{whole}
+use Rattle.report.specs.Report.{judged, joined}
+use Rattle.report.specs.declared.Report.the-variants.{Bad}
+use Rattle.report.proofs.ReportNumbers.{both-clauses}
+use Rattle.report.proofs.SameArrays.{says-moved}
+use Rattle.report.proofs.Says.{good-says}
+use Rattle.runs.specs.Convict.{verdictIn, flagIn}
+use Rattle.signed.specs.Answers.{ownAnswers}
+use Rattle.signed.proofs.Own.{own-good}
+use borrow.Author.Needs.{needs}
+use Rattle.signed.proofs.reporting.check_signed_report.Statement.{statement}
+use Rattle.signed.proofs.reporting.check_signed_report.Tie as tie
+
+-- where code 15 does not apply
+whole-of : (c : tie.Else1) → WholePile (c .before .before .before .args .pile .now)
+whole-of c = whole (c .before .before .before .args .pile .now) (sym (c .before .length-bad .ensures) ∙ c .if1 .left)
+
+returns : tie.Need-returns
+returns c =
+    let p = c .before .before .before .args .pile .now in
+    let b = sym (c .before .length-bad .ensures) ∙ c .if1 .taken in
+    both-clauses p (ownAnswers p) Bad (λ g. true≢false (sym b ∙ whole-exactly p .1 (g .pile-whole)))
+
+signed-verdicts-requires : tie.Need-signed-verdicts-requires
+signed-verdicts-requires c κs = whole-of c
+
+said-of-requires : tie.Need-said-of-requires
+said-of-requires c κs = whole-of (c .before .before) .to
+
+returns-2 : tie.Need-returns-2
+returns-2 c =
+    let flags = c .before .flags-of in
+    let verdicts = c .before .before .signed-verdicts in
+    let passed = c .before .before .before in
+    let p = passed .before .before .before .args .pile .now in
+    let a = ownAnswers p in
+    let w = whole-of passed in
+    both-clauses p a (c .said-of .result) (good-says p a (own-good p w) (c .said-of .result)
+    (says-moved (verdictIn (verdicts .result)) (judged p a) (flagIn (flags .result)) (joined p) (recordsIn p)
+    (λ i l. verdicts .ensures i l) (λ i l. flags .ensures i (omega (arith, w .to)))
+    (c .said-of .result) (c .said-of .ensures)))
+
+pub check-signed-report-spec : {M : Type 1} → statement M
+check-signed-report-spec =
+    tie.close
+    (tie.spec
+    (λ c κs. search needs)
+    returns
+    signed-verdicts-requires
+    (λ c κs. search needs)
+    said-of-requires
+    returns-2)

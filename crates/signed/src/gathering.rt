@@ -1,0 +1,33 @@
+// The verdicts on the records of a pile, each judged once.
+ghost use mathlib.Core.Path.{_≡_};
+ghost use Prim.Native.Nat.{ℕ, _<_};
+ghost use Rattle.pile.specs.Meaning.{WholePile};
+ghost use Rattle.pile.specs.Pile.{recordsIn};
+ghost use Rattle.report.specs.Report.{judged};
+ghost use Rattle.runs.specs.Convict.{verdictIn};
+ghost use Rattle.signed.specs.Answers.{ownAnswers};
+use super::judging::checked_at;
+use pile::RECORD;
+use refusal::PASSED;
+use verdict::Verdict;
+
+// The verdicts on all records.
+pub fn signed_verdicts(pile: &[u8]) -> [Verdict; 16]
+    requires { ⌜ WholePile (now pile) ⌝ }
+    ensures { λ r. ⌜
+        ((k : ℕ) → k < recordsIn (now (pile .entry))
+        → verdictIn r k ≡ judged (now (pile .entry)) (ownAnswers (now (pile .entry))) k)
+        ⌝ }
+{
+    let blank = Verdict::Refused(PASSED);
+    let mut verdicts = [blank; 16];
+    let n = pile.len() / RECORD;
+    let mut k: usize = 0;
+    while k < n {
+        let c = checked_at(pile, k);
+        let v = c.verdict;
+        verdicts[k] = v;
+        k += 1;
+    }
+    verdicts
+}
