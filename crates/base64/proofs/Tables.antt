@@ -12,7 +12,7 @@ use Rattle.laws.specs.Pick.{pick}
 use Rattle.digits.proofs.Table.{at, both, both-left, both-right}
 use Rattle.base64.specs.Alphabet.{letterOf, sextetOf, pad}
 
-abbrev letters : List ℕ
+abbrev pub letters : List ℕ
 letters =
     65 ∷ 66 ∷ 67 ∷ 68 ∷ 69 ∷ 70 ∷ 71 ∷ 72 ∷ 73 ∷ 74 ∷ 75 ∷ 76 ∷ 77 ∷ 78 ∷ 79 ∷ 80 ∷
     81 ∷ 82 ∷ 83 ∷ 84 ∷ 85 ∷ 86 ∷ 87 ∷ 88 ∷ 89 ∷ 90 ∷ 97 ∷ 98 ∷ 99 ∷ 100 ∷ 101 ∷ 102 ∷
@@ -26,7 +26,7 @@ letter-row : (n : ℕ) → n < 64 → T (letter-right n (getD letters n 0))
 unfolding letter-right letterOf sextetOf pick
 letter-row n h = at letter-right letters tt n h
 
-letter-at : (n : ℕ) → n < 64 → getD letters n 0 ≡ letterOf n
+pub letter-at : (n : ℕ) → n < 64 → getD letters n 0 ≡ letterOf n
 unfolding letter-right
 letter-at n h = eqb→eq _ _ (both-left (eqb (getD letters n 0) (letterOf n)) _ (letter-row n h))
 

@@ -4,3 +4,9 @@ pub mod Objects
 pub mod Heads
 pub mod Lists
 pub mod Piles
+pub mod Records
+pub mod Letters
+pub mod Round
+pub mod Again
+pub mod RoundTrip
+pub mod Once
