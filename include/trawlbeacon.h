@@ -52,7 +52,7 @@ extern "C" {
 
 /* The version of this header: a change of the first number breaks callers. */
 #define TB_VERSION_MAJOR 0
-#define TB_VERSION_MINOR 13
+#define TB_VERSION_MINOR 14
 
 /* ---- Codes ---- */
 
@@ -108,6 +108,11 @@ enum tb_code {
     TB_UNKNOWN_SERVER = 22,
     /* the response would be longer than the request that it answers */
     TB_RESPONSE_LENGTH = 23,
+    /* the text is no report: not JSON, too deep, bad base64, or a member missing, repeated or
+     * wrong */
+    TB_REPORT_TEXT = 24,
+    /* the text has no entry, over 16 entries, or a packet above 2,000 bytes */
+    TB_ENTRIES = 25,
     /* an old stamp's date is under 40587, or its microseconds are 86,401,000,000 or more */
     TB_OLD_STAMP = 29,
     /* the pieces of a message come to more than 2^64 - 1 bytes */
@@ -166,6 +171,11 @@ static inline const char *tb_code_text(uint32_t code) {
         return "no list has the server";
     case TB_RESPONSE_LENGTH:
         return "the response would be longer than the request that it answers";
+    case TB_REPORT_TEXT:
+        return "the text is no report: not JSON, too deep, bad base64, or a member missing, "
+               "repeated or wrong";
+    case TB_ENTRIES:
+        return "the text has no entry, over 16 entries, or a packet above 2,000 bytes";
     case TB_OLD_STAMP:
         return "an old stamp's date is under 40587, or its microseconds are 86,401,000,000 or more";
     case TB_PIECES:
@@ -690,6 +700,58 @@ struct tb_cut tb_cut_run(const uint8_t *pile, size_t pile_len, const uint8_t *an
 /* The same with no answers lent: each record as tb_judge_signed judges it, so that what is written
  * is a report by tb_check_signed_report, with nothing beside it. */
 struct tb_cut tb_cut_signed_run(const uint8_t *pile, size_t pile_len, uint8_t *out, size_t out_len);
+
+/* ---- Reports as JSON ----
+ *
+ * The list maintainers take reports in the public format of draft 19, section 8.4.1: a JSON object
+ * with the member responses, a list of objects with the members rand, publicKey, request and
+ * response, each a string of base64. These functions turn such a text into the records of a pile
+ * and back.
+ */
+
+/* The length of the longest text that is written. */
+#define TB_LONGEST_REPORT 87609
+
+/* How many records were read. */
+struct tb_records {
+    uint32_t code;
+    uint64_t records;
+};
+
+/* Reads a text into records, and writes these: TB_RECORD_LENGTH bytes each, as many as are told.
+ * The codes are 24, 25 and 19.
+ *   24: the text is not JSON (RFC 8259): not UTF-8, with a byte order mark, with more than blanks
+ *       behind its value, or nested deeper than 16, the outermost counted; a needed member is
+ *       missing, repeated or of the wrong kind; a string is not base64 (RFC 4648, section 4: its
+ *       padding left out, spare bits that are not zero and line breaks too); or a key or a rand is
+ *       not 32 bytes. It is judged for every entry before 25 is, past the 16th too.
+ *   25: there is no entry or more than 16, or a packet has more than 2,000 bytes.
+ *   19: out has fewer than TB_RECORD_LENGTH bytes a record.
+ * Names are compared, and base64 is read, after unescaping. Members that are not named here are
+ * passed over, repeated or not; so is a rand in the first entry, whose record has zeros for it. A
+ * packet may have no bytes. */
+struct tb_records tb_read_report(const uint8_t *text, size_t text_len, uint8_t *out,
+                                 size_t out_len);
+
+/* How long the text is; beside a code, the place of the record that is to blame for it, and the
+ * byte of its packet, as tb_check_report tells them. */
+struct tb_published {
+    uint32_t code;
+    uint64_t place;
+    uint64_t at;
+    uint64_t length;
+};
+
+/* Writes the text of a report: no blanks, no escapes, the members in the order rand, publicKey,
+ * request, response, and no rand in the first entry. out of TB_LONGEST_REPORT bytes is always long
+ * enough. What tb_read_report makes of the text is the pile again. The codes are those of
+ * tb_check_report, and then 19. */
+struct tb_published tb_write_report(const uint8_t *pile, size_t pile_len, const uint8_t *answers,
+                                    size_t answers_len, uint8_t *out, size_t out_len);
+
+/* The same with no answers lent: the codes are those of tb_check_signed_report, and then 19. */
+struct tb_published tb_write_signed_report(const uint8_t *pile, size_t pile_len, uint8_t *out,
+                                           size_t out_len);
 
 /* ---- Old captures ----
  *

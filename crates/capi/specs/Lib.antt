@@ -3,4 +3,5 @@
 pub mod Building
 pub mod Pieces
 pub mod Piling
+pub mod Publishing
 pub mod Tallying

@@ -8,6 +8,7 @@ mod hashing;
 mod judging;
 mod pieces;
 mod piling;
+mod publishing;
 mod reading;
 mod reusing;
 mod serving;

@@ -1,6 +1,6 @@
-// The table of refusal codes, 1 to 22 document 01's, 23 request P1's, 29 P12's and 30 P5's: the numbers with their
-// names. The comment before each is the words that hosts show for it: the header's and the Rust host's tables are taken
-// from here (tools/codes).
+// The table of refusal codes, 1 to 22 document 01's, 23 request P1's, 24 and 25 P7's, 29 P12's and 30 P5's: the numbers
+// with their names. The comment before each is the words that hosts show for it: the header's and the Rust host's
+// tables are taken from here (tools/codes).
 
 // the packet has under 12 or over 2,000 bytes
 pub const PACKET_SIZE: u8 = 1;
@@ -70,6 +70,12 @@ pub const UNKNOWN_SERVER: u8 = 22;
 
 // the response would be longer than the request that it answers
 pub const RESPONSE_LENGTH: u8 = 23;
+
+// the text is no report: not JSON, too deep, bad base64, or a member missing, repeated or wrong
+pub const REPORT_TEXT: u8 = 24;
+
+// the text has no entry, over 16 entries, or a packet above 2,000 bytes
+pub const ENTRIES: u8 = 25;
 
 // an old stamp's date is under 40587, or its microseconds are 86,401,000,000 or more
 pub const OLD_STAMP: u8 = 29;

@@ -41,7 +41,7 @@ pub fn cut_run<'a>(pile: &'a [u8], answers: &'a [u8], out: &mut [u8]) -> Taken
 }
 
 // The shortest run. The first flag, which is about the first rand, plays no part in it.
-fn run_in<'a>(pile: &'a [u8], answers: &'a [u8]) -> Span
+pub fn run_in<'a>(pile: &'a [u8], answers: &'a [u8]) -> Span
     requires { ⌜ GoodPile (now pile) (now answers) ⌝ }
     ensures { λ r. ⌜ Answers (ConvictsIn (now (pile .entry)) (now (answers .entry))) r ⌝ }
 {

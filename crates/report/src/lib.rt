@@ -10,6 +10,7 @@ pub use checking::check_report;
 pub use checking::said_of;
 pub use cutting::cut_run;
 pub use cutting::put_run;
+pub use cutting::run_in;
 pub use gathering::flags_of;
 pub use gathering::verdicts_of;
 use refusal::Refusal;

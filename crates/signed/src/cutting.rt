@@ -38,8 +38,8 @@ pub fn cut_signed_run(pile: &[u8], out: &mut [u8]) -> Taken
     }
 }
 
-// The shortest run.
-fn signed_run(pile: &[u8]) -> Span
+// The shortest run. That the pile is whole was asked by the caller.
+pub fn signed_run(pile: &[u8]) -> Span
     requires { ⌜ WholePile (now pile) ⌝ }
     ensures { λ r. ⌜ Answers (ConvictsIn (now (pile .entry)) (ownAnswers (now (pile .entry)))) r ⌝ }
 {

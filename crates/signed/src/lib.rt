@@ -12,6 +12,7 @@ mod verifying;
 
 pub use checking::check_signed;
 pub use cutting::cut_signed_run;
+pub use cutting::signed_run;
 pub use judging::judge_signed;
 pub use listing::answer_byte;
 pub use listing::pile_answers;

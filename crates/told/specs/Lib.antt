@@ -5,6 +5,7 @@ pub mod Building
 pub mod Finding
 pub mod Judging
 pub mod Piling
+pub mod Publishing
 pub mod Reading
 pub mod Signing
 pub mod Stamping

@@ -7,6 +7,7 @@ mod building;
 mod judging;
 mod numbers;
 mod piling;
+mod publishing;
 mod reading;
 mod signing;
 mod stamping;
@@ -21,6 +22,8 @@ pub use numbers::yes;
 pub use piling::judgement_told;
 pub use piling::report_told;
 pub use piling::run_told;
+pub use publishing::published_told;
+pub use publishing::read_told;
 pub use reading::parts_told;
 pub use reading::request_told;
 pub use reading::response_told;
@@ -145,6 +148,23 @@ pub struct TbCut {
     pub code: u32,
     pub first: u64,
     pub last: u64,
+}
+
+// What `tb_read_report` answers: how many records stand at the front of the buffer.
+#[repr(C)]
+pub struct TbRecords {
+    pub code: u32,
+    pub records: u64,
+}
+
+// What `tb_write_report` and `tb_write_signed_report` answer: the place of the record that is to blame for the code, or
+// how long the text is.
+#[repr(C)]
+pub struct TbPublished {
+    pub code: u32,
+    pub place: u64,
+    pub at: u64,
+    pub length: u64,
 }
 
 // What `tb_old_window` answers.

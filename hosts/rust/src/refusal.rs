@@ -58,6 +58,11 @@ pub enum Refusal {
     UnknownServer,
     /// the response would be longer than the request that it answers
     ResponseLength,
+    /// the text is no report: not JSON, too deep, bad base64, or a member missing, repeated or
+    /// wrong
+    ReportText,
+    /// the text has no entry, over 16 entries, or a packet above 2,000 bytes
+    Entries,
     /// an old stamp's date is under 40587, or its microseconds are 86,401,000,000 or more
     OldStamp,
     /// the pieces of a message come to more than 2^64 - 1 bytes
@@ -92,6 +97,8 @@ impl Refusal {
             Refusal::Lists => 21,
             Refusal::UnknownServer => 22,
             Refusal::ResponseLength => 23,
+            Refusal::ReportText => 24,
+            Refusal::Entries => 25,
             Refusal::OldStamp => 29,
             Refusal::Pieces => 30,
         }
@@ -141,6 +148,13 @@ impl Refusal {
             Refusal::ResponseLength => {
                 "the response would be longer than the request that it answers"
             }
+            Refusal::ReportText => {
+                "the text is no report: not JSON, too deep, bad base64, or a member missing, \
+                 repeated or wrong"
+            }
+            Refusal::Entries => {
+                "the text has no entry, over 16 entries, or a packet above 2,000 bytes"
+            }
             Refusal::OldStamp => {
                 "an old stamp's date is under 40587, or its microseconds are 86,401,000,000 or more"
             }
@@ -175,6 +189,8 @@ impl Refusal {
             21 => Refusal::Lists,
             22 => Refusal::UnknownServer,
             23 => Refusal::ResponseLength,
+            24 => Refusal::ReportText,
+            25 => Refusal::Entries,
             29 => Refusal::OldStamp,
             30 => Refusal::Pieces,
             _ => return None,

@@ -1,0 +1,23 @@
+use borrow.Author.Needs.{needs}
+use Rattle.base64.proofs.encoding.encode_three.Statement.{statement}
+use Rattle.base64.proofs.encoding.encode_three.Tie as tie
+
+returns : tie.Need-returns
+returns c = cc
+
+pub encode-three-spec : {M : Type 1} → statement M
+encode-three-spec =
+    tie.close
+    (tie.spec
+    (λ c κs. search needs)
+    (λ c. search needs)
+    (λ c. search needs)
+    (λ c κs. search needs)
+    (λ c. search needs)
+    (λ c. search needs)
+    (λ c κs. search needs)
+    (λ c κs. search needs)
+    (λ c. search needs)
+    (λ c κs. search needs)
+    (λ c. search needs)
+    returns)

@@ -1,0 +1,18 @@
+// Base64 by RFC 4648, section 4, read strictly: each byte string has one text, and that text alone is read as it.
+mod alphabet;
+mod decoding;
+mod encoding;
+
+pub use decoding::group_of;
+pub use encoding::encode;
+
+// What four characters stand for.
+pub enum Group {
+    Three(u8, u8, u8),
+    Two(u8, u8),
+    One(u8),
+    Bad,
+}
+
+// Fills the last group where it has fewer than three bytes.
+const PAD: u8 = 61;

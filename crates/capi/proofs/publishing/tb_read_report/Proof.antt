@@ -1,0 +1,26 @@
+-- `capi::publishing::tb_read_report` meets its contract.
+use mathlib.Core.Path.{ap, _∙_}
+use Rattle.intake.specs.Entry.{entriesOf}
+use Rattle.intake.specs.Read.{recordBytes}
+use Rattle.told.specs.Publishing.{tbRecords}
+use Rattle.capi.proofs.ReadNumbers.{read-left}
+use borrow.Author.Needs.{needs}
+use Rattle.capi.proofs.publishing.tb_read_report.Statement.{statement}
+use Rattle.capi.proofs.publishing.tb_read_report.Tie as tie
+
+returns : tie.Need-returns
+returns c =
+    let read = c .before .before .before .read-report in
+    let e = read .ensures in
+    let a = c .before .before .before .before .before .before .before .args in
+    let is = c .read-told .ensures in
+    (is ∙ ap tbRecords (e .0), read-left (read .result) (recordBytes (entriesOf (a .text .now))) (a .out .now) is (e .1))
+
+pub tb-read-report-spec : {M : Type 1} → statement M
+tb-read-report-spec =
+    tie.close
+    (tie.spec
+    (λ c κs. search needs)
+    (λ c κs. search needs)
+    (λ c. search needs)
+    returns)

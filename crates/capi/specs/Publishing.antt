@@ -1,0 +1,18 @@
+-- What the writer of reports in the public format promises at the C boundary: its answer is told by cases.
+use mathlib.Core.Path.{_≡_}
+use Prim.Native.Nat.{ℕ}
+use mathlib.Core.List.{List}
+use lib.ListN.{length}
+use Rattle.laws.specs.Written.{written}
+use Rattle.publish.specs.Published.{Publishes, publishedNumber, publishedBytes}
+use Rattle.publish.specs.declared.Published.{Published}
+use Rattle.told.specs.Publishing.{tbPublished}
+use Rattle.told.specs.declared.TbPublished.{TbPublished}
+
+-- the struct tells the answer that is right of the pile and the buffer out, and the buffer holds afterwards what that
+-- same answer leaves in it
+pub record Tells (pile answers out : List ℕ) (told : TbPublished) (afterwards : List ℕ) : Type 0 where
+  pub answer : Published
+  pub right : Publishes pile answers (length out) answer
+  pub same : told ≡ tbPublished answer
+  pub left : afterwards ≡ written (publishedNumber answer) (publishedBytes answer pile) out

@@ -1,0 +1,43 @@
+// Reports in the public format, for hosts.
+ghost use mathlib.Core.Path.{_≡_};
+ghost use lib.ListN.{length};
+ghost use Rattle.laws.specs.Written.{written};
+ghost use Rattle.intake.specs.Entry.{entriesOf};
+ghost use Rattle.intake.specs.Read.{readOf, recordBytes};
+ghost use Rattle.signed.specs.Answers.{ownAnswers};
+ghost use Rattle.told.specs.Publishing.{tbRecords};
+ghost use Rattle.capi.specs.Publishing.{Tells};
+use told::TbPublished;
+use told::TbRecords;
+
+// The records of a report's text, at the front of out.
+#[no_mangle]
+pub extern "C" fn tb_read_report(text: &[u8], out: &mut [u8]) -> TbRecords
+    ensures { λ r. ⌜ r ≡ tbRecords (readOf (entriesOf (now (text .entry))) (length (now (out .entry)))) ⌝ }
+    ensures { λ r. ⌜ now (out .exit)
+        ≡ written (r .code) (recordBytes (entriesOf (now (text .entry)))) (now (out .entry)) ⌝ }
+{
+    told::read_told(intake::read_report(text, out))
+}
+
+// The text of a report, at the front of out.
+#[no_mangle]
+pub extern "C" fn tb_write_report<'a>(
+    pile: &'a [u8],
+    answers: &'a [u8],
+    out: &mut [u8],
+) -> TbPublished
+    ensures { λ r. ⌜ Tells (now (pile .entry)) (now (answers .entry)) (now (out .entry)) r (now (out .exit)) ⌝ }
+{
+    told::published_told(publish::write_report(pile, answers, out))
+}
+
+// The same with no answers lent: the signatures are verified under the keys of the records.
+#[no_mangle]
+pub extern "C" fn tb_write_signed_report(pile: &[u8], out: &mut [u8]) -> TbPublished
+    ensures { λ r. ⌜
+        Tells (now (pile .entry)) (ownAnswers (now (pile .entry))) (now (out .entry)) r (now (out .exit))
+        ⌝ }
+{
+    told::published_told(forward::write_signed_report(pile, out))
+}

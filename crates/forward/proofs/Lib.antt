@@ -1,0 +1,2 @@
+-- Each contract settles its result, and what is left in the lent buffer.
+pub mod Once

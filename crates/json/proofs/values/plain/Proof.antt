@@ -1,0 +1,67 @@
+use borrow.Author.Needs.{needs}
+use native.Mathlib.Omega.{arith}
+use denote.Ref.{now}
+use Rattle.json.specs.Value.{plainAt}
+use Rattle.json.proofs.Picks.{inside, picks}
+use Rattle.json.proofs.values.plain.Statement.{statement}
+use Rattle.json.proofs.values.plain.Tie as tie
+
+returns : tie.Need-returns
+unfolding plainAt
+returns c = search (picks, needs)
+
+literal-requires : tie.Need-literal-requires
+literal-requires c κs = (
+  let i = inside (now (c .before .before .before .before .before .args .s))
+      (c .before .before .before .byte .ensures) (c .before .if2 .taken) tt in omega arith,
+  search needs,
+)
+
+returns-2 : tie.Need-returns-2
+unfolding plainAt
+returns-2 c = search (picks, needs)
+
+literal-requires-2 : tie.Need-literal-requires-2
+literal-requires-2 c κs = (
+  let i = inside (now (c .before .before .before .before .before .before .args .s))
+      (c .before .before .before .before .byte .ensures) (c .before .if3 .taken) tt in omega arith,
+  search needs,
+)
+
+returns-3 : tie.Need-returns-3
+unfolding plainAt
+returns-3 c = search (picks, needs)
+
+literal-requires-3 : tie.Need-literal-requires-3
+literal-requires-3 c κs = (
+  let i = inside (now (c .before .before .before .before .before .before .before .args .s))
+      (c .before .before .before .before .before .byte .ensures) (c .before .if4 .taken) tt in omega arith,
+  search needs,
+)
+
+returns-4 : tie.Need-returns-4
+unfolding plainAt
+returns-4 c = search (picks, needs) depth 7
+
+returns-5 : tie.Need-returns-5
+unfolding plainAt
+returns-5 c = search (picks, needs) depth 7
+
+pub plain-spec : {M : Type 1} → statement M
+plain-spec =
+    tie.close
+    (tie.spec
+    (λ c κs. search needs)
+    (λ c κs. search needs)
+    returns
+    (λ c. search needs)
+    literal-requires
+    returns-2
+    (λ c. search needs)
+    literal-requires-2
+    returns-3
+    (λ c. search needs)
+    literal-requires-3
+    (λ c κs. search needs)
+    returns-4
+    returns-5)

@@ -1,0 +1,23 @@
+// Reports written in the public format (draft 19, section 8.4.1; request P7), from the records of a pile.
+mod listing;
+mod pieces;
+mod publishing;
+mod sizing;
+
+pub use publishing::put_report;
+pub use publishing::write_report;
+use refusal::Refusal;
+
+// The length of the longest text there can be: of 16 records whose packets have 2,000 bytes each.
+pub const LONGEST: usize = 87_609;
+
+// How long the text is that stands at the front of the buffer; or why the pile is no report, as the check of a report
+// says it; or that the buffer is too short.
+pub enum Published {
+    Text(usize),
+    Bad,
+    Record(Refusal, usize),
+    Unlinked(usize),
+    Clear,
+    Short,
+}

@@ -1,0 +1,4 @@
+-- Laws about groups of characters.
+pub mod Quads
+pub mod Fills
+pub mod Once

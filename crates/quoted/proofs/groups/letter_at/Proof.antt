@@ -1,0 +1,53 @@
+use borrow.Author.Needs.{needs}
+use denote.Ref.{now}
+use Rattle.json.proofs.Content.{content-code, content-wide, content-close, content-ill, content-falls, wide-falls}
+use Rattle.quoted.proofs.groups.letter_at.Statement.{statement}
+use Rattle.quoted.proofs.groups.letter_at.Tie as tie
+
+returns : tie.Need-returns
+returns c =
+    record {
+      text = content-code (now (c .before .before .before .before .before .args .s))
+          (c .before .before .before .before .before .args .k) (c .before .before .before .unit-of .ensures)
+          (c .before .c .given .1);
+      on =
+          content-falls (now (c .before .before .before .before .before .args .s))
+          (c .before .before .before .before .before .args .k) (c .before .before .before .unit-of .ensures)
+          (c .before .c .given .1);
+    }
+
+returns-2 : tie.Need-returns-2
+returns-2 c =
+    record {
+      text = content-wide (now (c .before .before .before .before .before .args .s))
+          (c .before .before .before .before .before .args .k) (c .before .before .before .unit-of .ensures)
+          (c .before .j .given .1);
+      on =
+          wide-falls (now (c .before .before .before .before .before .args .s))
+          (c .before .before .before .before .before .args .k) (c .before .before .before .unit-of .ensures)
+          (c .before .j .given .1);
+    }
+
+returns-3 : tie.Need-returns-3
+returns-3 c =
+    content-close (now (c .before .before .before .before .args .s)) (c .before .before .before .before .args .k)
+    (c .before .before .unit-of .ensures) (c .enum-told .given .1)
+
+returns-4 : tie.Need-returns-4
+returns-4 c =
+    content-ill (now (c .before .before .before .before .args .s)) (c .before .before .before .before .args .k)
+    (c .before .before .unit-of .ensures) (c .enum-told2 .given .1)
+
+pub letter-at-spec : {M : Type 1} → statement M
+letter-at-spec =
+    tie.close
+    (tie.spec
+    (λ c κs. search needs)
+    (λ c. search needs)
+    (λ c. search needs)
+    (λ c. search needs)
+    (λ c. search needs)
+    returns
+    returns-2
+    returns-3
+    returns-4)

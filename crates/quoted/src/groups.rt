@@ -1,0 +1,51 @@
+// The characters of a string, in groups of four.
+ghost use mathlib.Core.Path.{_≡_};
+ghost use mathlib.Core.Bool.{true};
+ghost use Rattle.json.specs.Text.{contentAt};
+ghost use Rattle.quoted.specs.Sized.{CharOf, QuadOf, empty};
+use super::Letter;
+use super::Quad;
+use json::Unit;
+
+// Whether the string ends at a place.
+pub fn at_end(s: &[u8], k: usize) -> bool
+    ensures { λ r. ⌜ r ≡ empty (contentAt (now (s .entry)) k) ⌝ }
+{
+    match json::unit_of(s, k) {
+        Unit::Code(_, _) => false,
+        Unit::Wide(_) => false,
+        Unit::Close(_) => true,
+        Unit::Ill => true,
+    }
+}
+
+// The character at a place. One that is written as bytes above 127 gets a number that is no letter.
+fn letter_at(s: &[u8], k: usize) -> Letter
+    ensures { λ r. ⌜ CharOf (now (s .entry)) k r ⌝ }
+{
+    match json::unit_of(s, k) {
+        Unit::Code(c, j) => Letter::Is(c, j),
+        Unit::Wide(j) => Letter::Is(1_114_112, j),
+        Unit::Close(_) => Letter::Stop,
+        Unit::Ill => Letter::Stop,
+    }
+}
+
+// The four characters at a place.
+pub fn quad_of(s: &[u8], k: usize) -> Quad
+    ensures { λ r. ⌜ QuadOf (now (s .entry)) k r ⌝ }
+{
+    let Letter::Is(a, i) = letter_at(s, k) else {
+        return Quad::End;
+    };
+    let Letter::Is(b, j) = letter_at(s, i) else {
+        return Quad::Fewer;
+    };
+    let Letter::Is(c, m) = letter_at(s, j) else {
+        return Quad::Fewer;
+    };
+    let Letter::Is(d, n) = letter_at(s, m) else {
+        return Quad::Fewer;
+    };
+    Quad::Four(base64::group_of(a, b, c, d), n)
+}

@@ -1,0 +1,34 @@
+-- What the reader and the writer of reports in the public format answer, as structs for C.
+use Prim.Native.Nat.{ℕ}
+use Rattle.intake.specs.Read.{readNumber}
+use Rattle.intake.specs.declared.Read.{Read}
+use Rattle.intake.specs.declared.Read.the-variants as read
+use Rattle.publish.specs.Published.{publishedNumber}
+use Rattle.publish.specs.declared.Published.{Published}
+use Rattle.publish.specs.declared.Published.the-variants.{Text, Bad, Record, Unlinked, Clear, Short}
+use Rattle.told.specs.declared.TbPublished.{TbPublished}
+use Rattle.told.specs.declared.TbRecords.{TbRecords}
+
+-- a refusal of the reader
+abbrev pub notRead : ℕ → TbRecords
+notRead code = record { code = code; records = 0 }
+
+-- its answer: how many records there are, or a refusal
+abbrev pub tbRecords : Read → TbRecords
+tbRecords (read.Records n) = record { code = 0; records = n }
+tbRecords read.NoReport = notRead (readNumber read.NoReport)
+tbRecords read.Amount = notRead (readNumber read.Amount)
+tbRecords read.Short = notRead (readNumber read.Short)
+
+-- a refusal of the writer, with the record and the byte that it carries, and 0 where it carries none
+abbrev pub notPublished : ℕ → ℕ → ℕ → TbPublished
+notPublished code k at = record { code = code; place = k; at = at; length = 0 }
+
+-- its answer: how long the text is, or a refusal
+abbrev pub tbPublished : Published → TbPublished
+tbPublished (Text n) = record { code = 0; place = 0; at = 0; length = n }
+tbPublished Bad = notPublished (publishedNumber Bad) 0 0
+tbPublished (Record why k) = notPublished (publishedNumber (Record why k)) k (why .at)
+tbPublished (Unlinked k) = notPublished (publishedNumber (Unlinked k)) k 0
+tbPublished Clear = notPublished (publishedNumber Clear) 0 0
+tbPublished Short = notPublished (publishedNumber Short) 0 0
