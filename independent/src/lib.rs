@@ -27,6 +27,7 @@ pub mod edwards;
 pub mod halves;
 pub mod hash;
 pub mod json;
+pub mod lengthy;
 pub mod making;
 pub mod message;
 pub mod number;
