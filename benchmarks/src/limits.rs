@@ -19,6 +19,11 @@ pub struct Limits {
     pub signed: f64,
     /// A server with a whole batch against the independent implementation.
     pub servers: f64,
+    /// The longest report as JSON, read, against the independent implementation. Ours makes no tree
+    /// of values, and goes over the text again for each thing that it asks of it.
+    pub texts_read: f64,
+    /// The same, written.
+    pub texts_written: f64,
 }
 
 /// All rows of a tree against the hashing that it needs, by the number of its leaves.
@@ -59,6 +64,8 @@ impl Limits {
             openssl: limit("BENCH_LIMIT_OPENSSL", 1.8),
             signed: limit("BENCH_LIMIT_SIGNED", 0.95),
             servers: limit("BENCH_LIMIT_SERVERS", 0.70),
+            texts_read: limit("BENCH_LIMIT_TEXTS_READ", 17.0),
+            texts_written: limit("BENCH_LIMIT_TEXTS_WRITTEN", 0.4),
         }
     }
 }

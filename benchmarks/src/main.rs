@@ -15,6 +15,7 @@ mod servers;
 mod sides;
 mod signatures;
 mod signed;
+mod texts;
 mod timing;
 mod trees;
 mod windows;
@@ -87,6 +88,8 @@ const SERVERS: Table = Table {
     digits: 0,
     show: |answers, seconds| answers as f64 / seconds,
 };
+
+const TEXTS: Table = Table { width: 44, sides: &[Side::Ours, Side::Independent], ..HASHES };
 
 impl Table {
     /// The names of the columns: a measure for each side, then a ratio for each side but ours.
@@ -219,6 +222,20 @@ fn main() -> ExitCode {
     let round = servers::Round::new();
     for subject in round.subjects(&limits) {
         SERVERS.report(subject, &mut above);
+    }
+    println!(
+        "the longest report as JSON; limits: ours/independent {} read and {} written",
+        limits.texts_read, limits.texts_written
+    );
+    println!("{}", PILES.header());
+    let full = texts::Full::new();
+    for subject in full.subjects(&limits) {
+        PILES.report(subject, &mut above);
+    }
+    println!("texts of a mebibyte, read as reports, by what they are made of");
+    println!("{}", TEXTS.header());
+    for text in &texts::long() {
+        TEXTS.report(texts::of_long(text), &mut above);
     }
     for line in &above {
         println!("TOO SLOW: {line}");

@@ -52,6 +52,11 @@ impl Shape {
     }
 }
 
+/// A full pile, whose first and last record contradict each other.
+pub fn full() -> Made {
+    FULL.made()
+}
+
 /// What is done with a pile.
 #[derive(Clone, Copy, PartialEq)]
 pub enum Operation {

@@ -6,10 +6,11 @@
  * reader and the check by a request of ours and by a response that draft 19 prints, a verification
  * by signatures of RFC 8032 and of that response, what verifies by itself by the draft's whole
  * report and by the forms that take answers, a lookup by the place of the record, old stamps by
- * both sides of each limit, a pile by the times it was made of, windows as they come by every pair
- * of them, a writer by what it leaves in a buffer, a server by the draft's response, which it
- * writes again out of its values, the words of a code by some of them. Whether all of that is right
- * on every input is for the tests of hosts/rust.
+ * both sides of each limit, a pile by the times it was made of, its report as JSON by a text that
+ * is made here of the same records, windows as they come by every pair of them, a writer by what it
+ * leaves in a buffer, a server by the draft's response, which it writes again out of its values,
+ * the words of a code by some of them. Whether all of that is right on every input is for the tests
+ * of hosts/rust.
  */
 #include "report.h"
 #include "response.h"
@@ -816,6 +817,123 @@ static void expect_run(const uint8_t *pile) {
     expect_reported("tb_check_report of the run", tb_check_report(out, n, YES, 4), 0, 0, 0, 1);
 }
 
+/* Writes n bytes in base64 (RFC 4648, section 4), and tells where they end. */
+static char *put_base64(char *to, const uint8_t *bytes, size_t n) {
+    static const char letters[] =
+        "ABCDEFGHIJKLMNOPQRSTUVWXYZabcdefghijklmnopqrstuvwxyz0123456789+/";
+    for (size_t i = 0; i < n; i += 3) {
+        uint32_t group = (uint32_t)bytes[i] << 16;
+        if (i + 1 < n) group |= (uint32_t)bytes[i + 1] << 8;
+        if (i + 2 < n) group |= bytes[i + 2];
+        for (size_t k = 0; k < 4; k++)
+            *to++ = i + k > n ? '=' : letters[group >> (18 - 6 * k) & 63];
+    }
+    return to;
+}
+
+/* Writes a member of an entry, and what stands before and behind it. */
+static char *put_member(char *to, const char *before, const uint8_t *bytes, size_t n) {
+    size_t length = strlen(before);
+    memcpy(to, before, length);
+    to = put_base64(to + length, bytes, n);
+    *to++ = '"';
+    return to;
+}
+
+/* Writes records that are laid out as lay_record does as a report (draft 19, section 8.4.1), and
+ * tells its length. */
+static size_t put_report(char *text, const uint8_t *pile, size_t records) {
+    char *to = text + sprintf(text, "{\"responses\":[");
+    for (size_t k = 0; k < records; k++) {
+        const uint8_t *record = pile + k * TB_RECORD_LENGTH;
+        if (k > 0) to = put_member(to, ",{\"rand\":\"", record + RAND_AT, 32);
+        to = put_member(to, k > 0 ? ",\"publicKey\":\"" : "{\"publicKey\":\"", record, 32);
+        to = put_member(to, ",\"request\":\"", record + REQUEST_AT, TB_REQUEST_LENGTH);
+        to = put_member(to, ",\"response\":\"", record + RESPONSE_AT, RESPONSE_LENGTH);
+        *to++ = '}';
+    }
+    return (size_t)(to - text) + (size_t)sprintf(to, "]}");
+}
+
+static void expect_report_read(const char *what, struct tb_records is, uint64_t code,
+                               uint64_t records) {
+    expect_number(what, is.code, code);
+    expect_number(what, is.records, records);
+}
+
+static void expect_report_wrote(const char *what, struct tb_published is, uint64_t code,
+                                uint64_t place, uint64_t at, uint64_t length) {
+    expect_number(what, is.code, code);
+    expect_number(what, is.place, place);
+    expect_number(what, is.at, at);
+    expect_number(what, is.length, length);
+}
+
+/* The text of the four records, read: as it is, with too little room, and where it is none. */
+static void expect_read(const uint8_t *pile, const uint8_t *text, size_t n) {
+    static const char none[] = "{\"responses\": []}";
+    static uint8_t out[PILE_LENGTH + 8];
+    memset(out, 0xee, sizeof out);
+    expect_report_read("tb_read_report of a byte less",
+                       tb_read_report(text, n - 1, out, sizeof out), 24, 0);
+    expect_report_read("tb_read_report of no bytes", tb_read_report(text, 0, out, sizeof out), 24,
+                       0);
+    expect_report_read("tb_read_report of no entry",
+                       tb_read_report((const uint8_t *)none, sizeof none - 1, out, sizeof out), 25,
+                       0);
+    expect_report_read("tb_read_report without room", tb_read_report(text, n, out, PILE_LENGTH - 1),
+                       19, 0);
+    expect_all("the buffer of a refused text", out, 0xee, sizeof out);
+    expect_report_read("tb_read_report", tb_read_report(text, n, out, sizeof out), 0, RECORDS);
+    expect_bytes("the records of a text", out, pile, PILE_LENGTH);
+    expect_all("what follows the records", out + PILE_LENGTH, 0xee, sizeof out - PILE_LENGTH);
+}
+
+/* The four records as a report, written, with and without room, and refused as the check of a
+ * report refuses them. None of their signatures verifies. */
+static void expect_written(uint8_t *pile, const uint8_t *text, size_t n) {
+    static uint8_t out[TB_LONGEST_REPORT];
+    uint8_t answers[2 * RECORDS], *wrong = pile + TB_RECORD_LENGTH + RESPONSE_AT + RADI_AT;
+    size_t m = sizeof answers;
+    memcpy(answers, YES, m);
+    memset(out, 0xee, sizeof out);
+    expect_report_wrote("tb_write_report without room",
+                        tb_write_report(pile, PILE_LENGTH, answers, m, out, n - 1), 19, 0, 0, 0);
+    expect_report_wrote("tb_write_report of too few answers",
+                        tb_write_report(pile, PILE_LENGTH, answers, m - 1, out, sizeof out), 15, 0,
+                        0, 0);
+    expect_report_wrote("tb_write_report of a record",
+                        tb_write_report(pile, TB_RECORD_LENGTH, answers, 2, out, sizeof out), 18, 0,
+                        0, 0);
+    answers[2 * 3 + 1] = 0;
+    expect_report_wrote("tb_write_report of a refused record",
+                        tb_write_report(pile, PILE_LENGTH, answers, m, out, sizeof out), 13, 3, 0,
+                        0);
+    uint8_t radius = *wrong;
+    *wrong = 0;
+    expect_report_wrote("tb_write_report without a radius",
+                        tb_write_report(pile, PILE_LENGTH, answers, m, out, sizeof out), 7, 1,
+                        RADI_AT, 0);
+    *wrong = radius;
+    expect_report_wrote("tb_write_signed_report",
+                        tb_write_signed_report(pile, PILE_LENGTH, out, sizeof out), 12, 0, 0, 0);
+    expect_report_wrote("tb_write_signed_report of no pile",
+                        tb_write_signed_report(pile, PILE_LENGTH - 1, out, sizeof out), 15, 0, 0,
+                        0);
+    expect_all("the buffer of a refused report", out, 0xee, sizeof out);
+    expect_report_wrote("tb_write_report",
+                        tb_write_report(pile, PILE_LENGTH, YES, m, out, sizeof out), 0, 0, 0, n);
+    expect_bytes("the text of a report", out, text, n);
+    expect_all("what follows the text", out + n, 0xee, sizeof out - n);
+}
+
+static void expect_report_texts(uint8_t *pile) {
+    static char text[TB_LONGEST_REPORT];
+    size_t n = put_report(text, pile, RECORDS);
+    expect_read(pile, (const uint8_t *)text, n);
+    expect_written(pile, (const uint8_t *)text, n);
+}
+
 /* The four records, and what becomes of the report and the run where something is wrong with one of
  * them. */
 static void expect_reports(uint8_t *pile) {
@@ -998,7 +1116,10 @@ static void expect_all_words(void) {
                      "record, each 1 or 0");
     expect_words(TB_UNKNOWN_SERVER, "no list has the server");
     expect_words(23, "the response would be longer than the request that it answers");
-    expect_words(TB_RESPONSE_LENGTH + 1, "no such code");
+    expect_words(TB_REPORT_TEXT, "the text is no report: not JSON, too deep, bad base64, or a member "
+                                 "missing, repeated or wrong");
+    expect_words(25, "the text has no entry, over 16 entries, or a packet above 2,000 bytes");
+    expect_words(1000, "no such code");
     expect_words(29, "an old stamp's date is under 40587, or its microseconds are "
                      "86,401,000,000 or more");
     expect_words(UINT32_MAX, "no such code");
@@ -1229,6 +1350,7 @@ static void expect_piles(void) {
     expect_records(pile);
     expect_reuse(pile);
     expect_run(pile);
+    expect_report_texts(pile);
     expect_reports(pile);
 }
 

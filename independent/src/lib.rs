@@ -12,9 +12,9 @@
 //! It has SHA-512, the hashes that Roughtime makes of it and the Merkle tree, a reader of packets,
 //! requests and responses, the check of a response, the writer of a request, the texts that are
 //! signed, the writer of a response with its delegation, the lookup of a server, piles of responses
-//! and the reports that are made of them, the timestamps of an old draft, and Ed25519, by which
-//! responses and piles are judged with no answers beside them. Beside all this stands what it is
-//! tried with: what makes piles and signatures, and a server that answers batches.
+//! and the reports that are made of them, also as JSON, the timestamps of an old draft, and Ed25519,
+//! by which responses and piles are judged with no answers beside them. Beside all this stands what
+//! it is tried with: what makes piles and signatures, and a server that answers batches.
 
 #![forbid(unsafe_code)]
 #![warn(missing_docs)]
@@ -26,6 +26,8 @@ pub mod ed25519;
 pub mod edwards;
 pub mod halves;
 pub mod hash;
+pub mod json;
+pub mod lengthy;
 pub mod making;
 pub mod message;
 pub mod number;
@@ -36,6 +38,7 @@ pub mod pile;
 pub mod place;
 pub mod refusal;
 pub mod report;
+pub mod report_text;
 pub mod request;
 pub mod respond;
 pub mod response;
@@ -48,6 +51,7 @@ pub mod stamp;
 pub mod tag;
 pub mod text;
 pub mod tree;
+pub mod utf8;
 pub mod value;
 pub mod verdict;
 pub mod write;

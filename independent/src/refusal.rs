@@ -55,6 +55,11 @@ pub enum Refusal {
     ServerUnknown = 22,
     /// A response would be longer than the request that it answers.
     ResponseLength = 23,
+    /// A text is not JSON, nests too deep, or is no report: bad base64, a key or a rand that is not
+    /// 32 bytes, or a member that is missing, repeated or of the wrong kind.
+    ReportText = 24,
+    /// A report as JSON has no entry or more than 16, or a packet of more than 2,000 bytes.
+    ReportSize = 25,
     /// An old stamp has a day before 1 January 1970, or more microseconds than a day with a leap
     /// second.
     OldStamp = 29,

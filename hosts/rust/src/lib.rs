@@ -40,6 +40,7 @@ mod pieces;
 mod piles;
 pub mod raw;
 mod refusal;
+mod reports;
 mod servers;
 mod serving;
 mod signed;
@@ -60,6 +61,7 @@ pub use piles::{
     ReportRefusal, Run, MOST_RECORDS, RECORD_LENGTH,
 };
 pub use refusal::{PacketRefusal, Refusal};
+pub use reports::{read_report, write_report, write_signed_report, LONGEST_REPORT};
 pub use servers::{find_server, Found, List, SERVER_LENGTH};
 pub use serving::{
     response_length, write_cert, write_dele, write_response, write_srep, Reply, CERT_LENGTH,

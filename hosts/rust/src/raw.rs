@@ -222,6 +222,31 @@ pub struct tb_cut {
     pub last: u64,
 }
 
+/// What [`tb_read_report`] answers.
+#[repr(C)]
+#[derive(Clone, Copy, Debug, PartialEq, Eq)]
+pub struct tb_records {
+    /// 0, or a refusal; then all else is 0.
+    pub code: u32,
+    /// How many records were written.
+    pub records: u64,
+}
+
+/// What a function answers that writes a report as text.
+#[repr(C)]
+#[derive(Clone, Copy, Debug, PartialEq, Eq)]
+pub struct tb_published {
+    /// 0, or a refusal; then all else but the place and `at` is 0.
+    pub code: u32,
+    /// The place of the record to which the refusal applies: 0 where there is none, as with 0, 15,
+    /// 18 and 19.
+    pub place: u64,
+    /// The byte of the record's response at which it is bad, with codes 4 to 7; else 0.
+    pub at: u64,
+    /// How many bytes were written.
+    pub length: u64,
+}
+
 /// What [`tb_old_window`] answers.
 #[repr(C)]
 #[derive(Clone, Copy, Debug, PartialEq, Eq)]
@@ -488,6 +513,30 @@ extern "C" {
         out: *mut u8,
         out_len: usize,
     ) -> tb_cut;
+
+    /// Reads a report as JSON into records.
+    pub fn tb_read_report(
+        text: *const u8,
+        text_len: usize,
+        out: *mut u8,
+        out_len: usize,
+    ) -> tb_records;
+    /// Writes a pile that is a report as JSON.
+    pub fn tb_write_report(
+        pile: *const u8,
+        pile_len: usize,
+        answers: *const u8,
+        answers_len: usize,
+        out: *mut u8,
+        out_len: usize,
+    ) -> tb_published;
+    /// Writes a pile that is a report by its own signatures as JSON.
+    pub fn tb_write_signed_report(
+        pile: *const u8,
+        pile_len: usize,
+        out: *mut u8,
+        out_len: usize,
+    ) -> tb_published;
 
     /// The window of a stamp of the 2021 draft.
     pub fn tb_old_window(midp: u64, radi: u32) -> tb_old;

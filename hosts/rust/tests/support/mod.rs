@@ -7,15 +7,21 @@
 pub mod answers;
 pub mod damage;
 pub mod due;
+pub mod json_values;
+pub mod no_json;
 pub mod packets;
 pub mod pairs;
 pub mod pile_answers;
 pub mod piles;
+pub mod published;
+pub mod python;
 pub mod replies;
 pub mod signed;
 pub mod signed_answers;
 pub mod signing;
 pub mod tally;
+pub mod text_answers;
+pub mod texts;
 pub mod trees;
 
 use std::fs;
