@@ -753,6 +753,25 @@ struct tb_published tb_write_report(const uint8_t *pile, size_t pile_len, const 
 struct tb_published tb_write_signed_report(const uint8_t *pile, size_t pile_len, uint8_t *out,
                                            size_t out_len);
 
+/* The places of the run's first and last record in the text, and how long the run's own text is. */
+struct tb_forwarded {
+    uint32_t code;
+    uint64_t first;
+    uint64_t last;
+    uint64_t length;
+};
+
+/* From text to text in one call: reads the text as tb_read_report does, cuts the shortest run that
+ * convicts by itself out of its records as tb_cut_run does, and writes that run's text. The answers
+ * are two a record of the text. The codes are 24 and 25, 15 for the answers, 18, and 19 for the
+ * text. The call takes some 64 KB of stack for the records. */
+struct tb_forwarded tb_cut_text(const uint8_t *text, size_t text_len, const uint8_t *answers,
+                                size_t answers_len, uint8_t *out, size_t out_len);
+
+/* The same with no answers lent. */
+struct tb_forwarded tb_cut_signed_text(const uint8_t *text, size_t text_len, uint8_t *out,
+                                       size_t out_len);
+
 /* ---- Old captures ----
  *
  * Captures of the 2021 draft (May 2021) tell the time in another form, which tb_old_window turns

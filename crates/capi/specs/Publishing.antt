@@ -1,12 +1,16 @@
--- What the writer of reports in the public format promises at the C boundary: its answer is told by cases.
+-- What the writer of reports in the public format and the cut of a text promise at the C boundary: their answers are
+-- told by cases.
 use mathlib.Core.Path.{_≡_}
 use Prim.Native.Nat.{ℕ}
 use mathlib.Core.List.{List}
 use lib.ListN.{length}
 use Rattle.laws.specs.Written.{written}
+use Rattle.forward.specs.Forwarded.{pileOf, Forwards, forwardedNumber, forwardedBytes}
+use Rattle.forward.specs.declared.Forwarded.{Forwarded}
 use Rattle.publish.specs.Published.{Publishes, publishedNumber, publishedBytes}
 use Rattle.publish.specs.declared.Published.{Published}
-use Rattle.told.specs.Publishing.{tbPublished}
+use Rattle.told.specs.Publishing.{tbPublished, tbForwarded}
+use Rattle.told.specs.declared.TbForwarded.{TbForwarded}
 use Rattle.told.specs.declared.TbPublished.{TbPublished}
 
 -- the struct tells the answer that is right of the pile and the buffer out, and the buffer holds afterwards what that
@@ -16,3 +20,10 @@ pub record Tells (pile answers out : List ℕ) (told : TbPublished) (afterwards 
   pub right : Publishes pile answers (length out) answer
   pub same : told ≡ tbPublished answer
   pub left : afterwards ≡ written (publishedNumber answer) (publishedBytes answer pile) out
+
+-- the same of a text and the run that is cut from it
+pub record TellsCut (text answers out : List ℕ) (told : TbForwarded) (afterwards : List ℕ) : Type 0 where
+  pub answer : Forwarded
+  pub right : Forwards text answers (length out) answer
+  pub same : told ≡ tbForwarded answer
+  pub left : afterwards ≡ written (forwardedNumber answer) (forwardedBytes answer (pileOf text)) out

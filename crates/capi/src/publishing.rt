@@ -6,7 +6,9 @@ ghost use Rattle.intake.specs.Entry.{entriesOf};
 ghost use Rattle.intake.specs.Read.{readOf, recordBytes};
 ghost use Rattle.signed.specs.Answers.{ownAnswers};
 ghost use Rattle.told.specs.Publishing.{tbRecords};
-ghost use Rattle.capi.specs.Publishing.{Tells};
+ghost use Rattle.forward.specs.Forwarded.{pileOf};
+ghost use Rattle.capi.specs.Publishing.{Tells, TellsCut};
+use told::TbForwarded;
 use told::TbPublished;
 use told::TbRecords;
 
@@ -40,4 +42,22 @@ pub extern "C" fn tb_write_signed_report(pile: &[u8], out: &mut [u8]) -> TbPubli
         ⌝ }
 {
     told::published_told(forward::write_signed_report(pile, out))
+}
+
+// The text of the shortest run that convicts by itself, out of a text, at the front of out.
+#[no_mangle]
+pub extern "C" fn tb_cut_text<'a>(text: &'a [u8], answers: &'a [u8], out: &mut [u8]) -> TbForwarded
+    ensures { λ r. ⌜ TellsCut (now (text .entry)) (now (answers .entry)) (now (out .entry)) r (now (out .exit)) ⌝ }
+{
+    told::forwarded_told(forward::cut_text(text, answers, out))
+}
+
+// The same with no answers lent.
+#[no_mangle]
+pub extern "C" fn tb_cut_signed_text(text: &[u8], out: &mut [u8]) -> TbForwarded
+    ensures { λ r. ⌜
+        TellsCut (now (text .entry)) (ownAnswers (pileOf (now (text .entry)))) (now (out .entry)) r (now (out .exit))
+        ⌝ }
+{
+    told::forwarded_told(forward::cut_signed_text(text, out))
 }

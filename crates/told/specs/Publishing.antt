@@ -1,11 +1,15 @@
 -- What the reader and the writer of reports in the public format answer, as structs for C.
 use Prim.Native.Nat.{ℕ}
+use Rattle.forward.specs.Forwarded.{forwardedNumber}
+use Rattle.forward.specs.declared.Forwarded.{Forwarded}
+use Rattle.forward.specs.declared.Forwarded.the-variants as forwarded
 use Rattle.intake.specs.Read.{readNumber}
 use Rattle.intake.specs.declared.Read.{Read}
 use Rattle.intake.specs.declared.Read.the-variants as read
 use Rattle.publish.specs.Published.{publishedNumber}
 use Rattle.publish.specs.declared.Published.{Published}
 use Rattle.publish.specs.declared.Published.the-variants.{Text, Bad, Record, Unlinked, Clear, Short}
+use Rattle.told.specs.declared.TbForwarded.{TbForwarded}
 use Rattle.told.specs.declared.TbPublished.{TbPublished}
 use Rattle.told.specs.declared.TbRecords.{TbRecords}
 
@@ -32,3 +36,16 @@ tbPublished (Record why k) = notPublished (publishedNumber (Record why k)) k (wh
 tbPublished (Unlinked k) = notPublished (publishedNumber (Unlinked k)) k 0
 tbPublished Clear = notPublished (publishedNumber Clear) 0 0
 tbPublished Short = notPublished (publishedNumber Short) 0 0
+
+-- a refusal of the cut of a text
+abbrev pub notForwarded : ℕ → TbForwarded
+notForwarded code = record { code = code; first = 0; last = 0; length = 0 }
+
+-- its answer: the places of the run's first and last record and how long its text is, or a refusal
+abbrev pub tbForwarded : Forwarded → TbForwarded
+tbForwarded (forwarded.Text i j n) = record { code = 0; first = i; last = j; length = n }
+tbForwarded forwarded.NoReport = notForwarded (forwardedNumber forwarded.NoReport)
+tbForwarded forwarded.Amount = notForwarded (forwardedNumber forwarded.Amount)
+tbForwarded forwarded.Bad = notForwarded (forwardedNumber forwarded.Bad)
+tbForwarded forwarded.NoRun = notForwarded (forwardedNumber forwarded.NoRun)
+tbForwarded forwarded.Short = notForwarded (forwardedNumber forwarded.Short)

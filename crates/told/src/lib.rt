@@ -22,6 +22,7 @@ pub use numbers::yes;
 pub use piling::judgement_told;
 pub use piling::report_told;
 pub use piling::run_told;
+pub use publishing::forwarded_told;
 pub use publishing::published_told;
 pub use publishing::read_told;
 pub use reading::parts_told;
@@ -164,6 +165,16 @@ pub struct TbPublished {
     pub code: u32,
     pub place: u64,
     pub at: u64,
+    pub length: u64,
+}
+
+// What `tb_cut_text` and `tb_cut_signed_text` answer: the places of the first and the last record of the run, and how
+// long its text is.
+#[repr(C)]
+pub struct TbForwarded {
+    pub code: u32,
+    pub first: u64,
+    pub last: u64,
     pub length: u64,
 }
 

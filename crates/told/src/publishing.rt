@@ -1,8 +1,10 @@
 // What the reader and the writer of reports in the public format answer, as structs.
 ghost use mathlib.Core.Path.{_≡_};
-ghost use Rattle.told.specs.Publishing.{notRead, tbRecords, notPublished, tbPublished};
+ghost use Rattle.told.specs.Publishing.{notRead, tbRecords, notPublished, tbPublished, notForwarded, tbForwarded};
+use super::TbForwarded;
 use super::TbPublished;
 use super::TbRecords;
+use forward::Forwarded;
 use intake::Read;
 use publish::Published;
 
@@ -58,6 +60,37 @@ fn not_published(code: u32, place: usize, at: usize) -> TbPublished
         code: code,
         place: place as u64,
         at: at as u64,
+        length: 0,
+    }
+}
+
+// Which records the run has and how long its text is, or why there is none.
+pub fn forwarded_told(a: Forwarded) -> TbForwarded
+    ensures { λ r. ⌜ r ≡ tbForwarded a ⌝ }
+{
+    match a {
+        Forwarded::Text(i, j, n) => TbForwarded {
+            code: 0,
+            first: i as u64,
+            last: j as u64,
+            length: n as u64,
+        },
+        Forwarded::NoReport => not_forwarded(24),
+        Forwarded::Amount => not_forwarded(25),
+        Forwarded::Bad => not_forwarded(15),
+        Forwarded::NoRun => not_forwarded(18),
+        Forwarded::Short => not_forwarded(19),
+    }
+}
+
+// A refusal of the cut of a text.
+fn not_forwarded(code: u32) -> TbForwarded
+    ensures { λ r. ⌜ r ≡ notForwarded code ⌝ }
+{
+    TbForwarded {
+        code: code,
+        first: 0,
+        last: 0,
         length: 0,
     }
 }
