@@ -70,7 +70,7 @@ pub fn read_report(text: &[u8], out: &mut [u8]) -> Read
         return Read::NoReport;
     };
     if !all_of(text, v) {
-        return Read::NoReport;
+        return Read::NoReport; // whatever the number of entries
     }
     let n = count(text, v);
     if n == 0 {
