@@ -19,7 +19,7 @@ pub struct Limits {
     pub signed: f64,
     /// A server with a whole batch against the independent implementation.
     pub servers: f64,
-    /// The longest report as JSON, read, against the independent implementation. Ours makes no tree
+    /// The longest report as JSON, read or cut, against the independent implementation. Ours makes no tree
     /// of values, and goes over the text again for each thing that it asks of it.
     pub texts_read: f64,
     /// The same, written.

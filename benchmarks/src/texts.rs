@@ -1,5 +1,5 @@
-//! Reports as JSON: the longest there is, read and written, and texts of a mebibyte that could take
-//! a reader long.
+//! Reports as JSON: the longest there is, read, written and cut, and texts of a mebibyte that could
+//! take a reader long.
 //!
 //! No buffer is cleared between runs.
 
@@ -41,11 +41,24 @@ impl Full {
         ]
     }
 
+    fn cut(&self) -> [Work<'_>; 2] {
+        let (mut out, mut there) = (vec![0; LONGEST_REPORT], vec![0; LONGEST_REPORT]);
+        let (text, answers) = (&self.text[..], &self.made.answers[..]);
+        [
+            work(move || trawlbeacon::cut_text(black_box(text), black_box(answers), &mut out)),
+            work(move || {
+                let cut = report_text::cut(black_box(text), black_box(answers));
+                there.copy_from_slice(cut.expect("the whole convicts").1.as_bytes());
+            }),
+        ]
+    }
+
     /// What is timed of the longest report.
     pub fn subjects(&self, limits: &Limits) -> Vec<Subject<'_>> {
         let read = ("read", limits.texts_read, read(&self.text));
         let write = ("write", limits.texts_written, self.write());
-        let named = [read, write].map(|(name, limit, works)| {
+        let cut = ("cut", limits.texts_read, self.cut());
+        let named = [read, write, cut].map(|(name, limit, works)| {
             let name = format!("{name} {MOST_RECORDS} x {} B", independent::packet::MOST);
             subject(name, self.text.len(), Some(limit), works)
         });

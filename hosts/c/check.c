@@ -869,6 +869,14 @@ static void expect_report_wrote(const char *what, struct tb_published is, uint64
     expect_number(what, is.length, length);
 }
 
+static void expect_text_cut(const char *what, struct tb_forwarded is, uint64_t code, uint64_t first,
+                            uint64_t last, uint64_t length) {
+    expect_number(what, is.code, code);
+    expect_number(what, is.first, first);
+    expect_number(what, is.last, last);
+    expect_number(what, is.length, length);
+}
+
 /* The text of the four records, read: as it is, with too little room, and where it is none. */
 static void expect_read(const uint8_t *pile, const uint8_t *text, size_t n) {
     static const char none[] = "{\"responses\": []}";
@@ -927,11 +935,32 @@ static void expect_written(uint8_t *pile, const uint8_t *text, size_t n) {
     expect_all("what follows the text", out + n, 0xee, sizeof out - n);
 }
 
+/* The run of the four records, cut out of their text. */
+static void expect_cut_texts(const uint8_t *pile, const uint8_t *text, size_t n) {
+    static char should[TB_LONGEST_REPORT];
+    static uint8_t out[TB_LONGEST_REPORT];
+    size_t m = 2 * RECORDS, length = put_report(should, pile + 2 * TB_RECORD_LENGTH, 2);
+    memset(out, 0xee, sizeof out);
+    expect_text_cut("tb_cut_text of a byte less", tb_cut_text(text, n - 1, YES, m, out, sizeof out),
+                    24, 0, 0, 0);
+    expect_text_cut("tb_cut_text of too many answers",
+                    tb_cut_text(text, n, YES, m + 1, out, sizeof out), 15, 0, 0, 0);
+    expect_text_cut("tb_cut_text without room", tb_cut_text(text, n, YES, m, out, length - 1), 19,
+                    0, 0, 0);
+    expect_text_cut("tb_cut_signed_text", tb_cut_signed_text(text, n, out, sizeof out), 18, 0, 0,
+                    0);
+    expect_all("the buffer of a refused cut", out, 0xee, sizeof out);
+    expect_text_cut("tb_cut_text", tb_cut_text(text, n, YES, m, out, length), 0, 2, 3, length);
+    expect_bytes("the text of the run", out, (const uint8_t *)should, length);
+    expect_all("what follows that text", out + length, 0xee, sizeof out - length);
+}
+
 static void expect_report_texts(uint8_t *pile) {
     static char text[TB_LONGEST_REPORT];
     size_t n = put_report(text, pile, RECORDS);
     expect_read(pile, (const uint8_t *)text, n);
     expect_written(pile, (const uint8_t *)text, n);
+    expect_cut_texts(pile, (const uint8_t *)text, n);
 }
 
 /* The four records, and what becomes of the report and the run where something is wrong with one of

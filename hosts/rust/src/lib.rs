@@ -61,7 +61,10 @@ pub use piles::{
     ReportRefusal, Run, MOST_RECORDS, RECORD_LENGTH,
 };
 pub use refusal::{PacketRefusal, Refusal};
-pub use reports::{read_report, write_report, write_signed_report, LONGEST_REPORT};
+pub use reports::{
+    cut_signed_text, cut_text, read_report, write_report, write_signed_report, CutText,
+    LONGEST_REPORT,
+};
 pub use servers::{find_server, Found, List, SERVER_LENGTH};
 pub use serving::{
     response_length, write_cert, write_dele, write_response, write_srep, Reply, CERT_LENGTH,

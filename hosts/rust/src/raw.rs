@@ -247,6 +247,20 @@ pub struct tb_published {
     pub length: u64,
 }
 
+/// What a function answers that cuts a report as text.
+#[repr(C)]
+#[derive(Clone, Copy, Debug, PartialEq, Eq)]
+pub struct tb_forwarded {
+    /// 0, or a refusal; then all else is 0.
+    pub code: u32,
+    /// The place of the first record of the run.
+    pub first: u64,
+    /// The place of the last one.
+    pub last: u64,
+    /// How many bytes were written.
+    pub length: u64,
+}
+
 /// What [`tb_old_window`] answers.
 #[repr(C)]
 #[derive(Clone, Copy, Debug, PartialEq, Eq)]
@@ -537,6 +551,22 @@ extern "C" {
         out: *mut u8,
         out_len: usize,
     ) -> tb_published;
+    /// Reads a report as JSON, and writes the run of it that convicts by itself.
+    pub fn tb_cut_text(
+        text: *const u8,
+        text_len: usize,
+        answers: *const u8,
+        answers_len: usize,
+        out: *mut u8,
+        out_len: usize,
+    ) -> tb_forwarded;
+    /// The same by its own signatures.
+    pub fn tb_cut_signed_text(
+        text: *const u8,
+        text_len: usize,
+        out: *mut u8,
+        out_len: usize,
+    ) -> tb_forwarded;
 
     /// The window of a stamp of the 2021 draft.
     pub fn tb_old_window(midp: u64, radi: u32) -> tb_old;

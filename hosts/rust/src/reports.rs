@@ -4,11 +4,20 @@
 // How many records or bytes there are, and a place, is told of what stands in a buffer that was
 // lent, so nothing is lost where it becomes a usize.
 
-use crate::{raw, PacketRefusal, Refusal, ReportRefusal};
+use crate::{raw, PacketRefusal, Refusal, ReportRefusal, Run};
 
 /// The most bytes that a report has that is written here: 16 records with packets of 2,000 bytes. A
 /// text that is read may be longer.
 pub const LONGEST_REPORT: usize = 87_609;
+
+/// The run that was cut out of a text.
+#[derive(Clone, Copy, Debug, PartialEq, Eq)]
+pub struct CutText {
+    /// Its ends' places among the entries of the text.
+    pub run: Run,
+    /// How many bytes of text were written.
+    pub length: usize,
+}
 
 /// Reads a report into the records of a pile: they are written at the front of `out`, and how many
 /// they are is the answer. What follows them stays. `out` must have
@@ -92,4 +101,50 @@ fn of_wrote(wrote: raw::tb_published) -> Result<usize, ReportRefusal> {
             Err(ReportRefusal { refusal, place: of_a_record.then_some(wrote.place as usize), at })
         }
     }
+}
+
+/// Reads a report, cuts out of its records the run that convicts by itself, as
+/// [`cut_run`](crate::cut_run) does, and writes that at the front of `out`, as text. What follows
+/// it stays; [`LONGEST_REPORT`] bytes are always enough. `answers` are those about the text's
+/// records, two bytes each.
+///
+/// The refusals are 24, 25, 15, 18 and 19, and then all of `out` stays.
+///
+/// ```
+/// use trawlbeacon::{cut_text, Refusal, LONGEST_REPORT};
+///
+/// let mut out = [0; LONGEST_REPORT];
+/// assert_eq!(cut_text(b"[1, 2", &[], &mut out), Err(Refusal::ReportText));
+/// assert_eq!(cut_text(br#"{"responses": []}"#, &[], &mut out), Err(Refusal::Entries));
+/// ```
+pub fn cut_text(text: &[u8], answers: &[u8], out: &mut [u8]) -> Result<CutText, Refusal> {
+    let (from, told, to) = (text.as_ptr(), answers.as_ptr(), out.as_mut_ptr());
+    // SAFETY: see raw.
+    of_cut_text(unsafe { raw::tb_cut_text(from, text.len(), told, answers.len(), to, out.len()) })
+}
+
+/// What [`cut_text`] does, with each record judged by its own signatures and not by answers. The
+/// refusals are 24, 25, 18 and 19.
+///
+/// ```
+/// # let vectors = concat!(env!("CARGO_MANIFEST_DIR"), "/../../vectors");
+/// # let text = std::fs::read(format!("{vectors}/malfeasance-report.json")).unwrap();
+/// // The report of draft 19, appendix B: the first two of its three responses convict.
+/// let mut out = [0; trawlbeacon::LONGEST_REPORT];
+/// let cut = trawlbeacon::cut_signed_text(&text, &mut out)?;
+/// assert_eq!((cut.run.first, cut.run.last), (0, 1));
+/// assert!(out[..cut.length].ends_with(br#""}]}"#));
+/// # Ok::<(), trawlbeacon::Refusal>(())
+/// ```
+pub fn cut_signed_text(text: &[u8], out: &mut [u8]) -> Result<CutText, Refusal> {
+    let (from, to) = (text.as_ptr(), out.as_mut_ptr());
+    // SAFETY: see raw.
+    of_cut_text(unsafe { raw::tb_cut_signed_text(from, text.len(), to, out.len()) })
+}
+
+/// What the library answered about a run that is written as text, as a result.
+fn of_cut_text(cut: raw::tb_forwarded) -> Result<CutText, Refusal> {
+    Refusal::check(cut.code)?;
+    let run = Run { first: cut.first as usize, last: cut.last as usize };
+    Ok(CutText { run, length: cut.length as usize })
 }
