@@ -11,6 +11,7 @@ use lib.Seq.{ext-getD, getD-take, getD-drop, take-at, length-take-le}
 use Rattle.laws.specs.Bytes.{Bytes}
 use Rattle.laws.specs.Pairs.{IsLeast}
 use Rattle.laws.specs.Pasted.{pasted}
+use Rattle.laws.specs.Written.{written}
 use Rattle.laws.proofs.Pasted.{length-part}
 use Rattle.pile.specs.Meaning.{WholePile}
 use Rattle.pile.specs.Pile.{recordAt, keyIn}
@@ -23,11 +24,12 @@ use Rattle.report.specs.declared.Taken.the-variants.{Run, NoRun}
 use Rattle.report.proofs.Behind.{same-response}
 use Rattle.report.proofs.CutBytes.{RunIn, count-run, record-first, record-later, record-alike}
 use Rattle.report.proofs.CutReports.{taken-exactly, none-exactly}
-use Rattle.report.proofs.Stands.{taken-run, cut-is-report, cut-stands}
+use Rattle.report.proofs.Stands.{taken-run, cut-is-report, cut-stands, cut-front}
 use Rattle.runs.proofs.SamePile.{same-least}
 use Rattle.signed.specs.Answers.{delegated, responded, delegatedAt, respondedAt, ownAnswer, ownAnswers}
-use Rattle.signed.specs.Meaning.{SignedReportIn}
+use Rattle.signed.specs.Meaning.{IsSignedReport, SignedReportIn}
 use Rattle.signed.proofs.Own.{own-length, own-at, own-good}
+use Rattle.signed.proofs.Alone.{report-alone}
 
 module _ {pile answers : List ℕ} {i j : ℕ} (run : RunIn pile answers i j) where
   long : 32 ≤ length (recordAt pile i)
@@ -89,7 +91,9 @@ module _ (pile : List ℕ) (whole : WholePile pile) (bytes : Bytes pile) where
         record {
           order = p .order;
           inside = p .inside;
-          report = subst (λ (a : List ℕ). IsReport (runBytes i j pile) a) (sym (own-run run)) (p .report);
+          report =
+              report-alone (runBytes i j pile) .0
+              (subst (λ (a : List ℕ). IsReport (runBytes i j pile) a) (sym (own-run run)) (p .report));
         },
     λ p.
         let run : RunIn pile (ownAnswers pile) i j =
@@ -97,7 +101,9 @@ module _ (pile : List ℕ) (whole : WholePile pile) (bytes : Bytes pile) where
         record {
           order = p .order;
           inside = p .inside;
-          report = subst (λ (a : List ℕ). IsReport (runBytes i j pile) a) (own-run run) (p .report);
+          report =
+              subst (λ (a : List ℕ). IsReport (runBytes i j pile) a) (own-run run)
+              (report-alone (runBytes i j pile) .1 (p .report));
         },
   )
 
@@ -126,13 +132,27 @@ module _
   its-own = own-run (taken-run pile (ownAnswers pile) bytes room i j t)
 
   -- the bytes taken are a report with nothing beside them,
-  pub cut-alone : IsReport (runBytes i j pile) (ownAnswers (runBytes i j pile))
+  pub cut-alone : IsSignedReport (runBytes i j pile)
   cut-alone =
-      subst (λ (a : List ℕ). IsReport (runBytes i j pile) a) (sym its-own)
-      (cut-is-report pile (ownAnswers pile) bytes room i j t)
+      report-alone (runBytes i j pile) .0
+      (subst (λ (a : List ℕ). IsReport (runBytes i j pile) a) (sym its-own)
+      (cut-is-report pile (ownAnswers pile) bytes room i j t))
 
-  -- and the check of it names its first and its last record
+  -- and the check of it names its first and its last record;
   pub stands-alone : (r : Report) → Reports (runBytes i j pile) (ownAnswers (runBytes i j pile)) r → r ≡ Pair 0 (j - i)
   stands-alone r s =
       cut-stands pile (ownAnswers pile) bytes room i j t r
       (subst (λ (a : List ℕ). Reports (runBytes i j pile) a r) its-own s)
+
+  -- the first j - i + 1 records of the buffer are that report,
+  pub front-alone : (out : List ℕ) → IsSignedReport (take (4096 * (j - i + 1)) (written 0 (runBytes i j pile) out))
+  front-alone out = subst IsSignedReport (sym (cut-front pile (ownAnswers pile) bytes room i j t out)) cut-alone
+
+  -- and the check of these answers the same
+  pub front-stands-alone : (out : List ℕ) (r : Report)
+      → Reports (take (4096 * (j - i + 1)) (written 0 (runBytes i j pile) out))
+      (ownAnswers (take (4096 * (j - i + 1)) (written 0 (runBytes i j pile) out))) r
+      → r ≡ Pair 0 (j - i)
+  front-stands-alone out r s =
+      stands-alone r
+      (subst (λ (l : List ℕ). Reports l (ownAnswers l) r) (cut-front pile (ownAnswers pile) bytes room i j t out) s)

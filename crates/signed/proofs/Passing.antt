@@ -28,7 +28,7 @@ use Rattle.signed.proofs.Verdicts.{until-check, same-checked, checked-t
 -- ---- demand 2
 
 -- the sentence does not ask more of the packets where both answers are yes
-with-answers : {q p : List ℕ} {d s e t : Bool} → e ≡ true → t ≡ true → Passes q p d s → Passes q p e t
+pub with-answers : {q p : List ℕ} {d s e t : Bool} → e ≡ true → t ≡ true → Passes q p d s → Passes q p e t
 with-answers y z o = record {
   request = o .request;
   shape = o .shape;
@@ -47,24 +47,28 @@ module _ (key q p : List ℕ) where
   texts : Passes q p true true → signedCode p .code ≡ 0
   texts o = checked-texts q p (passes-code q p true true o)
 
+  -- so the sentence with these answers is the one with "verifies",
+  pub passes-alone : Passes q p (delegated key p) (responded p) ↔ PassesSigned key q p
+  passes-alone = (
+    λ o.
+        let rest = with-answers refl refl o in
+        let z = texts rest in
+        record {
+          rest = rest;
+          delegation = sym (delegated-as key p z) ∙ o .delegation;
+          signature = sym (responded-as key p z) ∙ o .signature;
+        },
+    λ o.
+        let z = texts (o .rest) in
+        with-answers (delegated-as key p z ∙ o .delegation) (responded-as key p z ∙ o .signature) (o .rest),
+  )
+
+  -- and the check passes exactly where that holds
   pub signed-exactly : Bytes q → Bytes p
       → verdictOf q p (delegated key p) (responded p) ≡ Valid (windowIn (body p)) ↔ PassesSigned key q p
   signed-exactly q-bytes p-bytes =
-      let exactly = passes-exactly q p (delegated key p) (responded p) q-bytes p-bytes in (
-        λ e.
-            let o = exactly .0 e in
-            let rest = with-answers refl refl o in
-            let z = texts rest in
-            record {
-              rest = rest;
-              delegation = sym (delegated-as key p z) ∙ o .delegation;
-              signature = sym (responded-as key p z) ∙ o .signature;
-            },
-        λ o.
-            let z = texts (o .rest) in
-            exactly .1
-            (with-answers (delegated-as key p z ∙ o .delegation) (responded-as key p z ∙ o .signature) (o .rest)),
-      )
+      let exactly = passes-exactly q p (delegated key p) (responded p) q-bytes p-bytes in
+      (λ e. passes-alone .0 (exactly .0 e), λ o. exactly .1 (passes-alone .1 o))
 
 -- ---- signatures come last
 

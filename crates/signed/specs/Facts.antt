@@ -5,7 +5,8 @@ use lib.Dec.{T}
 use Rattle.report.specs.Report.{refused}
 use Rattle.verdict.specs.declared.Verdict.{Verdict}
 
--- of n records with the verdicts w, v has those up to the first that is refused, or all where none is
+-- of n records with the verdicts w, v has those of the first `known`: all, or else the last of these is refused.
+-- Whether one before it is refused too is not said
 pub record UpToRefused (v w : ℕ → Verdict) (n : ℕ) : Type 0 where
   pub known : ℕ
   pub most : known ≤ n

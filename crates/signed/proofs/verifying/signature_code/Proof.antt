@@ -26,9 +26,9 @@ returns-2 c =
 returns-3 : tie.Need-returns-3
 unfolding answersCode
 returns-3 c =
-    let r = c .before in
-    test-false refusals _ _ (ap not (r .before .before .delegation-verifies .ensures)) (r .before .if1 .left)
-    (test-false refusals _ _ (ap not (r .response-verifies .ensures)) (c .if2 .left) (is-empty refusals refl))
+    let both = c .before in
+    test-false refusals _ _ (ap not (both .before .before .delegation-verifies .ensures)) (both .before .if1 .left)
+    (test-false refusals _ _ (ap not (both .response-verifies .ensures)) (c .if2 .left) (is-empty refusals refl))
 
 pub signature-code-spec : {M : Type 1} → statement M
 signature-code-spec =
