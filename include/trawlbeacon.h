@@ -768,7 +768,7 @@ struct tb_forwarded {
 struct tb_forwarded tb_cut_text(const uint8_t *text, size_t text_len, const uint8_t *answers,
                                 size_t answers_len, uint8_t *out, size_t out_len);
 
-/* The same with no answers lent. */
+/* The same with no answers lent. What a verification takes of stack comes on top. */
 struct tb_forwarded tb_cut_signed_text(const uint8_t *text, size_t text_len, uint8_t *out,
                                        size_t out_len);
 
