@@ -213,6 +213,10 @@ static inline const char *tb_code_text(uint32_t code) {
  * hosts/c/stack.c measures them anew. */
 #define TB_VERIFY_STACK 65536
 
+/* Bytes of stack that are enough for tb_cut_text and tb_cut_signed_text, which hold sixteen records
+ * there: 73,000 and 118,880, measured on x86-64. hosts/c/stack.c measures them anew. */
+#define TB_TEXT_STACK 163840
+
 /* Bytes of a record of a list of servers. */
 #define TB_SERVER_LENGTH 64
 
@@ -764,11 +768,11 @@ struct tb_forwarded {
 /* From text to text in one call: reads the text as tb_read_report does, cuts the shortest run that
  * convicts by itself out of its records as tb_cut_run does, and writes that run's text. The answers
  * are two a record of the text. The codes are 24 and 25, 15 for the answers, 18, and 19 for the
- * text. The call takes some 64 KB of stack for the records. */
+ * text. The records stand on the stack meanwhile: TB_TEXT_STACK. */
 struct tb_forwarded tb_cut_text(const uint8_t *text, size_t text_len, const uint8_t *answers,
                                 size_t answers_len, uint8_t *out, size_t out_len);
 
-/* The same with no answers lent. What a verification takes of stack comes on top. */
+/* The same with no answers lent. */
 struct tb_forwarded tb_cut_signed_text(const uint8_t *text, size_t text_len, uint8_t *out,
                                        size_t out_len);
 

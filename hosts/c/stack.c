@@ -1,7 +1,8 @@
 /* Measures the stack that each tree operation takes, and holds the most of them to the header's
  * TB_TREE_STACK: with that much every operation ends, and on one page less than the most some
  * operation runs off the end. A verification is measured too, and every form that verifies by
- * itself, and the most of those is held to TB_VERIFY_STACK.
+ * itself, and the most of those is held to TB_VERIFY_STACK; and what goes from text to text, which
+ * is held to TB_TEXT_STACK.
  *
  * Each call runs on a stack of this program's own, which is painted first and has memory below it
  * that nobody may touch. That is done with contexts and not with threads, since a C library wants
@@ -69,6 +70,17 @@ static void call_cut_signed_run(void) {
     code = tb_cut_signed_run(pile, sizeof pile, run, sizeof run).code;
 }
 
+/* The same report as a text, and its three records' answers. */
+static uint8_t text[TB_LONGEST_REPORT], cut[TB_LONGEST_REPORT];
+static size_t text_length;
+static void call_cut_text(void) {
+    static const uint8_t YES[2 * DRAFTS] = {1, 1, 1, 1, 1, 1};
+    code = tb_cut_text(text, text_length, YES, sizeof YES, cut, sizeof cut).code;
+}
+static void call_cut_signed_text(void) {
+    code = tb_cut_signed_text(text, text_length, cut, sizeof cut).code;
+}
+
 static const struct operation {
     const char *name;
     void (*call)(void);
@@ -83,6 +95,9 @@ static const struct operation SIGNED[] = {{"tb_answers", call_answers},
                                           {"tb_judge_signed", call_judge_signed},
                                           {"tb_check_signed_report", call_check_signed_report},
                                           {"tb_cut_signed_run", call_cut_signed_run}};
+
+static const struct operation TEXTS[] = {{"tb_cut_text", call_cut_text},
+                                         {"tb_cut_signed_text", call_cut_signed_text}};
 
 /* Around the numbers at which another row is taken or a level comes. */
 static const size_t COUNTS[] = {1, 2, 32, 33, 512, 513, 900, TB_MOST_LEAVES};
@@ -164,6 +179,15 @@ int main(void) {
         if (n > verifying) verifying = n;
         printf("%-22s %6zu\n", SIGNED[i].name, n);
     }
+    size_t cutting = 0;
+    text_length = (size_t)tb_write_signed_report(pile, sizeof pile, text, sizeof text).length;
+    for (size_t i = 0; i < SIZE(TEXTS); i++) {
+        code = UINT32_MAX;
+        size_t n = taken(stack, TEXTS[i].call) - before;
+        verified = verified && code == TB_PASSED;
+        if (n > cutting) cutting = n;
+        printf("%-22s %6zu, and the header says %d\n", TEXTS[i].name, n, TB_TEXT_STACK);
+    }
     /* What a call of nothing takes is not the library's, but stands on the same stack. */
     size_t pages = (most + PAGE - 1) / PAGE * PAGE;
     int fits = most - before <= TB_TREE_STACK, enough = all_end_on(TB_TREE_STACK);
@@ -171,5 +195,6 @@ int main(void) {
     printf("the most is %zu bytes; all end on the %d that the header says: %s, on %zu: %s\n",
            most - before, TB_TREE_STACK, enough ? "yes" : "NO", pages - PAGE,
            needed ? "no" : "YES");
-    return fits && enough && needed && verified && verifying <= TB_VERIFY_STACK ? 0 : 1;
+    int held = verifying <= TB_VERIFY_STACK && cutting <= TB_TEXT_STACK;
+    return fits && enough && needed && verified && held ? 0 : 1;
 }
