@@ -208,10 +208,9 @@ static inline const char *tb_code_text(uint32_t code) {
 #define TB_TREE_STACK 40960
 
 /* Bytes of stack that are enough for a verification, which has a table of 10,240 numbers there, and
- * for every function that verifies by itself but tb_cut_signed_text, which has 65,536 bytes of
- * records there as well. A verification takes 48,744 at the most, measured on aarch64, and 48,864 on
- * x86-64, where tb_cut_signed_run takes 52,128. hosts/c/stack.c measures them anew, but for
- * tb_write_signed_report and tb_cut_signed_text. */
+ * for every function that verifies by itself but tb_cut_signed_text. A verification takes 48,744 at
+ * the most, measured on aarch64, and 48,864 on x86-64, where tb_cut_signed_run takes 53,248.
+ * hosts/c/stack.c measures them anew. */
 #define TB_VERIFY_STACK 65536
 
 /* Bytes of stack that are enough for tb_cut_text and tb_cut_signed_text, which hold sixteen records
@@ -773,7 +772,7 @@ struct tb_forwarded {
 struct tb_forwarded tb_cut_text(const uint8_t *text, size_t text_len, const uint8_t *answers,
                                 size_t answers_len, uint8_t *out, size_t out_len);
 
-/* The same with no answers lent. The call takes that stack beside TB_VERIFY_STACK. */
+/* The same with no answers lent. */
 struct tb_forwarded tb_cut_signed_text(const uint8_t *text, size_t text_len, uint8_t *out,
                                        size_t out_len);
 

@@ -81,6 +81,10 @@ static void call_cut_signed_text(void) {
     code = tb_cut_signed_text(text, text_length, cut, sizeof cut).code;
 }
 
+static void call_write_signed_report(void) {
+    code = tb_write_signed_report(pile, sizeof pile, text, sizeof text).code;
+}
+
 static const struct operation {
     const char *name;
     void (*call)(void);
@@ -94,7 +98,8 @@ static const struct operation SIGNED[] = {{"tb_answers", call_answers},
                                           {"tb_check_signed", call_check_signed},
                                           {"tb_judge_signed", call_judge_signed},
                                           {"tb_check_signed_report", call_check_signed_report},
-                                          {"tb_cut_signed_run", call_cut_signed_run}};
+                                          {"tb_cut_signed_run", call_cut_signed_run},
+                                          {"tb_write_signed_report", call_write_signed_report}};
 
 static const struct operation TEXTS[] = {{"tb_cut_text", call_cut_text},
                                          {"tb_cut_signed_text", call_cut_signed_text}};
