@@ -955,12 +955,33 @@ static void expect_cut_texts(const uint8_t *pile, const uint8_t *text, size_t n)
     expect_all("what follows that text", out + length, 0xee, sizeof out - length);
 }
 
+/* The draft's own report, whose signatures verify: written, cut to its first two records, and both
+ * read again. */
+static void expect_signed_texts(void) {
+    static uint8_t report[REPORT_LENGTH], back[REPORT_LENGTH];
+    static uint8_t text[TB_LONGEST_REPORT], out[TB_LONGEST_REPORT];
+    lay_report(report);
+    struct tb_published wrote =
+        tb_write_signed_report(report, sizeof report, text, sizeof text);
+    size_t n = (size_t)wrote.length;
+    expect_report_wrote("tb_write_signed_report of the draft's report", wrote, 0, 0, 0, n);
+    expect_number("the records of its text",
+                  tb_read_report(text, n, back, sizeof back).records, DRAFTS);
+    expect_bytes("its records again", back, report, sizeof report);
+    struct tb_forwarded cut = tb_cut_signed_text(text, n, out, sizeof out);
+    expect_text_cut("tb_cut_signed_text of the draft's report", cut, 0, 0, 1, cut.length);
+    expect_number("the records of the run's text",
+                  tb_read_report(out, (size_t)cut.length, back, sizeof back).records, 2);
+    expect_bytes("the run's records", back, report, 2 * TB_RECORD_LENGTH);
+}
+
 static void expect_report_texts(uint8_t *pile) {
     static char text[TB_LONGEST_REPORT];
     size_t n = put_report(text, pile, RECORDS);
     expect_read(pile, (const uint8_t *)text, n);
     expect_written(pile, (const uint8_t *)text, n);
     expect_cut_texts(pile, (const uint8_t *)text, n);
+    expect_signed_texts();
 }
 
 /* The four records, and what becomes of the report and the run where something is wrong with one of

@@ -7,7 +7,7 @@ mod support;
 use independent::appendix;
 use independent::making::Made;
 use independent::pile::RECORD;
-use independent::report_text;
+use independent::report_text::{self, Entry};
 use support::cut_answers as asking;
 use support::published::{entries_of, pile_with, text_of, Fault, FAULTS};
 use support::signing::Servers;
@@ -38,6 +38,10 @@ fn both_sides_cut_the_same() {
             due = Err(15);
         }
         if random.once_in(20) {
+            text = wrong_number(&mut random, &entries);
+            due = Err(25);
+        }
+        if random.once_in(20) {
             text.push(b'}');
             due = Err(24);
         }
@@ -60,7 +64,14 @@ fn both_sides_cut_the_same() {
     println!("{TEXTS} texts cut, ours compared with independent, and judged again; codes:");
     println!("{}", tally.table("code"));
     tally.no_difference();
-    tally.at_least(100, CUTS, [0, 15, 18, 19, 24]);
+    tally.at_least(100, CUTS, [0, 15, 18, 19, 24, 25]);
+}
+
+/// The text of no entry, or of 17 and more.
+fn wrong_number(random: &mut Xorshift, entries: &[Entry]) -> Vec<u8> {
+    let count = random.pick(&[0, 17, 18, 40]);
+    let entries: Vec<Entry> = entries.iter().cycle().take(count).cloned().collect();
+    report_text::text(&entries).into_bytes()
 }
 
 /// What was cut stands by itself: its records are a report, for the first and the last of them.
@@ -92,7 +103,8 @@ fn both_sides_judge_the_same_signatures() {
     let mut random = Xorshift::new(0x5eed_0705);
     let servers = Servers::new(&mut random, 6);
     let mut tally = Tally::new(&[CUTS]);
-    for number in 0..SIGNED {
+    let mut number = 0;
+    while number < SIGNED {
         let fault = random.pick(&FAULTS[..FAULTS.len() - 1]);
         let (Made { pile, .. }, truth) = pile_with(&mut random, fault, Some(&servers));
         let Some(entries) = entries_of(&pile) else { continue };
@@ -105,6 +117,7 @@ fn both_sides_judge_the_same_signatures() {
             Some(_) => 0,
         };
         tally.answer(CUTS, &both, Some(due), || format!("text {number}"));
+        number += 1;
     }
     for (text, code) in [(&b"{}"[..], 24), (b"{\"responses\":[]}", 25)] {
         let both = asking::cut_signed(&servers.ed25519, text, &[]);
