@@ -1,0 +1,2 @@
+-- What holds of reports in the public format.
+pub mod Reported
