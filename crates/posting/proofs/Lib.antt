@@ -1,2 +1,3 @@
 -- What holds of reports in the public format.
 pub mod Reported
+pub mod Codes

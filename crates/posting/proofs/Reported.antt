@@ -1,6 +1,6 @@
 -- The reader's definition finds entries in a text exactly where the text is a report of these entries.
 use Prim.Native.Nat.{ℕ, _+_}
-use mathlib.Core.Path.{_≡_, refl, sym, _∙_, ap, ap₂}
+use mathlib.Core.Path.{_≡_, refl, sym, _∙_, ap₂}
 use mathlib.Core.Bool.{Bool, true, false}
 use mathlib.Core.List.{List, [], _∷_}
 use mathlib.Core.Logic.{_↔_}
@@ -9,21 +9,19 @@ use borrow.Author.Tests.{eq-eqb, eqb-true}
 use lib.Dec.{eqb}
 use lib.ListN.{length, getD}
 use Rattle.laws.specs.Pick.{pick, either, both}
-use Rattle.json.specs.declared.Skip.{Skip}
 use Rattle.json.specs.declared.Skip.the-variants.{Past, Bad}
 use Rattle.json.specs.declared.Found.{Found}
 use Rattle.json.specs.declared.Found.the-variants.{At, Nothing, Twice}
-use Rattle.json.specs.Scan.{pastWhile, blank}
 use Rattle.json.specs.Value.{isText}
 use Rattle.json.specs.Members.{foundOf}
 use Rattle.base64.specs.Decode.{Decoded, bytes, none}
-use Rattle.intake.specs.Entry.{Entry, Entries, these, unread, randName, keyName, requestName, responseName}
+use Rattle.intake.specs.Entry.{Entry, these, unread, randName, keyName, requestName, responseName}
 use Rattle.intake.specs.Entry.{responsesName, stringOf, textPlace, decodedAt, memberOf, is64, held, is32, randGood}
 use Rattle.intake.specs.Entry.{hasAll, entryAt, elementsOf, allOf, entriesAt, listOf, listPlace, entriesFrom, entriesOf}
 use Rattle.grammar.proofs.Exactly.{is-json}
 use Rattle.grammar.proofs.Spans.{both-parts}
 use Rattle.posting.specs.Reported.{Member, Member32, Rand, ResponseObject, ResponseObjects, no-more, then-more}
-use Rattle.posting.specs.Reported.{ReportText}
+use Rattle.posting.specs.Reported.{outermost, ReportText}
 
 no-bytes : {x : List ℕ} → none ≡ bytes x → ⊥
 no-bytes e = let z : _≡_ {A = ℕ} 0 1 = cc in omega arith
@@ -142,11 +140,8 @@ unfolding entriesOf listPlace listOf entriesFrom pick
 report-found s es h =
     by-text (isText s) refl h
   where
-    start : ℕ
-    start = pastWhile blank s 0
-
-    by-all : (v : ℕ) (b : Bool) → isText s ≡ true → eqb (getD s (pastWhile blank s 0) 0) 123 ≡ true
-        → foundOf s responsesName 15 (pastWhile blank s 0) ≡ At v → eqb (getD s v 0) 91 ≡ true
+    by-all : (v : ℕ) (b : Bool) → isText s ≡ true → eqb (getD s (outermost s) 0) 123 ≡ true
+        → foundOf s responsesName 15 (outermost s) ≡ At v → eqb (getD s v 0) 91 ≡ true
         → allOf s true (elementsOf s 14 v) ≡ b
         → pick b (these (entriesAt s true (elementsOf s 14 v))) unread ≡ these es → ReportText s es
     by-all v true t o f l a h =
@@ -161,30 +156,30 @@ report-found s es h =
         }
     by-all v false t o f l a h = absurd (not-these h)
 
-    by-list : (v : ℕ) (b : Bool) → isText s ≡ true → eqb (getD s (pastWhile blank s 0) 0) 123 ≡ true
-        → foundOf s responsesName 15 (pastWhile blank s 0) ≡ At v → eqb (getD s v 0) 91 ≡ b
+    by-list : (v : ℕ) (b : Bool) → isText s ≡ true → eqb (getD s (outermost s) 0) 123 ≡ true
+        → foundOf s responsesName 15 (outermost s) ≡ At v → eqb (getD s v 0) 91 ≡ b
         → entriesFrom s (pick b (Past v) Bad) ≡ these es → ReportText s es
     by-list v true t o f l h = by-all v (allOf s true (elementsOf s 14 v)) t o f l refl h
     by-list v false t o f l h = absurd (not-these h)
 
-    by-found : (f : Found) → isText s ≡ true → eqb (getD s (pastWhile blank s 0) 0) 123 ≡ true
-        → foundOf s responsesName 15 (pastWhile blank s 0) ≡ f
+    by-found : (f : Found) → isText s ≡ true → eqb (getD s (outermost s) 0) 123 ≡ true
+        → foundOf s responsesName 15 (outermost s) ≡ f
         → entriesFrom s (listOf s f) ≡ these es → ReportText s es
     by-found (At v) t o f h = by-list v (eqb (getD s v 0) 91) t o f refl h
     by-found Nothing t o f h = absurd (not-these h)
     by-found Twice t o f h = absurd (not-these h)
 
-    by-object : (b : Bool) → isText s ≡ true → eqb (getD s (pastWhile blank s 0) 0) 123 ≡ b
-        → entriesFrom s (pick b (listOf s (foundOf s responsesName 15 (pastWhile blank s 0))) Bad) ≡ these es
+    by-object : (b : Bool) → isText s ≡ true → eqb (getD s (outermost s) 0) 123 ≡ b
+        → entriesFrom s (pick b (listOf s (foundOf s responsesName 15 (outermost s))) Bad) ≡ these es
         → ReportText s es
-    by-object true t o h = by-found (foundOf s responsesName 15 (pastWhile blank s 0)) t o refl h
+    by-object true t o h = by-found (foundOf s responsesName 15 (outermost s)) t o refl h
     by-object false t o h = absurd (not-these h)
 
     by-text : (b : Bool) → isText s ≡ b
-        → entriesFrom s (pick b (pick (eqb (getD s (pastWhile blank s 0) 0) 123)
-        (listOf s (foundOf s responsesName 15 (pastWhile blank s 0))) Bad) Bad) ≡ these es
+        → entriesFrom s (pick b (pick (eqb (getD s (outermost s) 0) 123)
+        (listOf s (foundOf s responsesName 15 (outermost s))) Bad) Bad) ≡ these es
         → ReportText s es
-    by-text true t h = by-object (eqb (getD s (pastWhile blank s 0) 0) 123) t refl h
+    by-text true t h = by-object (eqb (getD s (outermost s) 0) 123) t refl h
     by-text false t h = absurd (not-these h)
 
 -- and the entries of a report are found

@@ -52,14 +52,19 @@ pub data ResponseObjects (s : List ℕ) : Bool → List ℕ → List Entry → T
 
 -- ---- Draft 19, section 8.4.1: a report. "A malfeasance report is a JSON object that contains the key `responses`. Its
 -- value is a list of response objects".
+
+-- the place where the value of a text begins, past the blanks
+abbrev pub outermost : List ℕ → ℕ
+outermost s = pastWhile blank s 0
+
 pub record ReportText (s : List ℕ) (es : List Entry) : Type 0 where
   -- it is JSON by RFC 8259's grammar, nested at most 16 deep
   pub json : JSON-text 16 s
   -- an object
-  pub object : getD s (pastWhile blank s 0) 0 ≡ 123
+  pub object : getD s (outermost s) 0 ≡ 123
   -- with just one member of the name "responses", at this place
   pub place : ℕ
-  pub once : foundOf s responsesName 15 (pastWhile blank s 0) ≡ At place
+  pub once : foundOf s responsesName 15 (outermost s) ≡ At place
   -- a list
   pub list : getD s place 0 ≡ 91
   -- of response objects
