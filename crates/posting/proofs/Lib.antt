@@ -1,3 +1,5 @@
 -- What holds of reports in the public format.
 pub mod Reported
 pub mod Codes
+pub mod Bytes
+pub mod CutText
