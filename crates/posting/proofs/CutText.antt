@@ -16,6 +16,11 @@ use Rattle.laws.proofs.Pasted.{length-part, length-pasted}
 use Rattle.laws.proofs.Pieces.{pasted-behind, take-of-pasted}
 use Rattle.pile.specs.Pile.{recordsIn, recordAt, keyIn, requestPacket}
 use Rattle.intake.specs.Entry.{Entry}
+use Rattle.intake.specs.Entry.{entriesOf}
+use Rattle.intake.specs.Read.{readOf}
+use Rattle.intake.specs.declared.Read.{Read}
+use Rattle.intake.specs.declared.Read.the-variants.{Records, NoReport, Amount}
+use Rattle.intake.specs.declared.Read.the-variants.{Short as ShortRead}
 use Rattle.publish.specs.Entries.{entryOf, entriesIn, textOf}
 use Rattle.publish.specs.Text.{entriesText, jsonOf}
 use Rattle.publish.specs.Published.{Publishes, publishedBytes}
@@ -25,13 +30,15 @@ use Rattle.publish.specs.declared.Published.the-variants as published
 use Rattle.publish.proofs.Piles.{publishes-once}
 use Rattle.report.specs.Taking.{Takes, runBytes, runAnswers}
 use Rattle.report.specs.declared.Report.the-variants.{Pair}
-use Rattle.report.specs.declared.Taken.the-variants.{Run}
+use Rattle.report.specs.declared.Taken.{Taken}
+use Rattle.report.specs.declared.Taken.the-variants.{Run, NoRun}
+use Rattle.report.specs.declared.Taken.the-variants.{Bad as BadTaken, Short as ShortTaken}
 use Rattle.report.proofs.Behind.{Alike, same-response}
 use Rattle.report.proofs.Runs.{takes-once}
 use Rattle.report.proofs.Stands.{taken-run, cut-names}
 use Rattle.signed.specs.Answers.{ownAnswers}
 use Rattle.signed.proofs.OwnRuns.{own-run}
-use Rattle.forward.specs.Forwarded.{cutOf, CutsText, Forwards, pileOf, forwardedBytes}
+use Rattle.forward.specs.Forwarded.{ForwardsBy, cutOf, CutsText, Forwards, pileOf, forwardedBytes}
 use Rattle.forward.specs.declared.Forwarded.{Forwarded}
 use Rattle.forward.specs.declared.Forwarded.the-variants.{Text, Short}
 use Rattle.forward.proofs.Cuts.{forwardOf}
@@ -178,3 +185,52 @@ signed-text-is-cut-and-written text n i j read t room r p f w =
     let own = own-run (taken-run (pileOf text) (ownAnswers (pileOf text)) (text-bytes text) _ i j t) in
     text-is-cut-and-written text (ownAnswers (pileOf text)) n i j read t room r p f
     (subst (λ (a : List ℕ). Publishes (runBytes i j (pileOf text)) a room p) own w)
+
+-- ---- And where `cut_text` answers a run, the cutter takes that run out of the text's records, and `write_report`
+-- answers as many bytes of it.
+told-run : {i j n : ℕ} (a b m : ℕ) (x : Bool) → Text i j n ≡ cond x Short (Text a b m)
+    → (x ≡ false) × (Run a b ≡ Run i j) × (n ≡ m)
+told-run a b m true e = let z : _≡_ {A = ℕ} 0 1 = cc in absurd (omega arith)
+told-run {i} {j} {n} a b m false e =
+    let p : i ≡ a = cc in let q : j ≡ b = cc in let l : n ≡ m = cc in (refl, ap₂ Run (sym p) (sym q), l)
+
+module _ (pile answers : List ℕ) (bytes : Bytes pile) (room i j n : ℕ) where
+  taken-so : (x : Taken) → Takes pile answers (length pile) x → Text i j n ≡ cutOf pile room x
+      → Takes pile answers (length pile) (Run i j) × (Text i j n ≡ cutOf pile room (Run i j))
+  taken-so (Run a b) t e =
+      let q =
+      told-run a b (length (textOf (part (4096 * a) (4096 * b + 4096) pile)))
+      (ltb room (length (textOf (part (4096 * a) (4096 * b + 4096) pile)))) e in
+      (subst (Takes pile answers (length pile)) (q .1) t, e ∙ ap (cutOf pile room) (q .1))
+  taken-so BadTaken t e = let z : _≡_ {A = ℕ} 0 1 = cc in absurd (omega arith)
+  taken-so ShortTaken t e = let z : _≡_ {A = ℕ} 0 1 = cc in absurd (omega arith)
+  taken-so NoRun t e = let z : _≡_ {A = ℕ} 0 1 = cc in absurd (omega arith)
+
+  pub run-was-cut : CutsText pile answers room (Text i j n)
+      → Takes pile answers (length pile) (Run i j)
+      × Publishes (runBytes i j pile) (runAnswers i j answers) room (published.Text n)
+  run-was-cut c =
+      let t = taken-so (c .cut) (c .right) (c .answer) in
+      let q =
+      told-run i j (length (textOf (part (4096 * i) (4096 * j + 4096) pile)))
+      (ltb room (length (textOf (part (4096 * i) (4096 * j + 4096) pile)))) (t .1) in
+      let w = run-published pile answers bytes i j (t .0) room in
+      (t .0, record { report = w .report; checked = w .checked; answer = so (q .0) (q .2) ∙ w .answer })
+    where
+      so : ltb room (length (textOf (part (4096 * i) (4096 * j + 4096) pile))) ≡ false
+          → n ≡ length (textOf (part (4096 * i) (4096 * j + 4096) pile))
+          → published.Text n ≡ publishRoomed (textOf (part (4096 * i) (4096 * j + 4096) pile)) room
+      so f l = rw f (ap published.Text l)
+
+pub text-was-cut : (text answers : List ℕ) (room i j n : ℕ) → Forwards text answers room (Text i j n)
+    → Takes (pileOf text) answers (length (pileOf text)) (Run i j)
+    × Publishes (runBytes i j (pileOf text)) (runAnswers i j answers) room (published.Text n)
+text-was-cut text answers room i j n f =
+    run-was-cut (pileOf text) answers (text-bytes text) room i j n (by (readOf (entriesOf text) 65536) f)
+  where
+    by : (x : Read) → ForwardsBy x (pileOf text) answers room (Text i j n)
+        → CutsText (pileOf text) answers room (Text i j n)
+    by (Records m) f = f
+    by NoReport f = let z : _≡_ {A = ℕ} 0 1 = cc in absurd (omega arith)
+    by Amount f = let z : _≡_ {A = ℕ} 0 1 = cc in absurd (omega arith)
+    by ShortRead f = let z : _≡_ {A = ℕ} 0 1 = cc in absurd (omega arith)

@@ -3,3 +3,4 @@ pub mod Reported
 pub mod Codes
 pub mod Bytes
 pub mod CutText
+pub mod Longest
