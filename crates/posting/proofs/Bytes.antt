@@ -17,12 +17,12 @@ none-bytes : (k : ℕ) → getD {A = ℕ} [] k 0 < 256
 none-bytes zero = omega arith
 none-bytes (suc k) = omega arith
 
-append-bytes : (s t : List ℕ) → Bytes s → Bytes t → (k : ℕ) → getD (s ++ t) k 0 < 256
+pub append-bytes : (s t : List ℕ) → Bytes s → Bytes t → (k : ℕ) → getD (s ++ t) k 0 < 256
 append-bytes [] t a b k = b k
 append-bytes (x ∷ s) t a b zero = a zero
 append-bytes (x ∷ s) t a b (suc k) = append-bytes s t (λ m. a (suc m)) b k
 
-zero-bytes : (n k : ℕ) → getD (replicate n 0) k 0 < 256
+pub zero-bytes : (n k : ℕ) → getD (replicate n 0) k 0 < 256
 zero-bytes zero k = none-bytes k
 zero-bytes (suc n) zero = omega arith
 zero-bytes (suc n) (suc k) = zero-bytes n k

@@ -3,15 +3,34 @@
 use Prim.Native.Nat.{ℕ, _+_, _*_, _≤_, _<_}
 use mathlib.Core.Path.{_≡_}
 use mathlib.Core.Bool.{Bool, true, false}
-use mathlib.Core.List.{List, [], _∷_}
+use mathlib.Core.List.{List, [], _∷_, _++_}
 use lib.ListN.{length, getD, replicate}
 use Rattle.json.specs.declared.Found.the-variants.{At}
-use Rattle.json.specs.Members.{foundOf}
+use Rattle.json.specs.Members.{named, valuePlace, foundOf}
 use Rattle.json.specs.Scan.{pastWhile, blank}
 use Rattle.json.specs.Text.{contentAt}
 use Rattle.base64.specs.Decode.{bytes, decodeOf}
 use Rattle.intake.specs.Entry.{Entry, randName, keyName, requestName, responseName, responsesName, elementsOf}
 use Rattle.grammar.specs.Abnf.{JSON-text}
+
+-- ---- RFC 8259, section 4: just one member of a name.
+
+-- none of the members at these places has the name, after unescaping
+pub data NoneNamed (s name : List ℕ) : List ℕ → Type 0 where
+  none-left : NoneNamed s name []
+  not-this : {k : ℕ} {ks : List ℕ} → named s name k ≡ false → NoneNamed s name ks → NoneNamed s name (k ∷ ks)
+
+-- of the members at these places just one has the name, and its value stands at v. `just-one-exactly` shows that it is
+-- what `foundOf` finds, by which the sentences below are told
+pub record JustOne (s name members : List ℕ) (v : ℕ) : Type 0 where
+  pub before : List ℕ
+  pub member : ℕ
+  pub behind : List ℕ
+  pub are : members ≡ before ++ member ∷ behind
+  pub has-name : named s name member ≡ true
+  pub value : valuePlace s member ≡ v
+  pub none-before : NoneNamed s name before
+  pub none-behind : NoneNamed s name behind
 
 -- ---- Draft 19, section 8.4.1: response objects.
 
