@@ -1,5 +1,6 @@
 -- Which texts are reports, and of which entries, in the words of draft 19, section 8.4.1, and of request P7. A text is
--- the list of its bytes; a place in it counts them from 0, and `getD s k 0` is the byte at place k.
+-- the list of its bytes; a place in it counts them from 0, and `getD s k 0` is the byte at place k: 34 is a quotation
+-- mark, 91 `[`, 123 `{`.
 use Prim.Native.Nat.{ℕ, _+_, _*_, _≤_, _<_}
 use mathlib.Core.Path.{_≡_}
 use mathlib.Core.Bool.{Bool, true, false}
@@ -63,7 +64,8 @@ pub record ResponseObject (s : List ℕ) (first : Bool) (at : ℕ) (e : Entry) :
   pub request : Member s at requestName (e .request)
   pub response : Member s at responseName (e .response)
 
--- the elements at these places are response objects, one for each entry, in their order
+-- the elements at these places are response objects, one for each entry, in their order ("sorted in the order
+-- received"); the first of them is the list's first where `first` says so
 pub data ResponseObjects (s : List ℕ) : Bool → List ℕ → List Entry → Type 0 where
   no-more : {first : Bool} → ResponseObjects s first [] []
   then-more : {first : Bool} {k : ℕ} {ks : List ℕ} {e : Entry} {es : List Entry} → ResponseObject s first k e
