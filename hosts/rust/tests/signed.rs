@@ -10,8 +10,6 @@ mod support;
 use independent::appendix::{self, Entry};
 use independent::edwards::Point;
 use independent::{signed, text};
-use std::hint::black_box;
-use std::time::{Duration, Instant};
 use support::answers::Bad;
 use support::damage;
 use support::packets::Level;
@@ -19,7 +17,7 @@ use support::pairs::{Pair, Question};
 use support::signed_answers::Exchange;
 use support::signing::{Forgery, Servers, FORGERIES};
 use support::tally::Tally;
-use support::Xorshift;
+use support::{shortest, Xorshift};
 use trawlbeacon::Run;
 
 const CHECKS: &str = "checks";
@@ -324,16 +322,6 @@ fn a_signature_is_of_its_own_context() {
         seen.ask(&exchange(key, &pair), Some(12), Some([false, false]));
     }
     seen.tally.no_difference();
-}
-
-/// The shortest of many times of a call.
-fn shortest<T>(mut call: impl FnMut() -> T) -> Duration {
-    let time = |_| {
-        let start = Instant::now();
-        black_box(call());
-        start.elapsed()
-    };
-    (0..40).map(time).min().expect("there are some")
 }
 
 /// A response that is refused for something cheaper costs no verification, and one whose delegation

@@ -10,8 +10,7 @@ mod support;
 use independent::making::Made;
 use independent::pile::{MOST_RECORDS, RECORD};
 use independent::{making, signing};
-use std::hint::black_box;
-use std::time::{Duration, Instant};
+use std::time::Duration;
 use support::answers::{Answer, Both, Written};
 use support::due::{pattern, Due};
 use support::pile_answers::Reported;
@@ -19,7 +18,7 @@ use support::piles::{self, Wish, BROKEN};
 use support::signed_answers::Alone;
 use support::signing::Servers;
 use support::tally::Tally;
-use support::{hex, Xorshift};
+use support::{hex, shortest, Xorshift};
 use trawlbeacon::{Record, Refusal, Run, SignedPile};
 
 const RECORDS: &str = "records";
@@ -316,16 +315,6 @@ fn every_byte_of_a_key_and_a_rand_counts() {
         assert_eq!((cut, independent), (due, due), "byte {place}");
     }
     println!("128 bytes of keys and rands of a run, each of which counts, compared");
-}
-
-/// The shortest of some times of a call.
-fn shortest<T>(mut call: impl FnMut() -> T) -> Duration {
-    let time = |_| {
-        let start = Instant::now();
-        black_box(call());
-        start.elapsed()
-    };
-    (0..40).map(time).min().expect("there are some")
 }
 
 /// A full pile of damaged records costs no verification, nor does a report whose first record is

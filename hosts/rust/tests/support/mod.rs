@@ -26,7 +26,9 @@ pub mod texts;
 pub mod trees;
 
 use std::fs;
+use std::hint::black_box;
 use std::path::Path;
+use std::time::{Duration, Instant};
 
 /// Marsaglia's xorshift64: no good randomness, but bytes without a pattern that a hash could be
 /// right on by luck, and the same in every run, so that what fails once fails again.
@@ -70,6 +72,16 @@ impl Xorshift {
     pub fn pick<T: Copy>(&mut self, from: &[T]) -> T {
         from[self.below(from.len())]
     }
+}
+
+/// The shortest of many times of a call.
+pub fn shortest<T>(mut call: impl FnMut() -> T) -> Duration {
+    let time = |_| {
+        let start = Instant::now();
+        black_box(call());
+        start.elapsed()
+    };
+    (0..40).map(time).min().expect("there are some")
 }
 
 /// The text of a file in vectors/.
