@@ -11,9 +11,9 @@
  *   - out leads to as many writable bytes as out_len, or the array it is declared as, says, is
  *     initialised memory, and overlaps no input.
  * All memory stays the caller's. The functions only read their inputs, but for the state of a hash
- * in pieces and that of windows as they come, which starting and taking write; they allocate
- * nothing, and keep no pointer and no state of their own; an answer is a value of its own. Inputs
- * may overlap each other, but not such a state.
+ * in pieces, that of windows as they come and that of a walk, which starting and taking write, and
+ * the pile of a walk; they allocate nothing, and keep no pointer and no state of their own; an
+ * answer is a value of its own. Inputs may overlap each other, but not such a state or pile.
  *
  * The functions of hashes and tb_answers write the whole of out, and they and those that answer
  * with a bool cannot fail, but for tb_sha512_take. That one and every other take any bytes and
@@ -35,8 +35,9 @@
  *   7:       the start of the value, an empty one too; of several wrong ones, of that with the
  *            smallest tag.
  *
- * On a refusal out stays as it was, and so does a state; every other field of the answer is 0, but
- * for at, and for the place of a record where the answer has one. What is written stands at the
+ * On a refusal out stays as it was, and so does a state, but that of a walk whose start is refused;
+ * every other field of the answer is 0, but for at, and for the place of a record where the answer
+ * has one. What is written stands at the
  * front of out; what follows it stays.
  */
 #ifndef TRAWLBEACON_H
@@ -52,7 +53,7 @@ extern "C" {
 
 /* The version of this header: a change of the first number breaks callers. */
 #define TB_VERSION_MAJOR 0
-#define TB_VERSION_MINOR 14
+#define TB_VERSION_MINOR 15
 
 /* ---- Codes ---- */
 
@@ -113,10 +114,19 @@ enum tb_code {
     TB_REPORT_TEXT = 24,
     /* the text has no entry, over 16 entries, or a packet above 2,000 bytes */
     TB_ENTRIES = 25,
+    /* the response was received before it was sent for, or sent for before the last one was
+     * received */
+    TB_CLOCK = 26,
+    /* the response took longer than is allowed */
+    TB_DELAY = 27,
+    /* the walk has ended */
+    TB_ENDED = 28,
     /* an old stamp's date is under 40587, or its microseconds are 86,401,000,000 or more */
     TB_OLD_STAMP = 29,
     /* the pieces of a message come to more than 2^64 - 1 bytes */
-    TB_PIECES = 30
+    TB_PIECES = 30,
+    /* the servers of a walk are not 3 to 8 whole keys, or one key stands there twice */
+    TB_WALK_SERVERS = 31
 };
 
 /* What a code says, in words. */
@@ -176,10 +186,19 @@ static inline const char *tb_code_text(uint32_t code) {
                "repeated or wrong";
     case TB_ENTRIES:
         return "the text has no entry, over 16 entries, or a packet above 2,000 bytes";
+    case TB_CLOCK:
+        return "the response was received before it was sent for, or sent for before the last one "
+               "was received";
+    case TB_DELAY:
+        return "the response took longer than is allowed";
+    case TB_ENDED:
+        return "the walk has ended";
     case TB_OLD_STAMP:
         return "an old stamp's date is under 40587, or its microseconds are 86,401,000,000 or more";
     case TB_PIECES:
         return "the pieces of a message come to more than 2^64 - 1 bytes";
+    case TB_WALK_SERVERS:
+        return "the servers of a walk are not 3 to 8 whole keys, or one key stands there twice";
     default:
         return "no such code";
     }
@@ -775,6 +794,126 @@ struct tb_forwarded tb_cut_text(const uint8_t *text, size_t text_len, const uint
 /* The same with no answers lent. */
 struct tb_forwarded tb_cut_signed_text(const uint8_t *text, size_t text_len, uint8_t *out,
                                        size_t out_len);
+
+/* ---- The measuring walk ----
+ *
+ * Draft 19, 8.2: 3 to 8 servers are asked one after the other, and then the same ones in the same
+ * order again. The walk says whom to ask and what, takes each response, writes its record, and
+ * after the last says whether the servers contradict each other:
+ *
+ *     start; then, until the walk has ended: ask, send the request, receive, verify, take.
+ *
+ * The pile stands at the front of a buffer of the caller's, of two records a server, which is lent
+ * at each call and must not be altered between calls: one whole record for each response that is
+ * taken, so that with 8 servers it is TB_MOST_RECORDS records. The rest of the buffer stays. Once
+ * the walk has ended, with every answer yes, tb_check_report says of that pile what the walk said,
+ * and tb_cut_run finds a run in it exactly where the walk said malfeasance.
+ *
+ * A call that is refused leaves state and pile as they were: the same request can be sent again,
+ * and another response to it be taken.
+ *
+ * The state is the caller's, can be copied and kept, and is initialised memory before it is
+ * started ({0} in C, {} in C++). One that no start led to does no harm: each function ends, stays
+ * within state and buffers, and gives the same answer to the same bytes. */
+
+/* The state: the servers' keys, 32 bytes each and then zeros, and how many there are; the step,
+ * from 0; the nonce that is asked next, and the rand that it was made with; when the last response
+ * was received; and the longest delay that is allowed. */
+struct tb_walk {
+    uint8_t keys[256];
+    uint64_t count;
+    uint64_t step;
+    uint8_t nonce[32];
+    uint8_t rand[32];
+    uint64_t last;
+    uint64_t most;
+};
+
+/* The fewest and the most servers of a walk. */
+#define TB_FEWEST_SERVERS 3
+#define TB_MOST_SERVERS 8
+
+/* Which server is asked next, from 0 in the order of the keys, and with which nonce. */
+struct tb_asked {
+    uint32_t code;
+    uint64_t server;
+    uint8_t nonce[32];
+};
+
+/* How the walk stands once a response is taken: it goes on; or it has ended, and the servers'
+ * answers are consistent, or some two contradict each other; or the pile is not what it wrote,
+ * since the buffer was altered, and then nothing is said of the servers. */
+enum tb_outcome {
+    TB_GOES_ON = 0,
+    TB_CONSISTENT = 1,
+    TB_MALFEASANCE = 2,
+    TB_PILE_ALTERED = 3
+};
+
+/* What is said of a response: a code, or how the walk stands. first and second are the places of
+ * two records that contradict each other, as tb_check_report names them, on TB_MALFEASANCE only. at
+ * is a byte of the response packet. */
+struct tb_took {
+    uint32_t code;
+    uint32_t outcome;
+    uint64_t at;
+    uint64_t first;
+    uint64_t second;
+};
+
+/* What the functions below call, with the fields of a state one by one, which must not overlap each
+ * other, the inputs or the pile: call those instead. */
+uint32_t tb_walk_start_fields(uint8_t keys[256], uint64_t *count, uint64_t *step, uint8_t nonce[32],
+                              uint8_t rand[32], uint64_t *last, uint64_t *most,
+                              const uint8_t *servers, size_t servers_len, const uint8_t first[32],
+                              uint64_t longest, const uint8_t *pile, size_t pile_len);
+struct tb_asked tb_walk_ask_fields(const uint8_t keys[256], uint64_t count, uint64_t step,
+                                   const uint8_t nonce[32], const uint8_t rand[32], uint64_t last,
+                                   uint64_t most, uint8_t *out, size_t out_len);
+struct tb_took tb_walk_take_fields(const uint8_t keys[256], uint64_t count, uint64_t *step,
+                                   uint8_t nonce[32], uint8_t rand[32], uint64_t *last,
+                                   uint64_t most, uint32_t delegation, uint32_t signature,
+                                   uint64_t sent, uint64_t received, const uint8_t next[32],
+                                   const uint8_t *response, size_t response_len, uint8_t *pile,
+                                   size_t pile_len);
+
+/* Starts a walk over the servers with these long-term keys, 32 bytes each, in their order, from a
+ * nonce of the caller's. longest is the longest delay in seconds that a response may take. Nothing
+ * is written to the pile. The codes are 31, also where the keys are not whole ones, and 19, where
+ * the pile has under two records a server. After a refusal the state is that of no walk: every call
+ * on it is refused with 28. */
+static inline uint32_t tb_walk_start(struct tb_walk *walk, const uint8_t *servers,
+                                     size_t servers_len, const uint8_t nonce[32], uint64_t longest,
+                                     const uint8_t *pile, size_t pile_len) {
+    return tb_walk_start_fields(walk->keys, &walk->count, &walk->step, walk->nonce, walk->rand,
+                                &walk->last, &walk->most, servers, servers_len, nonce, longest,
+                                pile, pile_len);
+}
+
+/* Tells which server is asked next, and writes the request, as tb_write_request does:
+ * TB_REQUEST_LENGTH bytes. Nothing else changes, so that asking again gives the same. The codes are
+ * 28 and 19. */
+static inline struct tb_asked tb_walk_ask(const struct tb_walk *walk, uint8_t *out,
+                                          size_t out_len) {
+    return tb_walk_ask_fields(walk->keys, walk->count, walk->step, walk->nonce, walk->rand,
+                              walk->last, walk->most, out, out_len);
+}
+
+/* Takes the response to the request that is asked. delegation and signature say whether its two
+ * signatures verify, as in tb_check_response: 1 is yes and every other number is no; tb_answers has
+ * the two, with the key of the server that is asked. sent and received are when, by the caller's
+ * own clock, in seconds, the request was sent and the response received. rand is 32 random bytes
+ * for the next request.
+ * The codes are 28; 19, where the pile has under two records a server; 26; 27; and then those of
+ * tb_check_response, 1 to 13. */
+static inline struct tb_took tb_walk_take(struct tb_walk *walk, uint32_t delegation,
+                                          uint32_t signature, uint64_t sent, uint64_t received,
+                                          const uint8_t rand[32], const uint8_t *response,
+                                          size_t response_len, uint8_t *pile, size_t pile_len) {
+    return tb_walk_take_fields(walk->keys, walk->count, &walk->step, walk->nonce, walk->rand,
+                               &walk->last, walk->most, delegation, signature, sent, received, rand,
+                               response, response_len, pile, pile_len);
+}
 
 /* ---- Old captures ----
  *

@@ -13,6 +13,8 @@ pub struct Limits {
     pub pieces: f64,
     /// A full pile against the independent implementation.
     pub piles: f64,
+    /// A step of a walk against the independent implementation.
+    pub walks: f64,
     /// A verification against OpenSSL's.
     pub openssl: f64,
     /// A response and a full pile by their own signatures against the independent implementation.
@@ -61,6 +63,7 @@ impl Limits {
             sha2_short: limit("BENCH_LIMIT_SHA2_SHORT", 1.25),
             pieces: limit("BENCH_LIMIT_PIECES", 1.05),
             piles: limit("BENCH_LIMIT_PILES", 0.87),
+            walks: limit("BENCH_LIMIT_WALKS", 0.80),
             openssl: limit("BENCH_LIMIT_OPENSSL", 1.8),
             signed: limit("BENCH_LIMIT_SIGNED", 0.95),
             servers: limit("BENCH_LIMIT_SERVERS", 0.70),

@@ -18,6 +18,7 @@ mod signed;
 mod texts;
 mod timing;
 mod trees;
+mod walks;
 mod windows;
 
 use limits::Limits;
@@ -170,6 +171,15 @@ fn main() -> ExitCode {
     );
     println!("{}", WINDOWS.header());
     WINDOWS.report(windows::subject(), &mut above);
+    println!(
+        "a response that is taken by a walk over {} servers; limit: ours/independent {}",
+        trawlbeacon::MOST_SERVERS,
+        limits.walks
+    );
+    println!("{}", PILES.header());
+    for step in &walks::steps() {
+        PILES.report(step.subject(&limits), &mut above);
+    }
     println!(
         "trees by their leaves; the hashing is the parents that a tree needs, or one for path_from"
     );

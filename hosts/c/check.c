@@ -7,10 +7,10 @@
  * by signatures of RFC 8032 and of that response, what verifies by itself by the draft's whole
  * report and by the forms that take answers, a lookup by the place of the record, old stamps by
  * both sides of each limit, a pile by the times it was made of, its report as JSON by a text that
- * is made here of the same records, windows as they come by every pair of them, a writer by what it
- * leaves in a buffer, a server by the draft's response, which it writes again out of its values,
- * the words of a code by some of them. Whether all of that is right on every input is for the tests
- * of hosts/rust.
+ * is made here of the same records, windows as they come by every pair of them, a walk by its
+ * records and by each refusal at each step, a writer by what it leaves in a buffer, a server by the
+ * draft's response, which it writes again out of its values, the words of a code by some of them.
+ * Whether all of that is right on every input is for the tests of hosts/rust.
  */
 #include "report.h"
 #include "response.h"
@@ -602,27 +602,42 @@ static void put_number(uint8_t *at, uint64_t number, size_t n) {
     for (size_t i = 0; i < n; i++) at[i] = (uint8_t)(number >> 8 * i);
 }
 
-/* Makes record k of a pile of the response: a request with the nonce that links it to the record
- * before, and the response with that nonce, with the request as the only leaf of its tree, and with
- * another time and another delegation. */
-static void lay_record(uint8_t *record, size_t k, struct tb_verdict time) {
-    uint8_t *rand = record + RAND_AT, *request = record + REQUEST_AT,
-            *response = record + RESPONSE_AT, nonce[32] = {0};
-    memset(record, 0, TB_RECORD_LENGTH);
-    memcpy(record, KEY, sizeof KEY);
-    memset(rand, (int)k, 32);
-    put_number(record + REQUEST_LENGTH_AT, TB_REQUEST_LENGTH, 4);
-    put_number(record + RESPONSE_LENGTH_AT, RESPONSE_LENGTH, 4);
-    if (k > 0) tb_link(response - TB_RECORD_LENGTH, RESPONSE_LENGTH, rand, nonce);
-    tb_write_request(KEY, nonce, request, TB_REQUEST_LENGTH);
+/* The answer to a request of ours: the draft's response with the request's nonce, with the request
+ * as the only leaf of its tree, and with another time and another delegation. */
+static void answer(uint8_t *response, const uint8_t *request, struct tb_verdict time) {
+    struct tb_request read = tb_read_request(request, TB_REQUEST_LENGTH);
     memcpy(response, RESPONSE, RESPONSE_LENGTH);
-    memcpy(response + NONC_AT, nonce, sizeof nonce);
+    memcpy(response + NONC_AT, read.nonc, sizeof read.nonc);
     tb_leaf(request, TB_REQUEST_LENGTH, response + ROOT_AT);
     put_number(response + RADI_AT, time.radi, 4);
     put_number(response + MIDP_AT, time.midp, 8);
     put_number(response + MINT_AT, time.mint, 8);
     put_number(response + MAXT_AT, time.maxt, 8);
     memcpy(response + PUBK_AT, time.pubk, sizeof time.pubk);
+}
+
+/* Lays out a record of a pile. */
+static void lay(uint8_t *record, const uint8_t key[32], const uint8_t rand[32],
+                const uint8_t *request, const uint8_t *response) {
+    memset(record, 0, TB_RECORD_LENGTH);
+    memcpy(record, key, 32);
+    memcpy(record + RAND_AT, rand, 32);
+    put_number(record + REQUEST_LENGTH_AT, TB_REQUEST_LENGTH, 4);
+    put_number(record + RESPONSE_LENGTH_AT, RESPONSE_LENGTH, 4);
+    memcpy(record + REQUEST_AT, request, TB_REQUEST_LENGTH);
+    memcpy(record + RESPONSE_AT, response, RESPONSE_LENGTH);
+}
+
+/* Makes record k of a pile of the response: a request with the nonce that links it to the record
+ * before, and its answer. */
+static void lay_record(uint8_t *record, size_t k, struct tb_verdict time) {
+    const uint8_t *before = record + RESPONSE_AT - TB_RECORD_LENGTH;
+    uint8_t rand[32], nonce[32] = {0}, request[TB_REQUEST_LENGTH] = {0}, response[RESPONSE_LENGTH];
+    memset(rand, (int)k, sizeof rand);
+    if (k > 0) tb_link(before, RESPONSE_LENGTH, rand, nonce);
+    tb_write_request(KEY, nonce, request, sizeof request);
+    answer(response, request, time);
+    lay(record, KEY, rand, request, response);
 }
 
 static void expect_judged(const char *what, struct tb_judged is, uint64_t place,
@@ -1034,6 +1049,209 @@ static void expect_reports(uint8_t *pile) {
     expect_reported("a damaged record", tb_check_report(pile, n, answers, m), 16, 3, 0, 0);
 }
 
+/* A buffer for the pile of the longest walk, and what it should hold. */
+enum { WALK_ROOM = TB_MOST_RECORDS * TB_RECORD_LENGTH, LONGEST = 5 };
+static uint8_t walk_pile[WALK_ROOM + 8], walk_should[WALK_ROOM + 8];
+
+/* What servers of a walk tell where they agree. */
+static const struct tb_verdict HONEST = {0, 5, 0, 1000, 995, 1005, 0, 2000, {7}};
+
+/* A response with a byte changed, the code that it is refused with, and the place that is named. */
+static const struct {
+    uint32_t code;
+    size_t at;
+    uint8_t flip;
+    uint64_t place;
+} SPOILT[] = {{TB_MARK, 0, 1, 0},
+              {TB_PACKET_LENGTH, 8, 4, 0},
+              {TB_FRAME, 12, 7, 12},           /* N is 0 */
+              {TB_TAG_ORDER, 43, 0x7f, 44},    /* the first tag is above the second */
+              {TB_TAG_ABSENT, 67, 1, 12},      /* INDY */
+              {TB_VALUE, RADI_AT, 5, RADI_AT}, /* a radius of 0 */
+              {TB_TYPE_OR_VERSION, TYPE_AT, 2, 0},
+              {TB_NONCE, NONC_AT, 1, 0},
+              {TB_PATH, ROOT_AT, 1, 0},
+              {TB_TIME, MINT_AT + 7, 0x80, 0}};
+
+static void expect_took(const char *what, struct tb_took is, struct tb_took should) {
+    expect_number(what, is.code, should.code);
+    expect_number(what, is.outcome, should.outcome);
+    expect_number(what, is.at, should.at);
+    expect_number(what, is.first, should.first);
+    expect_number(what, is.second, should.second);
+}
+
+/* A call of tb_walk_take that is refused, which leaves the state and the pile. */
+static void expect_untaken(const char *what, struct tb_walk *walk, uint32_t answers, uint64_t sent,
+                           uint64_t received, const uint8_t *response, size_t n, size_t room,
+                           uint32_t code, uint64_t at) {
+    const struct tb_walk before = *walk;
+    const uint8_t rand[32] = {9};
+    const struct tb_took should = {.code = code, .at = at};
+    expect_took(what,
+                tb_walk_take(walk, answers >> 1, answers & 1, sent, received, rand, response, n,
+                             walk_pile, room),
+                should);
+    expect_bytes(what, (const uint8_t *)walk, (const uint8_t *)&before, sizeof before);
+    expect_bytes(what, walk_pile, walk_should, sizeof walk_pile);
+}
+
+/* Every refusal of a response that was sent for at this second and is right but for one thing. */
+static void expect_refusals(struct tb_walk *walk, const uint8_t *right, uint64_t sent) {
+    uint8_t response[RESPONSE_LENGTH];
+    const size_t n = RESPONSE_LENGTH, room = walk->count * 2 * TB_RECORD_LENGTH;
+    for (size_t i = 0; i < sizeof SPOILT / sizeof *SPOILT; i++) {
+        memcpy(response, right, sizeof response);
+        response[SPOILT[i].at] ^= SPOILT[i].flip;
+        expect_untaken("a walk's bad response", walk, 3, sent, sent, response, n, room,
+                       SPOILT[i].code, SPOILT[i].place);
+    }
+    expect_untaken("a walk without a response", walk, 3, sent, sent, right, 0, room,
+                   TB_PACKET_SIZE, 0);
+    expect_untaken("a walk without a signature", walk, 2, sent, sent, right, n, room,
+                   TB_SIGNATURE, 0);
+    expect_untaken("a walk without a delegation", walk, 0, sent, sent, right, n, room,
+                   TB_DELEGATION, 0);
+    expect_untaken("a walk that waits too long", walk, 0, sent, sent + LONGEST + 1, right, 0, room,
+                   TB_DELAY, 0);
+    expect_untaken("a walk whose clock falls", walk, 0, sent, sent - 1, right, 0, room, TB_CLOCK,
+                   0);
+    if (walk->last > 0)
+        expect_untaken("a walk that sends too early", walk, 0, walk->last - 1, UINT64_MAX, right, 0,
+                       room, TB_CLOCK, 0);
+    expect_untaken("a walk without room", walk, 0, sent, sent - 1, right, 0, room - 1, TB_ROOM, 0);
+}
+
+/* What a walk asks at step k, twice the same, and with a byte of room too little. */
+static void expect_asked(const struct tb_walk *walk, size_t k, uint8_t request[TB_REQUEST_LENGTH]) {
+    const size_t server = k % walk->count;
+    uint8_t should[TB_REQUEST_LENGTH] = {0}, out[TB_REQUEST_LENGTH + 8];
+    tb_write_request(walk->keys + 32 * server, walk->nonce, should, sizeof should);
+    memset(out, 0xee, sizeof out);
+    struct tb_asked asked = tb_walk_ask(walk, out, TB_REQUEST_LENGTH - 1);
+    expect_number("tb_walk_ask without room", asked.code, TB_ROOM);
+    expect_number("server of a walk without room", asked.server, 0);
+    expect_all("nonce of a walk without room", asked.nonce, 0, sizeof asked.nonce);
+    expect_all("a request without room", out, 0xee, sizeof out);
+    for (size_t i = 0; i < 2; i++) {
+        asked = tb_walk_ask(walk, out, TB_REQUEST_LENGTH + i);
+        expect_number("tb_walk_ask", asked.code, 0);
+        expect_number("server of a walk", asked.server, server);
+        expect_bytes("nonce of a walk", asked.nonce, walk->nonce, sizeof asked.nonce);
+        expect_bytes("request of a walk", out, should, sizeof should);
+        expect_all("what follows the request of a walk", out + sizeof should, 0xee, 8);
+    }
+    memcpy(request, should, sizeof should);
+}
+
+/* One step that is taken, at the longest delay and sent as soon as it may be. */
+static struct tb_took expect_step(struct tb_walk *walk, size_t k, struct tb_verdict time) {
+    uint8_t request[TB_REQUEST_LENGTH], response[RESPONSE_LENGTH], rand[32], nonce[32] = {0};
+    const uint64_t sent = k == 0 ? 100 : walk->last;
+    const size_t room = walk->count * 2 * TB_RECORD_LENGTH;
+    uint8_t key[32], before[32];
+    expect_asked(walk, k, request);
+    answer(response, request, time);
+    expect_refusals(walk, response, sent);
+    memset(rand, (int)k + 1, sizeof rand);
+    memcpy(key, walk->keys + 32 * (k % walk->count), sizeof key);
+    memcpy(before, walk->rand, sizeof before);
+    struct tb_took took = tb_walk_take(walk, 1, 1, sent, sent + LONGEST, rand, response,
+                                       RESPONSE_LENGTH, walk_pile, room);
+    lay(walk_should + k * TB_RECORD_LENGTH, key, before, request, response);
+    expect_bytes("the pile of a walk", walk_pile, walk_should, sizeof walk_pile);
+    tb_link(response, RESPONSE_LENGTH, rand, nonce);
+    expect_bytes("the next nonce of a walk", walk->nonce, nonce, sizeof nonce);
+    expect_bytes("the next rand of a walk", walk->rand, rand, sizeof rand);
+    expect_number("the next step of a walk", walk->step, k + 1);
+    expect_number("the clock of a walk", walk->last, sent + LONGEST);
+    return took;
+}
+
+static void start_walk(struct tb_walk *walk, size_t servers) {
+    uint8_t keys[32 * TB_MOST_SERVERS];
+    const uint8_t nonce[32] = {3};
+    for (size_t i = 0; i < sizeof keys; i++) keys[i] = (uint8_t)(i / 32 + 1);
+    memset(walk_pile, 0xee, sizeof walk_pile);
+    memset(walk_should, 0xee, sizeof walk_should);
+    expect_number("tb_walk_start",
+                  tb_walk_start(walk, keys, 32 * servers, nonce, LONGEST, walk_pile,
+                                servers * 2 * TB_RECORD_LENGTH),
+                  0);
+    expect_bytes("keys of a walk", walk->keys, keys, 32 * servers);
+    expect_all("no keys of a walk", walk->keys + 32 * servers, 0, sizeof keys - 32 * servers);
+    expect_bytes("the first nonce of a walk", walk->nonce, nonce, sizeof nonce);
+    expect_all("the first rand of a walk", walk->rand, 0, sizeof walk->rand);
+    expect_number("servers of a walk", walk->count, servers);
+    expect_number("the first step of a walk", walk->step, 0);
+    expect_bytes("a pile at the start", walk_pile, walk_should, sizeof walk_pile);
+}
+
+/* A walk whose last server lags behind by so much at its last answer, and whose pile is altered
+ * before that, or not. */
+static void expect_walk(size_t servers, uint64_t lag, bool altered, struct tb_took end) {
+    static uint8_t run[WALK_ROOM];
+    const struct tb_took goes_on = {.outcome = TB_GOES_ON};
+    const size_t last = 2 * servers - 1, room = servers * 2 * TB_RECORD_LENGTH;
+    struct tb_verdict late = HONEST;
+    struct tb_walk walk = {{0}, 0, 0, {0}, {0}, 0, 0};
+    late.midp -= lag;
+    start_walk(&walk, servers);
+    for (size_t k = 0; k < last; k++)
+        expect_took("a step of a walk", expect_step(&walk, k, HONEST), goes_on);
+    if (altered) walk_should[RAND_AT] = walk_pile[RAND_AT] = 1;
+    expect_took("the end of a walk", expect_step(&walk, last, late), end);
+    expect_untaken("a walk that has ended", &walk, 0, 1, 0, walk_pile, 0, 0, TB_ENDED, 0);
+    expect_number("a walk that has ended", tb_walk_ask(&walk, run, 0).code, TB_ENDED);
+    if (altered) return;
+    bool lied = end.outcome == TB_MALFEASANCE;
+    expect_reported("the report of a walk", tb_check_report(walk_pile, room, YES, 4 * servers),
+                    lied ? 0 : TB_NO_CONTRADICTION, 0, end.first, end.second);
+    expect_number("the run of a walk",
+                  tb_cut_run(walk_pile, room, YES, 4 * servers, run, sizeof run).code,
+                  lied ? 0 : TB_NO_CONTRADICTION);
+}
+
+/* A start that is refused leaves the state of no walk. */
+static void expect_no_start(const char *what, const uint8_t *keys, size_t n, size_t room,
+                            uint32_t code) {
+    struct tb_walk walk;
+    const uint8_t nonce[32] = {3};
+    memset(&walk, 0x77, sizeof walk);
+    memset(walk_pile, 0xee, sizeof walk_pile);
+    memset(walk_should, 0xee, sizeof walk_should);
+    expect_number(what, tb_walk_start(&walk, keys, n, nonce, LONGEST, walk_pile, room), code);
+    expect_all(what, (const uint8_t *)&walk, 0, sizeof walk);
+    expect_untaken(what, &walk, 3, 0, 0, keys, n, room, TB_ENDED, 0);
+    expect_number(what, tb_walk_ask(&walk, walk_pile, room).code, TB_ENDED);
+    expect_all(what, walk_pile, 0xee, sizeof walk_pile);
+}
+
+/* Walks of the fewest and of the most servers, and each refusal of a start. */
+static void expect_walks(void) {
+    const struct tb_took fine = {.outcome = TB_CONSISTENT}, bad = {.outcome = TB_PILE_ALTERED};
+    for (size_t servers = TB_FEWEST_SERVERS; servers <= TB_MOST_SERVERS; servers += 5) {
+        const uint64_t last = 2 * servers - 1;
+        const struct tb_took lie = {.outcome = TB_MALFEASANCE, .first = last - 1, .second = last};
+        expect_walk(servers, 0, false, fine);
+        expect_walk(servers, 10, false, fine);
+        expect_walk(servers, 11, false, lie);
+        expect_walk(servers, 11, true, bad);
+    }
+    uint8_t keys[32 * (TB_MOST_SERVERS + 1)];
+    for (size_t i = 0; i < sizeof keys; i++) keys[i] = (uint8_t)(i / 32 + 1);
+    const size_t few = 32 * TB_FEWEST_SERVERS, many = 32 * TB_MOST_SERVERS;
+    expect_no_start("no server", keys, 0, WALK_ROOM, TB_WALK_SERVERS);
+    expect_no_start("two servers", keys, few - 32, WALK_ROOM, TB_WALK_SERVERS);
+    expect_no_start("nine servers", keys, many + 32, WALK_ROOM, TB_WALK_SERVERS);
+    expect_no_start("a key cut short", keys, many - 1, WALK_ROOM, TB_WALK_SERVERS);
+    expect_no_start("a byte of a key", keys, few + 1, WALK_ROOM, TB_WALK_SERVERS);
+    expect_no_start("too short a pile", keys, few, 6 * TB_RECORD_LENGTH - 1, TB_ROOM);
+    expect_no_start("too short a pile for eight", keys, many, WALK_ROOM - 1, TB_ROOM);
+    memcpy(keys + many - 32, keys, 32);
+    expect_no_start("one key twice", keys, many, 0, TB_WALK_SERVERS);
+}
+
 /* What a call of a server's writers answered, and what it left in a buffer of 0xee. */
 static void expect_wrote(const char *what, struct tb_wrote is, uint64_t code, uint64_t at,
                          const uint8_t *out, size_t room, const uint8_t *should, size_t n) {
@@ -1429,6 +1647,7 @@ int main(void) {
     expect_piles();
     expect_signed_report();
     expect_tally();
+    expect_walks();
     expect_server_parts(packet);
     expect_server(packet);
     expect_all_words();

@@ -60,9 +60,18 @@ pub enum Refusal {
     ReportText = 24,
     /// A report as JSON has no entry or more than 16, or a packet of more than 2,000 bytes.
     ReportSize = 25,
+    /// A response to a walk was received before its request was sent, or that was sent before the
+    /// last response was received.
+    Clock = 26,
+    /// A response to a walk took longer than the caller allows.
+    Delay = 27,
+    /// A walk has ended.
+    Ended = 28,
     /// An old stamp has a day before 1 January 1970, or more microseconds than a day with a leap
     /// second.
     OldStamp = 29,
+    /// The servers of a walk are not 3 to 8, or one of them stands there twice.
+    WalkServers = 31,
 }
 
 impl Refusal {

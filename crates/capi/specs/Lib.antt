@@ -5,3 +5,4 @@ pub mod Pieces
 pub mod Piling
 pub mod Publishing
 pub mod Tallying
+pub mod Walking

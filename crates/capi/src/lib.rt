@@ -16,4 +16,5 @@ mod signing;
 mod stamping;
 mod tallying;
 mod verifying;
+mod walking;
 mod writing;

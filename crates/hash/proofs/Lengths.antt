@@ -7,7 +7,7 @@ use lib.ListN.{length}
 use lib.Seq.{length-take-le}
 use Rattle.sha512.specs.Computation.{Sha512}
 use Rattle.sha512.proofs.Digested.{Sha512-long}
-use Rattle.hash.specs.Hashes.{H32, leafOf, parentOf, emptyPlace, srvOf}
+use Rattle.hash.specs.Hashes.{H32, leafOf, parentOf, emptyPlace, srvOf, linkOf}
 
 pub length-H32 : (m : List ℕ) → length (H32 m) ≡ 32
 unfolding H32
@@ -28,3 +28,7 @@ length-empty = length-H32 _
 pub length-srv : (key : List ℕ) → length (srvOf key) ≡ 32
 unfolding srvOf
 length-srv key = length-H32 _
+
+pub length-link : (response rand : List ℕ) → length (linkOf response rand) ≡ 32
+unfolding linkOf
+length-link response rand = length-H32 _

@@ -21,6 +21,7 @@ use Rattle.laws.proofs.Same.{same-refl, same-true}
 use Rattle.laws.proofs.Zeros.{zeros-at, zeros-all}
 use Rattle.refusal.specs.Refusal.{refusals}
 use Rattle.refusal.specs.declared.Refusal.{Refusal}
+use Rattle.verdict.specs.Check.{checkCode}
 use Rattle.verdict.specs.declared.Verdict.the-variants.{Valid, Refused}
 use Rattle.verdict.specs.declared.Window.{Window}
 use Rattle.verdict.proofs.Exactly.{passes-code, code-exactly}
@@ -171,15 +172,30 @@ response-bytes r b =
     bytes-take (part 2096 4096 r) (bytes-take (drop 2096 r) (bytes-drop r b 2096) 2000) (responseLength r)
 
 module _ (pile answers : List ℕ) (k : ℕ) where
-  -- to a record that document 01 calls valid no code applies,
-  valid-code : ValidRecord pile answers k → judgeCode pile answers k .code ≡ 0
+  -- to a record that is there and not damaged, and whose response is not refused, no code applies,
+  passed-code : GoodPile pile answers → k < recordsIn pile → recordBad (recordAt pile k) ≡ false
+      → checkCode (requestPacket (recordAt pile k)) (responsePacket (recordAt pile k))
+      (saidYes answers (2 * k)) (saidYes answers (2 * k + 1))
+      .code ≡ 0
+      → judgeCode pile answers k .code ≡ 0
   unfolding judgeCode recordCode
+  passed-code g h u z =
+      quiet-of refusals (sym (before-false refusals _ _ _ (there-exactly pile answers k .1 (g, h))))
+      (quiet-of refusals (sym (before-false refusals _ _ _ u)) z)
+
+  pub passed-judged : GoodPile pile answers → k < recordsIn pile → recordBad (recordAt pile k) ≡ false
+      → checkCode (requestPacket (recordAt pile k)) (responsePacket (recordAt pile k))
+      (saidYes answers (2 * k)) (saidYes answers (2 * k + 1))
+      .code ≡ 0
+      → judgementOf pile answers k .verdict ≡ Valid (windowAt pile k)
+  unfolding judgementOf
+  passed-judged g h u z = valid-by (judgeCode pile answers k) _ (passed-code g h u z)
+
+  -- and so to one that document 01 calls valid,
+  valid-code : ValidRecord pile answers k → judgeCode pile answers k .code ≡ 0
   valid-code v =
-      quiet-of refusals
-      (sym (before-false refusals _ _ _ (there-exactly pile answers k .1 (v .pile-good, v .there))))
-      (quiet-of refusals
-      (sym (before-false refusals _ _ _ (undamaged-exactly (recordAt pile k) .1 (v .undamaged))))
-      (passes-code _ _ _ _ (v .passes)))
+      passed-code (v .pile-good) (v .there) (undamaged-exactly (recordAt pile k) .1 (v .undamaged))
+      (passes-code _ _ _ _ (v .passes))
 
   -- and where none applies, it calls the record valid;
   pub judge-exactly : Bytes pile → judgeCode pile answers k .code ≡ 0 ↔ ValidRecord pile answers k
@@ -246,12 +262,18 @@ reads b r bytes z =
       request = request-good _ (request-bytes r bytes) (lent-good (requestPacket r) refl (any-parts _ _ (q .1) .0));
     }
 
+tested-readable : (b r : List ℕ) → requestLength r ≤ 2000 → responseLength b ≤ 2000
+    → requestBad (requestPacket r) ≡ false → unreadable b r ≡ false
+unfolding unreadable
+tested-readable b r l m t =
+    any-not _ (le-ltb 2000 (requestLength r) l)
+    (any-not _ (le-ltb 2000 (responseLength b) m) (any-not _ t any-none))
+
 readable : (b r : List ℕ) → LinkReadable b r → unreadable b r ≡ false
-unfolding unreadable requestBad
+unfolding requestBad
 readable b r f =
-    any-not _ (le-ltb 2000 (requestLength r) (f .request-fits))
-    (any-not _ (le-ltb 2000 (responseLength b) (f .response-fits))
-    (any-not _ (ap not (eq-eqb (requestCode (requestPacket r) .code) 0 (good-request _ (f .request)))) any-none))
+    tested-readable b r (f .request-fits) (f .response-fits)
+    (ap not (eq-eqb (requestCode (requestPacket r) .code) 0 (good-request _ (f .request))))
 
 -- a record that follows another has document 01's nonce
 follows-nonce : (b r : List ℕ) → follows b r ≡ true → IsLinked b r
@@ -263,20 +285,35 @@ unfolding follows
 follows-holds b r bytes e =
     record { readable = reads b r bytes (unless (unreadable b r) _ e .0); nonce = follows-nonce b r e }
 
-holds-follows : (b r : List ℕ) → LinkHolds b r → follows b r ≡ true
+nonce-follows : (b r : List ℕ) → unreadable b r ≡ false → IsLinked b r → follows b r ≡ true
 unfolding follows nonceLinks
-holds-follows b r l = rw (readable b r (l .readable), l .nonce) (same-refl _)
+nonce-follows b r u n = rw (u, n) (same-refl _)
 
 -- Record k is linked exactly where it is by the sentence of Meaning. That sentence asks more than document 01's: a good
 -- request, and lengths of at most 2,000. This is ours, and no house rule of document 01.
-sentence-links : (pile : List ℕ) (k : ℕ) → LinkedAt pile k → linkedOf pile k ≡ true
+nonce-links : (pile : List ℕ) (k : ℕ) → WholePile pile → 1 ≤ k → k < recordsIn pile
+    → unreadable (recordAt pile (k - 1)) (recordAt pile k) ≡ false
+    → IsLinked (recordAt pile (k - 1)) (recordAt pile k) → linkedOf pile k ≡ true
 unfolding linkedOf unlinkable
-sentence-links pile k l =
-    let n : k ≡ 0 → ⊥ = λ z. absurd (omega (arith, l .after)) in
+nonce-links pile k whole after there u n =
+    let m : k ≡ 0 → ⊥ = λ z. absurd (omega arith) in
     rw
-    (any-not _ (whole-exactly pile .1 (l .pile-whole))
-    (any-not _ (ne-eqb k 0 n) (any-not _ (lt-leb (recordsIn pile) k (l .there)) any-none)))
-    (holds-follows (recordAt pile (k - 1)) (recordAt pile k) (l .holds))
+    (any-not _ (whole-exactly pile .1 whole)
+    (any-not _ (ne-eqb k 0 m) (any-not _ (lt-leb (recordsIn pile) k there) any-none)))
+    (nonce-follows (recordAt pile (k - 1)) (recordAt pile k) u n)
+
+sentence-links : (pile : List ℕ) (k : ℕ) → LinkedAt pile k → linkedOf pile k ≡ true
+sentence-links pile k l =
+    nonce-links pile k (l .pile-whole) (l .after) (l .there) (readable _ _ (l .holds .readable)) (l .holds .nonce)
+
+-- the same with the tests of the lengths and the request, which ask nothing of the pile's bytes
+pub tested-links : (pile : List ℕ) (k : ℕ) → WholePile pile → 1 ≤ k → k < recordsIn pile
+    → requestLength (recordAt pile k) ≤ 2000
+    → responseLength (recordAt pile (k - 1)) ≤ 2000
+    → requestBad (requestPacket (recordAt pile k)) ≡ false
+    → IsLinked (recordAt pile (k - 1)) (recordAt pile k) → linkedOf pile k ≡ true
+tested-links pile k whole after there l m t n =
+    nonce-links pile k whole after there (tested-readable _ _ l m t) n
 
 pub linked-exactly : (pile : List ℕ) (k : ℕ) → Bytes pile → linkedOf pile k ≡ true ↔ LinkedAt pile k
 unfolding linkedOf unlinkable

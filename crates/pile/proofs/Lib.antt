@@ -1,7 +1,8 @@
--- Laws that belong to no one function. What the crate claims of itself stands in Exactly and Once.
+-- Laws that belong to no one function. What the crate claims of itself stands in Exactly, Recorded and Once.
 pub mod Wholes
 pub mod Judged
 pub mod Reaching
 pub mod Exactly
+pub mod Recorded
 pub mod Places
 pub mod Once

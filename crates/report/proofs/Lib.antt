@@ -5,6 +5,7 @@ pub mod Says
 pub mod Runs
 pub mod ReportNumbers
 pub mod Exactly
+pub mod Sound
 pub mod Behind
 pub mod CutBytes
 pub mod CutRecords

@@ -9,4 +9,5 @@ pub mod Publishing
 pub mod Reading
 pub mod Signing
 pub mod Stamping
+pub mod Walking
 pub mod Writing

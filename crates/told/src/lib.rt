@@ -11,6 +11,7 @@ mod publishing;
 mod reading;
 mod signing;
 mod stamping;
+mod walking;
 mod writing;
 
 pub use building::path_told;
@@ -30,6 +31,8 @@ pub use reading::request_told;
 pub use reading::response_told;
 pub use signing::answers_told;
 pub use stamping::old_told;
+pub use walking::asked_told;
+pub use walking::took_told;
 pub use writing::wrote_told;
 
 // What `tb_read_request` answers.
@@ -184,4 +187,22 @@ pub struct TbOld {
     pub code: u32,
     pub low: u64,
     pub high: u64,
+}
+
+// What `tb_walk_ask` answers: which server is asked next, and with which nonce.
+#[repr(C)]
+pub struct TbAsked {
+    pub code: u32,
+    pub server: u64,
+    pub nonce: [u8; 32],
+}
+
+// What `tb_walk_take` answers: how the walk stands, and at its end the two records that contradict.
+#[repr(C)]
+pub struct TbTook {
+    pub code: u32,
+    pub outcome: u32,
+    pub at: u64,
+    pub first: u64,
+    pub second: u64,
 }

@@ -23,7 +23,7 @@ use Rattle.wire.specs.Request.{requestMessageCode, requestCode, requestIn, requ
 use Rattle.wire.specs.declared.Request.{Request}
 use Rattle.wire.specs.Tables.{requestTable}
 use Rattle.wire.specs.Versions.{lacksVersion}
-use Rattle.wire.specs.Packet.{bodyStart}
+use Rattle.wire.specs.Packet.{body, bodyStart}
 use Rattle.wire.proofs.Packets.{body-packed, packet-packed}
 use Rattle.writer.specs.Request.{requestFields, requestBytes}
 use Rattle.writer.specs.declared.Wrote.{Wrote}
@@ -115,12 +115,20 @@ module _ (key nonce : List ℕ) (n32 : length nonce ≡ 32) where
       says-0 refusals _ _ (packet-packed (encode fs) (omega (arith, length-message key nonce n32))) refl
       (is-last refusals (ap (moved bodyStart) (message-good ∙ ap requestMessageCode (sym (body-packed (encode fs))))))
 
+  -- the request is a good one, and its NONC is the nonce
+  pub request-passes : requestCode (requestBytes key nonce) .code ≡ 0
+  request-passes = none-quiet refusals (sym request-good)
+
+  pub nonce-reads : valueOf (body (requestBytes key nonce)) NONC ≡ nonce
+  unfolding requestBytes valueAmong
+  nonce-reads = rw (body-packed, value-encoded fs kept NONC)
+
   -- what is written is read back
   pub read-back : requestOf (requestBytes key nonce) ≡ asked key nonce
   unfolding requestOf requestIn requestBytes among valueAmong
   read-back =
       rw (
-        eq-eqb (requestCode (requestBytes key nonce) .code) 0 (none-quiet refusals (sym request-good)),
+        eq-eqb (requestCode (requestBytes key nonce) .code) 0 request-passes,
         body-packed,
         has-encoded fs kept SRV,
         value-encoded fs kept NONC,

@@ -1,11 +1,11 @@
 //! The proved Roughtime library, for Rust.
 //!
 //! Each function here calls the function of the proved library that has the same name after `tb_`,
-//! and adds nothing to it; [`cut`], [`cut_signed`], [`Record`], [`Pile`] and [`SignedPile`] only lay
-//! out bytes beside such calls, and [`Sha512`] and [`Tally`] hold the state between those that end
-//! in `_fields` or `_field`. The proofs speak of the library's own code; that these few lines
-//! declare and call it rightly is shown by the tests alone, which compare every function with an
-//! implementation that shares no code with the library.
+//! and adds nothing to it; [`cut`], [`cut_signed`], [`Record`], [`Pile`] and [`SignedPile`] only
+//! lay out bytes beside such calls, and [`Sha512`], [`Tally`] and [`Walk`] hold the state between
+//! those that end in `_fields` or `_field`, the last with its pile. The proofs speak of the
+//! library's own code; that these few lines declare and call it rightly is shown by the tests
+//! alone, which compare every function with an implementation that shares no code with the library.
 //!
 //! H, below, is Roughtime's hash: the first 32 bytes of SHA-512. The example `time` goes from the
 //! request to the window by [`check_signed`], and takes a file for what the server answered; the
@@ -49,6 +49,7 @@ mod stamps;
 mod tally;
 mod trees;
 mod verifying;
+mod walk;
 
 pub use check::{check_response, may_use, same_delegation, Checked, Window};
 pub use gathering::{Pile, Record, SignedPile};
@@ -80,6 +81,7 @@ pub use trees::{
     leads, path, path_from, root, rows, Placed, Rooted, MOST_LEAVES, MOST_ROWS_LENGTH,
 };
 pub use verifying::{verify, verify_parts};
+pub use walk::{Asked, Heard, Outcome, Walk, FEWEST_SERVERS, MOST_SERVERS};
 
 /// A SHA-512 digest.
 pub type Digest = [u8; 64];

@@ -7,9 +7,9 @@
 //! written.
 //!
 //! Why the safe functions of this package are sound: the library only reads its inputs, only writes
-//! within `out` and a state that it is lent, and keeps no pointer. A Rust slice's pointer is never
-//! null, also where the slice is empty; what it leads to is initialised; and a mutable one, or a new
-//! array that is filled with zeros first, overlaps no other.
+//! within `out` and a state or a walk's pile that it is lent, and keeps no pointer. A Rust slice's
+//! pointer is never null, also where the slice is empty; what it leads to is initialised; and a
+//! mutable one, or a new array that is filled with zeros first, overlaps no other.
 
 #![allow(non_camel_case_types)]
 
@@ -30,6 +30,26 @@ pub struct tb_running {
 #[derive(Clone, Copy, Debug, PartialEq, Eq)]
 pub struct tb_tally {
     /// The largest MIDP - RADI so far, but not below 0.
+    pub most: u64,
+}
+
+/// The state of a measuring walk. It is the caller's, and any content does no harm.
+#[repr(C)]
+#[derive(Clone, Copy, Debug, PartialEq, Eq)]
+pub struct tb_walk {
+    /// The servers' keys, 32 bytes each, and then zeros.
+    pub keys: [u8; 256],
+    /// How many servers there are.
+    pub count: u64,
+    /// The step, from 0.
+    pub step: u64,
+    /// The nonce that is asked next.
+    pub nonce: [u8; 32],
+    /// The rand that it was made with.
+    pub rand: [u8; 32],
+    /// When the last response was received.
+    pub last: u64,
+    /// The longest delay that is allowed.
     pub most: u64,
 }
 
@@ -259,6 +279,35 @@ pub struct tb_forwarded {
     pub last: u64,
     /// How many bytes were written.
     pub length: u64,
+}
+
+/// What [`tb_walk_ask_fields`] answers.
+#[repr(C)]
+#[derive(Clone, Copy, Debug, PartialEq, Eq)]
+pub struct tb_asked {
+    /// 0, or a refusal; then all else is 0.
+    pub code: u32,
+    /// Which server is asked, from 0.
+    pub server: u64,
+    /// The nonce of its request.
+    pub nonce: [u8; 32],
+}
+
+/// What [`tb_walk_take_fields`] answers.
+#[repr(C)]
+#[derive(Clone, Copy, Debug, PartialEq, Eq)]
+pub struct tb_took {
+    /// 0, or a refusal; then all else but `at` is 0.
+    pub code: u32,
+    /// How the walk stands: 0 it goes on, 1 it ended consistent, 2 in malfeasance, 3 its pile was
+    /// altered.
+    pub outcome: u32,
+    /// The byte of the response at which it is bad, with codes 4 to 7; else 0.
+    pub at: u64,
+    /// The place of the earlier record of the pair, in malfeasance; else 0.
+    pub first: u64,
+    /// The place of the later one; else 0.
+    pub second: u64,
 }
 
 /// What [`tb_old_window`] answers.
@@ -567,6 +616,54 @@ extern "C" {
         out: *mut u8,
         out_len: usize,
     ) -> tb_forwarded;
+
+    /// Starts a walk: 0, 31 or 19.
+    pub fn tb_walk_start_fields(
+        keys: &mut [u8; 256],
+        count: &mut u64,
+        step: &mut u64,
+        nonce: &mut [u8; 32],
+        rand: &mut [u8; 32],
+        last: &mut u64,
+        most: &mut u64,
+        servers: *const u8,
+        servers_len: usize,
+        first: &[u8; 32],
+        longest: u64,
+        pile: *const u8,
+        pile_len: usize,
+    ) -> u32;
+    /// Writes the request that is asked next.
+    pub fn tb_walk_ask_fields(
+        keys: &[u8; 256],
+        count: u64,
+        step: u64,
+        nonce: &[u8; 32],
+        rand: &[u8; 32],
+        last: u64,
+        most: u64,
+        out: *mut u8,
+        out_len: usize,
+    ) -> tb_asked;
+    /// Takes the response to it. Of the two answers 1 is yes, and every other number is no.
+    pub fn tb_walk_take_fields(
+        keys: &[u8; 256],
+        count: u64,
+        step: &mut u64,
+        nonce: &mut [u8; 32],
+        rand: &mut [u8; 32],
+        last: &mut u64,
+        most: u64,
+        delegation: u32,
+        signature: u32,
+        sent: u64,
+        received: u64,
+        next: &[u8; 32],
+        response: *const u8,
+        response_len: usize,
+        pile: *mut u8,
+        pile_len: usize,
+    ) -> tb_took;
 
     /// The window of a stamp of the 2021 draft.
     pub fn tb_old_window(midp: u64, radi: u32) -> tb_old;

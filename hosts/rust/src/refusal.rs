@@ -63,10 +63,19 @@ pub enum Refusal {
     ReportText,
     /// the text has no entry, over 16 entries, or a packet above 2,000 bytes
     Entries,
+    /// the response was received before it was sent for, or sent for before the last one was
+    /// received
+    Clock,
+    /// the response took longer than is allowed
+    Delay,
+    /// the walk has ended
+    Ended,
     /// an old stamp's date is under 40587, or its microseconds are 86,401,000,000 or more
     OldStamp,
     /// the pieces of a message come to more than 2^64 - 1 bytes
     Pieces,
+    /// the servers of a walk are not 3 to 8 whole keys, or one key stands there twice
+    WalkServers,
 }
 
 impl Refusal {
@@ -99,8 +108,12 @@ impl Refusal {
             Refusal::ResponseLength => 23,
             Refusal::ReportText => 24,
             Refusal::Entries => 25,
+            Refusal::Clock => 26,
+            Refusal::Delay => 27,
+            Refusal::Ended => 28,
             Refusal::OldStamp => 29,
             Refusal::Pieces => 30,
+            Refusal::WalkServers => 31,
         }
     }
 
@@ -155,10 +168,19 @@ impl Refusal {
             Refusal::Entries => {
                 "the text has no entry, over 16 entries, or a packet above 2,000 bytes"
             }
+            Refusal::Clock => {
+                "the response was received before it was sent for, or sent for before the last one \
+                 was received"
+            }
+            Refusal::Delay => "the response took longer than is allowed",
+            Refusal::Ended => "the walk has ended",
             Refusal::OldStamp => {
                 "an old stamp's date is under 40587, or its microseconds are 86,401,000,000 or more"
             }
             Refusal::Pieces => "the pieces of a message come to more than 2^64 - 1 bytes",
+            Refusal::WalkServers => {
+                "the servers of a walk are not 3 to 8 whole keys, or one key stands there twice"
+            }
         }
     }
 
@@ -191,8 +213,12 @@ impl Refusal {
             23 => Refusal::ResponseLength,
             24 => Refusal::ReportText,
             25 => Refusal::Entries,
+            26 => Refusal::Clock,
+            27 => Refusal::Delay,
+            28 => Refusal::Ended,
             29 => Refusal::OldStamp,
             30 => Refusal::Pieces,
+            31 => Refusal::WalkServers,
             _ => return None,
         })
     }

@@ -8,6 +8,7 @@ pub mod answers;
 pub mod cut_answers;
 pub mod damage;
 pub mod due;
+pub mod guarded;
 pub mod json_values;
 pub mod no_json;
 pub mod packets;
@@ -24,6 +25,7 @@ pub mod tally;
 pub mod text_answers;
 pub mod texts;
 pub mod trees;
+pub mod walks;
 
 use std::fs;
 use std::hint::black_box;

@@ -17,7 +17,7 @@ pub const RULES: [u32; 6] = [8, 9, 10, 11, 12, 13];
 
 /// Numbers that are not 1, as a library may answer to say that it failed, or that are 1 in some of
 /// their bits.
-const NOES: [u32; 7] = [0, u32::MAX, 2, 3, 256, 257, 0x0100_0000];
+pub const NOES: [u32; 7] = [0, u32::MAX, 2, 3, 256, 257, 0x0100_0000];
 
 /// A request and the response to it.
 #[derive(Clone)]

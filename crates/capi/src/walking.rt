@@ -1,0 +1,135 @@
+// The measuring walk, for hosts. The state is memory of the host's, a struct of seven fields. Each crosses by itself,
+// those that change as pointers, and the header's inline functions take the struct.
+ghost use mathlib.Core.Path.{_≡_};
+ghost use lib.ListN.{length};
+ghost use Rattle.laws.specs.Written.{written};
+ghost use Rattle.walk.specs.State.{requestNow};
+ghost use Rattle.walk.specs.Starting.{startedOf};
+ghost use Rattle.walk.specs.Asking.{askedOf};
+ghost use Rattle.told.specs.Walking.{tbAsked};
+ghost use Rattle.capi.specs.Walking.{walkOf, heardOf, Took};
+use told::TbAsked;
+use told::TbTook;
+use walk::Heard;
+use walk::Walk;
+
+// Starts a walk: 0, 31 or 19. After a refusal the state is that of no walk.
+#[no_mangle]
+pub extern "C" fn tb_walk_start_fields<'a>(
+    keys: &mut [u8; 256],
+    count: &mut u64,
+    step: &mut u64,
+    nonce: &mut [u8; 32],
+    rand: &mut [u8; 32],
+    last: &mut u64,
+    most: &mut u64,
+    servers: &'a [u8],
+    first: &[u8; 32],
+    longest: u64,
+    pile: &'a [u8],
+) -> u32
+    ensures { λ r. ⌜ (r ≡ startedOf (now (servers .entry)) (now (first .entry)) longest (length (now (pile .entry)))
+        .refusal .code)
+        × (walkOf (now (keys .exit)) (now (count .exit)) (now (step .exit)) (now (nonce .exit)) (now (rand .exit))
+        (now (last .exit)) (now (most .exit))
+        ≡ startedOf (now (servers .entry)) (now (first .entry)) longest (length (now (pile .entry))) .walk) ⌝ }
+{
+    let s = walk::start(servers, *first, longest, pile);
+    let w = s.walk;
+    let ks = w.keys;
+    *keys = ks;
+    *count = w.count as u64;
+    *step = w.step as u64;
+    let n = w.nonce;
+    *nonce = n;
+    let r = w.rand;
+    *rand = r;
+    *last = w.last;
+    *most = w.most;
+    told::number(s.refusal)
+}
+
+// What is asked next, with the request at the front of out.
+#[no_mangle]
+pub extern "C" fn tb_walk_ask_fields(
+    keys: &[u8; 256],
+    count: u64,
+    step: u64,
+    nonce: &[u8; 32],
+    rand: &[u8; 32],
+    last: u64,
+    most: u64,
+    out: &mut [u8],
+) -> TbAsked
+    ensures { λ r. ⌜ (r ≡ tbAsked (askedOf
+        (walkOf (now (keys .entry)) count step (now (nonce .entry)) (now (rand .entry)) last most)
+        (length (now (out .entry)))))
+        × (now (out .exit) ≡ written (r .code)
+        (requestNow (walkOf (now (keys .entry)) count step (now (nonce .entry)) (now (rand .entry)) last most))
+        (now (out .entry))) ⌝ }
+{
+    let w = Walk {
+        keys: *keys,
+        count: count as usize,
+        step: step as usize,
+        nonce: *nonce,
+        rand: *rand,
+        last: last,
+        most: most,
+    };
+    told::asked_told(walk::ask(w, out))
+}
+
+// Takes a response. On a refusal the state and the pile stay.
+#[no_mangle]
+pub extern "C" fn tb_walk_take_fields(
+    keys: &[u8; 256],
+    count: u64,
+    step: &mut u64,
+    nonce: &mut [u8; 32],
+    rand: &mut [u8; 32],
+    last: &mut u64,
+    most: u64,
+    delegation: u32,
+    signature: u32,
+    sent: u64,
+    received: u64,
+    next: &[u8; 32],
+    response: &[u8],
+    pile: &mut [u8],
+) -> TbTook
+    ensures { λ r. ⌜ Took
+        (walkOf (now (keys .entry)) count (now (step .entry)) (now (nonce .entry)) (now (rand .entry))
+        (now (last .entry)) most)
+        (heardOf delegation signature sent received (now (next .entry))) (now (response .entry)) (now (pile .entry)) r
+        (walkOf (now (keys .entry)) count (now (step .exit)) (now (nonce .exit)) (now (rand .exit)) (now (last .exit))
+        most)
+        (now (pile .exit)) ⌝ }
+{
+    let w = Walk {
+        keys: *keys,
+        count: count as usize,
+        step: *step as usize,
+        nonce: *nonce,
+        rand: *rand,
+        last: *last,
+        most: most,
+    };
+    let h = Heard {
+        delegation: told::yes(delegation),
+        signature: told::yes(signature),
+        sent: sent,
+        received: received,
+        rand: *next,
+    };
+    let m = walk::take(w, h, response, pile);
+    let v = m.walk;
+    *step = v.step as u64;
+    let n = v.nonce;
+    *nonce = n;
+    let r = v.rand;
+    *rand = r;
+    *last = v.last;
+    let s = m.said;
+    told::took_told(s)
+}

@@ -1,0 +1,19 @@
+-- A record from the writer's side (document 01, "Piles and reports"): its 4,096 bytes, of a key and a rand of 32 bytes
+-- and two packets of at most 2,000. What is laid so reads back (`key-reads` and what follows it).
+use mathlib.Core.List.{List, _++_}
+use Prim.Native.Nat.{ℕ, _-_}
+use lib.ListN.{length, replicate}
+use Rattle.laws.specs.Numbers.{leBytes}
+
+-- key 0-31, rand 32-63, request length u32 at 64, response length u32 at 68, zeros 72-95
+unfoldable pub headBytes : List ℕ → List ℕ → ℕ → ℕ → List ℕ
+headBytes key rand n m = key ++ rand ++ leBytes 4 n ++ leBytes 4 m ++ replicate 24 0
+
+-- an area of 2,000 bytes: its packet, and zeros behind it
+unfoldable pub areaBytes : List ℕ → List ℕ
+areaBytes packet = packet ++ replicate (2000 - length packet) 0
+
+-- request area 96-2,095, response area 2,096-4,095
+unfoldable pub recordBytes : List ℕ → List ℕ → List ℕ → List ℕ → List ℕ
+recordBytes key rand request response =
+    headBytes key rand (length request) (length response) ++ areaBytes request ++ areaBytes response

@@ -1,0 +1,29 @@
+-- What is said of an accepted response, from what the steps of the call did.
+use Prim.Native.Nat.{ℕ}
+use mathlib.Core.Path.{_≡_, refl, sym, subst, ap}
+use mathlib.Core.List.{List}
+use lib.ListN.{length}
+use Rattle.refusal.specs.declared.Refusal.{Refusal}
+use Rattle.walk.specs.Taking.{takeCode, recorded, movedOn, SaidOf, Takes, saidNumber, walkAfter, pileAfter}
+use Rattle.walk.specs.declared.Walk.{Walk}
+use Rattle.walk.specs.declared.Heard.{Heard}
+use Rattle.walk.specs.declared.Said.{Said}
+use Rattle.walk.specs.declared.Said.the-variants.{Next, Ended, Refused}
+
+module _ (w : Walk) (h : Heard) (response buffer : List ℕ) where
+  -- the four clauses of the contract: what is said, with the state v and the buffer b afterwards
+  abbrev pub Took : Said → Walk → List ℕ → Type 0
+  Took s v b =
+      (saidNumber s ≡ takeCode w h response (length buffer) .code)
+      × (Takes w h response buffer s × ((v ≡ walkAfter s w h response) × (b ≡ pileAfter s w response buffer)))
+
+  pub taken : (b : List ℕ) (s : Said) (v : Walk) → takeCode w h response (length buffer) .code ≡ 0
+      → b ≡ recorded w response buffer
+      → SaidOf w b s → v ≡ movedOn w h response → Took s v b
+  taken b Next v e p s m = (sym e, ((e, s), (m, p)))
+  taken b (Ended r) v e p s m = (sym e, ((e, subst (λ (x : List ℕ). SaidOf w x (Ended r)) p s), (m, p)))
+  taken b (Refused why) v e p s m = absurd s
+
+  pub untaken : (why : Refusal) → why ≡ takeCode w h response (length buffer) → (why .code ≡ 0 → ⊥)
+      → Took (Refused why) w buffer
+  untaken why e n = (ap (λ (r : Refusal). r .code) e, ((e, n), (refl, refl)))

@@ -1,0 +1,63 @@
+-- `walk::recording::lay` meets its contract. The five pieces follow each other, and fill the buffer.
+use mathlib.Core.Path.{_≡_, ap, _∙_}
+use Prim.Native.Nat.{_+_, _-_}
+use native.Mathlib.Omega.{arith}
+use lib.ListN.{length, replicate, length-replicate}
+use Rattle.laws.specs.Pasted.{pasted}
+use Rattle.laws.proofs.Pasted.{pasted-end}
+use Rattle.laws.proofs.Written.{puts-one, puts-put, puts-as}
+use Rattle.pile.specs.Recording.{headBytes, recordBytes}
+use Rattle.pile.proofs.Recorded.{length-heading, length-record}
+use Rattle.walk.proofs.Laid.{laid}
+use borrow.Author.Needs.{needs}
+use Rattle.walk.proofs.recording.lay.Statement.{statement}
+use Rattle.walk.proofs.recording.lay.Tie as tie
+
+returns : tie.Need-returns
+returns c =
+    let z2 = c .before .before in
+    let p3 = z2 .before .before .before .before in
+    let z1 = p3 .before .before .before .before in
+    let p2 = z1 .before .before .before .before in
+    let p1 = p2 .before .before .before .before .before in
+    let m = p1 .before .before .before in
+    let s = m .before .before .before in
+    let key = s .args .key in
+    let rand = s .args .rand in
+    let q = s .args .t3 in
+    let x = s .args .response .now in
+    let o = s .args .out .now in
+    let k32 : length key ≡ 32 = omega (arith, s .good) in
+    let r32 : length rand ≡ 32 = omega (arith, s .good) in
+    let q-long : length q ≡ 1036 = omega (arith, s .good) in
+    let h = headBytes key rand 1036 (length x) in
+    let h-long : length h ≡ 96 = length-heading key rand 1036 (length x) k32 r32 in
+    let e : 4096 - (2096 + length x) ≡ 2000 - length x = omega arith in
+    let headed = p1 .put .ensures ∙ ap (pasted o 0) (m .heading .ensures) in
+    let w1 = puts-one h 96 headed (omega arith) (omega arith) in
+    let w2 = puts-put q 1132 w1 (p2 .put2 .ensures) (omega arith) (omega arith) in
+    let w3 = puts-put (replicate 964 0) 2096 w2 (z1 .zero .ensures) (omega arith) (omega arith) in
+    let w4 = puts-put x (2096 + length x) w3 (p3 .put3 .ensures) (omega arith) (omega arith) in
+    let w5 =
+    puts-put (replicate (4096 - (2096 + length x)) 0) 4096 w4 (z2 .zero2 .ensures) (simp length-replicate (omega arith))
+    (omega arith) in
+    let w = puts-as (laid key rand q x (4096 - (2096 + length x)) q-long e) w5 in
+    let l = length-record key rand q x k32 r32 (omega arith) (s .pre .0) in
+    w .is ∙ pasted-end o (recordBytes key rand q x) 0 (omega (arith, s .pre .1))
+
+pub lay-spec : {M : Type 1} → statement M
+lay-spec =
+    tie.close
+    (tie.spec
+    (λ c. search needs)
+    (λ c κs. search needs)
+    (λ c. search needs)
+    (λ c κs. search needs)
+    (λ c. search needs)
+    (λ c κs. search needs)
+    (λ c κs. search needs)
+    (λ c κs. search needs)
+    (λ c. search needs)
+    (λ c κs. search needs)
+    (λ c. search needs)
+    returns)

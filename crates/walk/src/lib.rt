@@ -1,0 +1,63 @@
+// The measuring walk (draft 19, 8.2; request P10): 3 to 8 servers are asked in turn, and then the same ones in the same
+// order again. The state is the caller's, handed in and handed back at each call, and the pile stands at the front of a
+// buffer that the caller lends. Any state and any buffer at all are taken.
+mod asking;
+mod recording;
+mod starting;
+mod taking;
+
+pub use asking::ask;
+use refusal::Refusal;
+use report::Report;
+pub use starting::start;
+pub use taking::take;
+
+// The state between packets: the servers' keys, 32 bytes each, and how many there are; the step, from 0; the nonce of
+// the request that is asked, and the rand that it was made with; when the last accepted response was received; and the
+// longest delay that is allowed.
+pub struct Walk {
+    pub keys: [u8; 256],
+    pub count: usize,
+    pub step: usize,
+    pub nonce: [u8; 32],
+    pub rand: [u8; 32],
+    pub last: u64,
+    pub most: u64,
+}
+
+// What a start answers.
+pub struct Started {
+    pub refusal: Refusal,
+    pub walk: Walk,
+}
+
+// What is asked next: which server, from 0, and the nonce.
+pub struct Asked {
+    pub refusal: Refusal,
+    pub server: usize,
+    pub nonce: [u8; 32],
+}
+
+// What the host has of a response beside its packet: whether its two signatures verify, the local seconds at which its
+// request was sent and it was received, and the rand for the next nonce.
+pub struct Heard {
+    pub delegation: bool,
+    pub signature: bool,
+    pub sent: u64,
+    pub received: u64,
+    pub rand: [u8; 32],
+}
+
+// What is said of a response: it is accepted and there is a next to ask; it is accepted and the last, with what the
+// report check says of the pile; or it is refused.
+pub enum Said {
+    Next,
+    Ended(Report),
+    Refused(Refusal),
+}
+
+// That, and the state for the next call.
+pub struct Moved {
+    pub said: Said,
+    pub walk: Walk,
+}

@@ -1,0 +1,56 @@
+/* Asks three servers for the time, twice in the same order, and says whether one of them lied.
+ *
+ *     walk [LAG]
+ *
+ * This program plays the servers too, with what a server of one's own writes. The clock of the
+ * third is LAG seconds behind, or not at all. Nobody signs, and both signatures are taken as good.
+ * A console would take random bytes for the nonce and the rands, send the requests over UDP, ask
+ * tb_answers whether the signatures verify, and cut its report out of the pile with tb_cut_run.
+ */
+#include "trawlbeacon.h"
+
+#include <stdio.h>
+#include <stdlib.h>
+
+enum { SERVERS = 3, RADIUS = 3, LONGEST_DELAY = 5 };
+static const uint8_t KEYS[32 * SERVERS] = {[0] = 1, [32] = 2, [64] = 3};
+static uint64_t now = 1773685571, lag;
+
+/* Sends a request to a server and receives its response, which takes a second. Returns the
+ * response's length. */
+static size_t exchange(uint64_t server, const uint8_t *request, uint8_t *response, size_t room) {
+    static const uint8_t pubk[32], signature[64];
+    uint8_t cert[TB_CERT_LENGTH] = {0}, root[32] = {0};
+    uint64_t time = ++now - (server == SERVERS - 1 ? lag : 0);
+    tb_write_cert(pubk, 0, UINT64_MAX, signature, cert, sizeof cert);
+    tb_leaf(request, TB_REQUEST_LENGTH, root);
+    return tb_write_response(request, TB_REQUEST_LENGTH, 0, root, request, 0, time, RADIUS, cert,
+                             sizeof cert, signature, response, room)
+        .length;
+}
+
+int main(int argc, char **argv) {
+    static uint8_t pile[2 * SERVERS * TB_RECORD_LENGTH], request[TB_REQUEST_LENGTH],
+        response[TB_LONGEST_PACKET + 1];
+    const uint8_t nonce[32] = {4}, rand[32] = {5};
+    struct tb_walk walk = {{0}, 0, 0, {0}, {0}, 0, 0};
+    struct tb_took took = {0, TB_GOES_ON, 0, 0, 0};
+    lag = argc > 1 ? strtoull(argv[1], NULL, 10) : 0;
+
+    took.code = tb_walk_start(&walk, KEYS, sizeof KEYS, nonce, LONGEST_DELAY, pile, sizeof pile);
+    while (took.code == TB_PASSED && took.outcome == TB_GOES_ON) {
+        struct tb_asked asked = tb_walk_ask(&walk, request, sizeof request);
+        uint64_t sent = now;
+        size_t n = exchange(asked.server, request, response, sizeof response);
+        took = tb_walk_take(&walk, 1, 1, sent, now, rand, response, n, pile, sizeof pile);
+    }
+
+    if (took.code != TB_PASSED)
+        printf("refused with code %u: %s\n", (unsigned)took.code, tb_code_text(took.code));
+    else if (took.outcome == TB_MALFEASANCE)
+        printf("malfeasance: records %u and %u contradict each other\n", (unsigned)took.first,
+               (unsigned)took.second);
+    else
+        printf("consistent\n");
+    return took.code == TB_PASSED ? 0 : 1;
+}

@@ -1,0 +1,317 @@
+//! Measuring walks: how both sides are called, what servers tell, and responses that are refused.
+
+use super::damage;
+use super::packets::{number, ResponseFields};
+use super::pairs::NOES;
+use super::Xorshift;
+use independent::hash::{self, Hash};
+use independent::place;
+use independent::refusal::Refusal;
+use independent::tree;
+use independent::walk::{Asked, Heard, Stand, Walk};
+use trawlbeacon::raw::{self, tb_asked, tb_took, tb_walk};
+
+/// A window, by its MIDP and RADI.
+pub type Window = (u64, u32);
+
+/// A state before any start, which a start writes over.
+pub fn unstarted(random: &mut Xorshift) -> tb_walk {
+    let mut state = tb_walk {
+        keys: [0; 256],
+        count: random.next(),
+        step: random.next(),
+        nonce: random.array(),
+        rand: random.array(),
+        last: random.next(),
+        most: random.next(),
+    };
+    state.keys.copy_from_slice(&random.bytes(256));
+    state
+}
+
+/// What a refused start leaves.
+pub const NO_WALK: tb_walk =
+    tb_walk { keys: [0; 256], count: 0, step: 0, nonce: [0; 32], rand: [0; 32], last: 0, most: 0 };
+
+pub fn start(state: &mut tb_walk, keys: &[u8], nonce: &Hash, longest: u64, pile: &[u8]) -> u32 {
+    // SAFETY: the library only reads the keys, the nonce and the pile, and only writes the state.
+    unsafe {
+        raw::tb_walk_start_fields(
+            &mut state.keys,
+            &mut state.count,
+            &mut state.step,
+            &mut state.nonce,
+            &mut state.rand,
+            &mut state.last,
+            &mut state.most,
+            keys.as_ptr(),
+            keys.len(),
+            nonce,
+            longest,
+            pile.as_ptr(),
+            pile.len(),
+        )
+    }
+}
+
+pub fn ask(state: &tb_walk, out: &mut [u8]) -> tb_asked {
+    // SAFETY: the library only reads the state, and only writes `out`.
+    unsafe {
+        raw::tb_walk_ask_fields(
+            &state.keys,
+            state.count,
+            state.step,
+            &state.nonce,
+            &state.rand,
+            state.last,
+            state.most,
+            out.as_mut_ptr(),
+            out.len(),
+        )
+    }
+}
+
+pub fn take(state: &mut tb_walk, heard: &Heard, pile: &mut [u8]) -> tb_took {
+    // Only 1 is yes, so that each of these must do for no.
+    let no = NOES[(heard.response.len() / 4 + usize::from(heard.rand[0])) % NOES.len()];
+    let [delegation, signature] =
+        [heard.delegation, heard.signature].map(|yes| if yes { 1 } else { no });
+    // SAFETY: the library only reads the response and the rand, and only writes state and pile.
+    unsafe {
+        raw::tb_walk_take_fields(
+            &state.keys,
+            state.count,
+            &mut state.step,
+            &mut state.nonce,
+            &mut state.rand,
+            &mut state.last,
+            state.most,
+            delegation,
+            signature,
+            heard.sent,
+            heard.received,
+            &heard.rand,
+            heard.response.as_ptr(),
+            heard.response.len(),
+            pile.as_mut_ptr(),
+            pile.len(),
+        )
+    }
+}
+
+/// The independent side's state, as ours lays it out.
+pub fn laid(walk: &Walk) -> tb_walk {
+    let mut keys = [0; 256];
+    keys[..32 * walk.servers.len()].copy_from_slice(&walk.servers.concat());
+    tb_walk {
+        keys,
+        count: walk.servers.len() as u64,
+        step: walk.accepted,
+        nonce: walk.nonce,
+        rand: walk.rand,
+        last: walk.last,
+        most: walk.longest,
+    }
+}
+
+/// A state as the independent side has it. More servers than there is room for are as bad as one
+/// too many.
+pub fn read_back(state: &tb_walk) -> Walk {
+    let count = state.count.min(9) as usize;
+    let key = |at: usize| match state.keys.get(32 * at..32 * at + 32) {
+        Some(key) => key.try_into().expect("32 bytes"),
+        None => [0; 32],
+    };
+    Walk {
+        servers: (0..count).map(key).collect(),
+        accepted: state.step,
+        nonce: state.nonce,
+        rand: state.rand,
+        last: state.last,
+        longest: state.most,
+    }
+}
+
+/// What ours must answer where the independent side answered that.
+pub fn asked(answer: Result<Asked, Refusal>) -> tb_asked {
+    match answer {
+        Ok(Asked { server, nonce }) => tb_asked { code: 0, server: server as u64, nonce },
+        Err(refusal) => tb_asked { code: refusal.code(), server: 0, nonce: [0; 32] },
+    }
+}
+
+/// The same of a response that was taken.
+pub fn took(answer: Result<Stand, Refusal>, response: &[u8]) -> tb_took {
+    let none = tb_took { code: 0, outcome: 0, at: 0, first: 0, second: 0 };
+    match answer {
+        Ok(Stand::GoesOn) => none,
+        Ok(Stand::Consistent) => tb_took { outcome: 1, ..none },
+        Ok(Stand::Malfeasance(first, second)) => {
+            tb_took { outcome: 2, first: first as u64, second: second as u64, ..none }
+        }
+        Ok(Stand::Altered) => tb_took { outcome: 3, ..none },
+        Err(refusal) => {
+            let code = refusal.code();
+            let at = (4..=7).contains(&code).then(|| place::in_response(response)).flatten();
+            tb_took { code, at: at.map_or(0, |place| place.at as u64), ..none }
+        }
+    }
+}
+
+/// A valid response to this request, short but now and then.
+pub fn answer(
+    random: &mut Xorshift,
+    request: &[u8],
+    nonce: &Hash,
+    (midp, radi): Window,
+) -> ResponseFields {
+    let depth = if random.once_in(8) { 1 + random.below(3) } else { 0 };
+    let path: Vec<Hash> = (0..depth).map(|_| random.array()).collect();
+    let indx = random.below(1 << depth) as u32;
+    let (before, after) = (number(random), number(random));
+    ResponseFields {
+        sig: random.bytes(64),
+        nonc: *nonce,
+        type_number: 1,
+        root: tree::root_of(&hash::leaf(request), indx, &path),
+        path,
+        indx,
+        version: 1,
+        radi,
+        midp,
+        versions: vec![1],
+        cert_sig: random.bytes(64),
+        pubk: random.array(),
+        mint: midp.saturating_sub(before),
+        maxt: midp.saturating_add(after),
+        others: Default::default(),
+    }
+}
+
+/// A response with what is said of its signatures, and the code that it is refused with, or 0.
+pub struct Reply {
+    pub packet: Vec<u8>,
+    pub delegation: bool,
+    pub signature: bool,
+    pub code: u32,
+}
+
+/// What can be wrong with a response, in the order of the codes: its shape, which is 1 to 8, and
+/// then what these codes are for.
+pub const SHAPE: u32 = 8;
+pub const FAULTS: [u32; 6] = [SHAPE, 9, 10, 11, 12, 13];
+
+/// A valid response, spoilt by these faults, of which the first counts.
+pub fn spoilt(random: &mut Xorshift, mut right: ResponseFields, faults: &[u32]) -> Reply {
+    for fault in faults {
+        match fault {
+            9 => right.nonc = another(random, right.nonc),
+            10 => wrong_path(random, &mut right),
+            11 => wrong_time(random, &mut right),
+            _ => (),
+        }
+    }
+    let [delegation, signature] = [!faults.contains(&12), !faults.contains(&13)];
+    let first = faults.first().copied().unwrap_or(0);
+    if first != SHAPE {
+        return Reply { packet: right.packet(), delegation, signature, code: first };
+    }
+    loop {
+        let damaged = damage::bad_response(random, &right);
+        let code = damage::first_code(&damaged.done);
+        if code != 0 {
+            return Reply { packet: damaged.packet, delegation, signature, code };
+        }
+    }
+}
+
+/// Another hash, by one bit or by all.
+fn another(random: &mut Xorshift, mut hash: Hash) -> Hash {
+    if random.once_in(4) {
+        return random.array();
+    }
+    hash[random.below(32)] ^= 1 << random.below(8);
+    hash
+}
+
+fn wrong_path(random: &mut Xorshift, response: &mut ResponseFields) {
+    let depth = response.path.len();
+    match random.below(4) {
+        0 => response.indx |= 1 << (depth + random.below(32 - depth)),
+        1 => response.path.push(random.array()),
+        2 if depth > 0 => response.indx ^= 1 << random.below(depth),
+        _ => response.root = another(random, response.root),
+    }
+}
+
+/// A delegation that does not begin yet, or is over, by one second or by many.
+fn wrong_time(random: &mut Xorshift, response: &mut ResponseFields) {
+    let far = if random.once_in(2) { 0 } else { number(random) };
+    let midp = response.midp;
+    if midp < u64::MAX && (midp == 0 || random.once_in(2)) {
+        response.mint = (midp + 1).saturating_add(far);
+    } else {
+        response.maxt = (midp - 1).saturating_sub(far);
+    }
+}
+
+/// The pair of windows that contradict each other and are the closest together, and of those as
+/// close the first: by the draft's words, in numbers that cannot wrap.
+pub fn contradiction(windows: &[Window]) -> Option<(usize, usize)> {
+    let low = |(midp, radi): Window| i128::from(midp) - i128::from(radi);
+    let high = |(midp, radi): Window| i128::from(midp) + i128::from(radi);
+    let count = windows.len();
+    let mut pairs = (1..count).flat_map(|apart| (apart..count).map(move |j| (j - apart, j)));
+    pairs.find(|(i, j)| low(windows[*i]) > high(windows[*j]))
+}
+
+/// What the servers of a walk tell, and at which steps a server lies.
+pub struct Story {
+    pub windows: Vec<Window>,
+    pub lies: Vec<usize>,
+}
+
+const MINUTE: u64 = 60;
+const DAY: u64 = 86_400;
+const YEAR: u64 = 31_557_600;
+
+/// A story of so many steps. Honest servers tell windows that the true time is in, and it never
+/// goes back, so that no two of theirs contradict each other.
+pub fn story(random: &mut Xorshift, steps: usize) -> Story {
+    let far = random.below(200) as u64;
+    let mut now = random.pick(&[1_700_000_000 + far, 1_700_000_000 + far, far, u64::MAX - far]);
+    let mut windows = Vec::new();
+    for _ in 0..steps {
+        now = now.saturating_add(random.below(3) as u64);
+        windows.push(honest(random, now));
+    }
+    let count = random.pick(&[0, 0, 0, 1, 1, 1, 1, 2, 3]);
+    let mut lies: Vec<usize> = (0..count).map(|_| random.below(steps)).collect();
+    lies.sort_unstable();
+    lies.dedup();
+    for place in &lies {
+        windows[*place] = lie(random, &windows, *place);
+    }
+    Story { windows, lies }
+}
+
+fn honest(random: &mut Xorshift, now: u64) -> Window {
+    let radi = 1 + random.below(10) as u32;
+    let off = random.below(radi as usize + 1) as u64;
+    (if random.once_in(2) { now.saturating_add(off) } else { now.saturating_sub(off) }, radi)
+}
+
+/// A window that is wrong by seconds to years, or that just touches an earlier one, or just does
+/// not.
+fn lie(random: &mut Xorshift, windows: &[Window], place: usize) -> Window {
+    let (midp, radi) = windows[place];
+    if place > 0 && random.once_in(3) {
+        let (midp, wide) = windows[random.below(place)];
+        let low = midp.saturating_sub(wide.into());
+        let beyond = u64::from(radi) + random.below(2) as u64;
+        return (low.saturating_sub(beyond), radi);
+    }
+    let count = 1 + random.below(50) as u64;
+    let by = count * random.pick(&[1, 1, MINUTE, DAY, YEAR]);
+    (if random.once_in(2) { midp.saturating_add(by) } else { midp.saturating_sub(by) }, radi)
+}
