@@ -1,0 +1,5 @@
+-- An accepted pile goes the whole way (Way); the signatures of a walk's pile verify (Verified); and so what a walk saw
+-- convicts (Convicted).
+pub mod Way
+pub mod Verified
+pub mod Convicted

@@ -1,0 +1,76 @@
+-- The way of a pile from whoever made it to whoever judges it, operation by operation. Each operation is what its
+-- contract says of its answer and of the buffer that it was lent, with no answers lent: `out` is the buffer before the
+-- call, and `left` is it afterwards.
+use Prim.Native.Nat.{ℕ, _-_, _*_, _≤_}
+use mathlib.Core.Path.{_≡_}
+use mathlib.Core.List.{List}
+use lib.ListN.{length, take}
+use Rattle.laws.specs.Written.{written}
+use Rattle.pile.specs.Pile.{recordsIn}
+use Rattle.report.specs.Report.{Reports}
+use Rattle.report.specs.Taking.{runBytes}
+use Rattle.report.specs.declared.Report.{Report}
+use Rattle.report.specs.declared.Report.the-variants.{Pair}
+use Rattle.signed.specs.Answers.{ownAnswers}
+use Rattle.intake.specs.Entry.{entriesOf}
+use Rattle.intake.specs.Read.{readOf, readNumber, recordBytes}
+use Rattle.intake.specs.declared.Read.{Read}
+use Rattle.intake.specs.declared.Read.the-variants.{Records}
+use Rattle.publish.specs.Entries.{textOf}
+use Rattle.publish.specs.Published.{Publishes, publishedNumber, publishedBytes}
+use Rattle.publish.specs.declared.Published.{Published}
+use Rattle.publish.specs.declared.Published.the-variants as published
+use Rattle.forward.specs.Forwarded.{Forwards, pileOf, forwardedNumber, forwardedBytes}
+use Rattle.forward.specs.declared.Forwarded.{Forwarded}
+use Rattle.forward.specs.declared.Forwarded.the-variants as forwarded
+
+-- ---- the operations
+
+-- check_signed_report may answer r
+abbrev pub Checks : List ℕ → Report → Type 0
+Checks pile r = Reports pile (ownAnswers pile) r
+
+-- write_signed_report
+pub record Writes (pile out : List ℕ) (p : Published) (left : List ℕ) : Type 0 where
+  pub answer : Publishes pile (ownAnswers pile) (length out) p
+  pub bytes : left ≡ written (publishedNumber p) (publishedBytes p pile) out
+
+-- read_report
+pub record Reads (text out : List ℕ) (x : Read) (left : List ℕ) : Type 0 where
+  pub answer : x ≡ readOf (entriesOf text) (length out)
+  pub bytes : left ≡ written (readNumber x) (recordBytes (entriesOf text)) out
+
+-- cut_signed_text
+pub record Cuts (text out : List ℕ) (f : Forwarded) (left : List ℕ) : Type 0 where
+  pub answer : Forwards text (ownAnswers (pileOf text)) (length out) f
+  pub bytes : left ≡ written (forwardedNumber f) (forwardedBytes f (pileOf text)) out
+
+-- ---- what comes of them
+
+-- the check that verifies signatures by itself accepts the pile and names its records i and j, and it can answer
+-- nothing else
+pub record Accepted (pile : List ℕ) (i j : ℕ) : Type 0 where
+  pub named : Checks pile (Pair i j)
+  pub just-that : (r : Report) → Checks pile r → r ≡ Pair i j
+
+-- whoever reads the text has this pile in the buffer, byte for byte; 65,536 bytes are room for 16 records
+abbrev pub ReadAs : List ℕ → List ℕ → Type 0
+ReadAs text pile = (out : List ℕ) → 65536 ≤ length out → (x : Read) (left : List ℕ) → Reads text out x left
+    → (x ≡ Records (recordsIn pile)) × (take (4096 * recordsIn pile) left ≡ pile)
+
+-- the whole way of a pile whose records i and j contradict; 87,609 bytes are room for the text of 16 records
+pub record WholeWay (pile : List ℕ) (i j : ℕ) : Type 0 where
+  -- the pile is accepted where it was made,
+  pub accepted : Accepted pile i j
+  -- it is written as JSON, and nothing is refused,
+  pub told : (out : List ℕ) → 87609 ≤ length out → (p : Published) (left : List ℕ) → Writes pile out p left
+      → (p ≡ published.Text (length (textOf pile))) × (take (length (textOf pile)) left ≡ textOf pile)
+  -- and whoever reads that text has the same pile, so that it is accepted there.
+  pub read : ReadAs (textOf pile) pile
+  -- From the text the run from record i to record j is cut and written again, and nothing is refused;
+  pub cut : (out : List ℕ) → 87609 ≤ length out → (f : Forwarded) (left : List ℕ) → Cuts (textOf pile) out f left
+      → (f ≡ forwarded.Text i j (length (textOf (runBytes i j pile))))
+      × (take (length (textOf (runBytes i j pile))) left ≡ textOf (runBytes i j pile))
+  -- whoever reads that has the run, and it is accepted too: its first and its last record are named
+  pub run-read : ReadAs (textOf (runBytes i j pile)) (runBytes i j pile)
+  pub run-accepted : Accepted (runBytes i j pile) 0 (j - i)
