@@ -46,6 +46,6 @@ module _
       → WholeWay (pileOf (2 * w .count) (recorded w response b)) i j
   the-whole-way v bytes =
       goes-the-way (pileOf (2 * w .count) (recorded w response b)) i j
-      (bytes-take (recorded w response b) bytes (4096 * (2 * w .count)))
       (subst (λ (a : List ℕ). Reports (pileOf (2 * w .count) (recorded w response b)) a (Pair i j)) (sym (own-yes v))
       (t .1 .1))
+      (bytes-take (recorded w response b) bytes (4096 * (2 * w .count)))

@@ -42,7 +42,7 @@ use Rattle.forward.proofs.Cuts.{forwardOf}
 use Rattle.posting.proofs.CutText.{signed-text-is-cut-and-written}
 use Rattle.posting.proofs.Longest.{longest}
 use Rattle.posting.proofs.Written.{run-bytes, written-is-report}
-use Rattle.conviction.specs.Way.{Checks, Writes, Reads, Cuts, Accepted, ReadAs, WholeWay}
+use Rattle.conviction.specs.Way.{Checks, Writes, Reads, Cuts, Accepted, Arrived, Posted, WholeWay}
 
 -- what stands at the front of a buffer once p was written
 front : {left : List ℕ} (p out : List ℕ) (n : ℕ) → left ≡ written 0 p out → length p ≡ n → take n left ≡ p
@@ -62,47 +62,56 @@ taken pile answers i j s =
         let e : NoRun ≡ Run i j = named-is-cut pile answers _ i j NoRun s (le-refl _) (s .0, le-refl (length pile), m) in
         let z : _≡_ {A = ℕ} 0 1 = cc in absurd (omega arith)
 
--- ---- of a pile of bytes in which the check names records i and j:
+-- ---- of a pile in which the check names records i and j:
 
-module _ (pile : List ℕ) (i j : ℕ) (bytes : Bytes pile) (named : Checks pile (Pair i j)) where
+module _ (pile : List ℕ) (i j : ℕ) (named : Checks pile (Pair i j)) where
   just-named : Accepted pile i j
   just-named = record { named = named; just-that = λ r c. report-once pile (ownAnswers pile) r (Pair i j) c named }
 
-  -- the writer answers its text,
-  text-fits : (room : ℕ) → 87609 ≤ room → roomed (textOf pile) room ≡ published.Text (length (textOf pile))
-  text-fits room h =
+  -- its text is told whole, where there is room for every report,
+  whole-text : (room : ℕ) → 87609 ≤ room
+      → Publishes pile (ownAnswers pile) room (published.Text (length (textOf pile)))
+  whole-text room h =
       let l = longest pile (ownAnswers pile) i j named in
-      rw (le-ltb room (length (textOf pile)) (omega arith)) refl
-
-  published-so : (room : ℕ) → Publishes pile (ownAnswers pile) room (roomed (textOf pile) room)
-  published-so room = record { report = Pair i j; checked = named; answer = refl }
-
-  answered : (room : ℕ) → 87609 ≤ room → (p : Published) → Publishes pile (ownAnswers pile) room p
-      → p ≡ published.Text (length (textOf pile))
-  answered room h p w = publishes-once pile (ownAnswers pile) room p _ w (published-so room) ∙ text-fits room h
+      record { report = Pair i j; checked = named; answer = rw (le-ltb room (length (textOf pile)) (omega arith)) refl }
 
   text-told : (out : List ℕ) → 87609 ≤ length out → (p : Published) (left : List ℕ) → Writes pile out p left
       → (p ≡ published.Text (length (textOf pile))) × (take (length (textOf pile)) left ≡ textOf pile)
   text-told out h p left w =
-      let e = answered (length out) h p (w .answer) in
+      let e = publishes-once pile (ownAnswers pile) (length out) p _ (w .answer) (whole-text (length out) h) in
       (e, front (textOf pile) out _ (rw e at (w .bytes)) refl)
 
-  -- which is read as the pile again
-  read-back : ReadAs (textOf pile) pile
-  read-back out h x left r =
-      let whole = named .0 .pile-whole in
-      let b = report-back pile (ownAnswers pile) i j (length out) bytes named (omega (arith, whole .exact, whole .to)) in
-      let e = r .answer ∙ b .0 in
-      (e, front pile out (4096 * recordsIn pile) (rw (e, b .1) at (r .bytes)) (omega (arith, whole .exact)))
+  most : length pile ≤ 65536
+  most = omega (arith, named .0 .pile-whole .exact, named .0 .pile-whole .to)
 
--- and of the run that the pair names: the check of it names its first and its last record,
-module _ (pile : List ℕ) (i j : ℕ) (bytes : Bytes pile) (named : Checks pile (Pair i j)) where
+  -- and the pile arrives with it, as it is bytes
+  module _ (bytes : Bytes pile) where
+    arrives : (out : List ℕ) → 65536 ≤ length out → (x : Read) (left : List ℕ) → Reads (textOf pile) out x left
+        → Arrived pile i j x left
+    arrives out h x left r =
+        let back = report-back pile (ownAnswers pile) i j (length out) bytes named (omega (arith, most)) in
+        let e = r .answer ∙ back .0 in
+        let same =
+        front pile out (4096 * recordsIn pile) (rw (e, back .1) at (r .bytes))
+        (omega (arith, named .0 .pile-whole .exact)) in
+        record { answer = e; same = same; accepted = rw same just-named }
+
+    posts : Posted (textOf pile) pile i j
+    posts = record {
+      report = written-is-report pile (ownAnswers pile) i j 65536 bytes named most;
+      read = arrives;
+    }
+
+-- ---- and of the run that the pair names, cut out of it:
+
+module _ (pile : List ℕ) (i j : ℕ) (named : Checks pile (Pair i j)) (bytes : Bytes pile) where
   abbrev run : List ℕ
   run = runBytes i j pile
 
   cut-taken : Takes pile (ownAnswers pile) (length pile) (Run i j)
   cut-taken = taken pile (ownAnswers pile) i j named
 
+  -- the check names its first and its last record,
   run-named : Checks run (Pair 0 (j - i))
   run-named =
       subst (λ (a : List ℕ). Reports run a (Pair 0 (j - i)))
@@ -114,29 +123,21 @@ module _ (pile : List ℕ) (i j : ℕ) (bytes : Bytes pile) (named : Checks pile
       → (f ≡ forwarded.Text i j (length (textOf (runBytes i j pile))))
       × (take (length (textOf (runBytes i j pile))) left ≡ textOf (runBytes i j pile))
   text-cut out h f left c =
-      let whole = named .0 .pile-whole in
-      let fits : length pile ≤ 65536 = omega (arith, whole .exact, whole .to) in
-      let back : pileOf (textOf pile) ≡ pile = report-back pile (ownAnswers pile) i j 65536 bytes named fits .1 in
+      let back : pileOf (textOf pile) ≡ pile
+      = report-back pile (ownAnswers pile) i j 65536 bytes named (most pile i j named) .1 in
       let same =
-      signed-text-is-cut-and-written (textOf pile) (recordsIn pile) i j
-      (written-is-report pile (ownAnswers pile) i j 65536 bytes named fits) (rw back cut-taken) (length out) f
-      (published.Text (length (textOf run))) (c .answer)
-      (rw (back, ← (text-fits run 0 (j - i) (run-bytes i j pile bytes) run-named (length out) h))
-      (published-so run 0 (j - i) (run-bytes i j pile bytes) run-named (length out))) in (
-        same .0,
-        front (textOf run) out _
-            (c .bytes
-            ∙ ap₂ (λ (g : Forwarded) (p : List ℕ). written (forwardedNumber g) p out) (same .0)
-            (same .1 ∙ ap (λ (p : List ℕ). textOf (runBytes i j p)) back))
-            refl,
-      )
+      signed-text-is-cut-and-written (textOf pile) (recordsIn pile) i j (posts pile i j named bytes .report)
+      (rw back cut-taken) (length out) f (published.Text (length (textOf run))) (c .answer)
+      (rw back (whole-text run 0 (j - i) run-named (length out) h)) in
+      let left-is = ap₂ (λ (g : Forwarded) (p : List ℕ). written (forwardedNumber g) p out) (same .0)
+      (same .1 ∙ ap (λ (p : List ℕ). textOf (runBytes i j p)) back) in
+      (same .0, front (textOf run) out _ (c .bytes ∙ left-is) refl)
 
   pub goes-the-way : WholeWay pile i j
   goes-the-way = record {
-    accepted = just-named pile i j bytes named;
-    told = text-told pile i j bytes named;
-    read = read-back pile i j bytes named;
+    accepted = just-named pile i j named;
+    told = text-told pile i j named;
+    posted = posts pile i j named bytes;
     cut = text-cut;
-    run-read = read-back run 0 (j - i) (run-bytes i j pile bytes) run-named;
-    run-accepted = just-named run 0 (j - i) (run-bytes i j pile bytes) run-named;
+    cut-posted = posts run 0 (j - i) run-named (run-bytes i j pile bytes);
   }

@@ -23,6 +23,7 @@ use Rattle.publish.specs.declared.Published.the-variants as published
 use Rattle.forward.specs.Forwarded.{Forwards, pileOf, forwardedNumber, forwardedBytes}
 use Rattle.forward.specs.declared.Forwarded.{Forwarded}
 use Rattle.forward.specs.declared.Forwarded.the-variants as forwarded
+use Rattle.posting.specs.Reported.{Readable}
 
 -- ---- the operations
 
@@ -53,10 +54,19 @@ pub record Accepted (pile : List ℕ) (i j : ℕ) : Type 0 where
   pub named : Checks pile (Pair i j)
   pub just-that : (r : Report) → Checks pile r → r ≡ Pair i j
 
--- whoever reads the text has this pile in the buffer, byte for byte; 65,536 bytes are room for 16 records
-abbrev pub ReadAs : List ℕ → List ℕ → Type 0
-ReadAs text pile = (out : List ℕ) → 65536 ≤ length out → (x : Read) (left : List ℕ) → Reads text out x left
-    → (x ≡ Records (recordsIn pile)) × (take (4096 * recordsIn pile) left ≡ pile)
+-- who read a text, with the answer x, and what it left in the buffer, has this pile there, byte for byte, and the check
+-- accepts it
+pub record Arrived (pile : List ℕ) (i j : ℕ) (x : Read) (left : List ℕ) : Type 0 where
+  pub answer : x ≡ Records (recordsIn pile)
+  pub same : take (4096 * recordsIn pile) left ≡ pile
+  pub accepted : Accepted (take (4096 * recordsIn pile) left) i j
+
+-- the text is a report in draft 19's words (8.4.1), with an entry a record, and the pile arrives at whoever reads it;
+-- 65,536 bytes are room for 16 records
+pub record Posted (text pile : List ℕ) (i j : ℕ) : Type 0 where
+  pub report : Readable text 65536 (recordsIn pile)
+  pub read : (out : List ℕ) → 65536 ≤ length out → (x : Read) (left : List ℕ) → Reads text out x left
+      → Arrived pile i j x left
 
 -- the whole way of a pile whose records i and j contradict; 87,609 bytes are room for the text of 16 records
 pub record WholeWay (pile : List ℕ) (i j : ℕ) : Type 0 where
@@ -65,12 +75,11 @@ pub record WholeWay (pile : List ℕ) (i j : ℕ) : Type 0 where
   -- it is written as JSON, and nothing is refused,
   pub told : (out : List ℕ) → 87609 ≤ length out → (p : Published) (left : List ℕ) → Writes pile out p left
       → (p ≡ published.Text (length (textOf pile))) × (take (length (textOf pile)) left ≡ textOf pile)
-  -- and whoever reads that text has the same pile, so that it is accepted there.
-  pub read : ReadAs (textOf pile) pile
-  -- From the text the run from record i to record j is cut and written again, and nothing is refused;
+  -- and it arrives with that text.
+  pub posted : Posted (textOf pile) pile i j
+  -- Out of the text the run from record i to record j is cut and written again, and nothing is refused;
   pub cut : (out : List ℕ) → 87609 ≤ length out → (f : Forwarded) (left : List ℕ) → Cuts (textOf pile) out f left
       → (f ≡ forwarded.Text i j (length (textOf (runBytes i j pile))))
       × (take (length (textOf (runBytes i j pile))) left ≡ textOf (runBytes i j pile))
-  -- whoever reads that has the run, and it is accepted too: its first and its last record are named
-  pub run-read : ReadAs (textOf (runBytes i j pile)) (runBytes i j pile)
-  pub run-accepted : Accepted (runBytes i j pile) 0 (j - i)
+  -- and the run arrives with that text, where its first and its last record are named
+  pub cut-posted : Posted (textOf (runBytes i j pile)) (runBytes i j pile) 0 (j - i)
