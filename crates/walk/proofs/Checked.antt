@@ -39,18 +39,14 @@ pub check-refusal : (q p : List ℕ) (d s : Bool) → refusalIn (verdictOf q p d
 unfolding verdictOf
 check-refusal q p d s = by-refusal (checkCode q p d s) _ (check-bare q p d s)
 
--- a response that passes has both answers yes,
-pub both-yes : (q p : List ℕ) (d s : Bool) → checkCode q p d s .code ≡ 0 → (d ≡ true) × (s ≡ true)
+-- a response that passes has both answers yes
+pub check-yes : (q p : List ℕ) (d s : Bool) → checkCode q p d s .code ≡ 0 → checkCode q p true true .code ≡ 0
 unfolding checkCode agreementCode answersCode
-both-yes q p d s z =
+check-yes q p d s z =
     let a = row-quiet refusals _ _ (row-quiet refusals _ _ (row-quiet refusals _ _ z .1) .1) in
     let b = row-quiet refusals _ _ (row-quiet refusals _ _ (row-quiet refusals _ _ (a .0) .1) .1) in
     let c = row-quiet refusals _ _ (row-quiet refusals _ _ (row-quiet refusals _ _ (b .1) .1) .1) in
-    let e = row-quiet refusals _ _ (c .0) in (
-      not-false _ (test-quiet refusals _ _ tt (e .0)),
-      not-false _ (test-quiet refusals _ _ tt (row-quiet refusals _ _ (e .1) .0)),
-    )
-
--- so that it passes with two yeses
-pub check-yes : (q p : List ℕ) (d s : Bool) → checkCode q p d s .code ≡ 0 → checkCode q p true true .code ≡ 0
-check-yes q p d s z = let y = both-yes q p d s z in rw (y .0, y .1) at z
+    let e = row-quiet refusals _ _ (c .0) in
+    let yes : d ≡ true = not-false _ (test-quiet refusals _ _ tt (e .0)) in
+    let also : s ≡ true = not-false _ (test-quiet refusals _ _ tt (row-quiet refusals _ _ (e .1) .0)) in
+    rw (yes, also) at z
