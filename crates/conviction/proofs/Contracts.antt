@@ -1,5 +1,5 @@
--- The operations of the way are the library's: what a caller learns from the contract of each of them, as the check hands
--- it out, is what the way says of it, and what it learns from a walk's is a step of the walk's trace.
+-- The operations of the way are the library's: what a caller learns from the contract of each of them, as the check
+-- hands it out, is what the way says of it; and a walk's calls are the steps of its trace.
 use Prim.Native.Nat.{ℕ}
 use mathlib.Core.Path.{_≡_, refl}
 use mathlib.Core.Bool.{Bool, true, false, cond}

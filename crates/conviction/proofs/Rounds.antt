@@ -3,7 +3,7 @@ use Prim.Native.Nat.{ℕ, _+_, _-_, _*_, _≤_, _<_}
 use mathlib.Core.Path.{_≡_, refl, sym, ap, subst, _∙_}
 use mathlib.Core.Bool.{Bool, true, false}
 use mathlib.Core.List.{List}
-use mathlib.Core.Logic.{_⊎_, inl, inr}
+use mathlib.Core.Logic.{_⊎_, inl, inr, ⊎-elim}
 use native.Mathlib.Nat.{add-comm}
 use native.Mathlib.Omega.{arith}
 use borrow.Author.Tests.{ltb-true, ltb-false}
@@ -11,7 +11,7 @@ use lib.Dec.{ltb}
 use lib.ListN.{length, take}
 use Rattle.laws.specs.Same.{same}
 use Rattle.laws.proofs.Same.{same-refl}
-use Rattle.pile.specs.Pile.{recordsIn, recordAt, keyIn}
+use Rattle.pile.specs.Pile.{recordAt, keyIn}
 use Rattle.report.specs.declared.Report.{Report}
 use Rattle.walk.specs.State.{keyAt}
 use Rattle.walk.specs.Starting.{serversIn, twice}
@@ -52,6 +52,15 @@ module _ (keys : List ℕ) (n : ℕ) (once : twice keys n ≡ false) where
       let below : j < i → ⊥ = λ l. not-later j i l a (sym e) in
       omega arith
 
+first-or-second : (m n : ℕ) → (m < n) ⊎ (n ≤ m)
+first-or-second m n = by (ltb m n) refl
+  where
+    by : (x : Bool) → ltb m n ≡ x → (m < n) ⊎ (n ≤ m)
+    by true e = inl (ltb-true m n e)
+    by false e = inr (ltb-false m n e)
+
+-- ---- of the call that ends a walk from a start,
+
 module _
     (keys nonce : List ℕ) (most : ℕ) (n32 : length nonce ≡ 32) (w : Walk) (b : List ℕ)
     (way : Reached keys nonce most w b) (h : Heard) (response : List ℕ) (rl : length (h .rand) ≡ 32) (r : Report)
@@ -73,20 +82,16 @@ module _
       ap (λ (m : ℕ). keyIn (recordAt left m)) (add-comm k (w .count))
       ∙ second-round keys nonce most n32 w b way h response rl r t k l
 
-  in-no-other : (k m : ℕ) → k < w .count → m < 2 * w .count → keyIn (recordAt left m) ≡ keyAt keys k
-      → (m ≡ k) ⊎ (m ≡ k + w .count)
-  in-no-other k m l u e = by (ltb m (w .count)) refl
-    where
-      by : (x : Bool) → ltb m (w .count) ≡ x → (m ≡ k) ⊎ (m ≡ k + w .count)
-      by true f =
-          let i = ltb-true m (w .count) f in
-          inl (one-key m k i l (sym (in-first m i) ∙ e))
-      by false f =
-          let d : m - w .count < w .count = omega (arith, ltb-false m (w .count) f) in
-          let back : m ≡ m - w .count + w .count = omega (arith, ltb-false m (w .count) f) in
-          let same = one-key (m - w .count) k d l
-          (sym (in-second (m - w .count) d) ∙ ap (λ (x : ℕ). keyIn (recordAt left x)) (sym back) ∙ e) in
-          inr (back ∙ ap (λ (x : ℕ). x + w .count) same)
+  same-first : (k m : ℕ) → k < w .count → m < w .count → keyIn (recordAt left m) ≡ keyAt keys k → m ≡ k
+  same-first k m l i e = one-key m k i l (sym (in-first m i) ∙ e)
+
+  same-second : (k m : ℕ) → k < w .count → w .count ≤ m → m < 2 * w .count → keyIn (recordAt left m) ≡ keyAt keys k
+      → m - w .count ≡ k
+  same-second k m l i u e =
+      let d : m - w .count < w .count = omega arith in
+      let there : m - w .count + w .count ≡ m = omega arith in
+      one-key (m - w .count) k d l
+      (sym (in-second (m - w .count) d) ∙ ap (λ (x : ℕ). keyIn (recordAt left x)) there ∙ e)
 
   -- the pile that a walk leaves is that of two rounds,
   pub ends-in-two-rounds : TwoRounds keys (w .count) left
@@ -94,7 +99,9 @@ module _
     two-each = ends-with keys nonce most n32 w b way h response rl r t;
     first = in-first;
     second = in-second;
-    no-other = in-no-other;
+    no-other = λ k m l u e.
+        ⊎-elim (λ i. inl (same-first k m l i e)) (λ i. inr (omega (arith, same-second k m l i u e)))
+        (first-or-second m (w .count));
   }
 
   -- of as many responses as were accepted,

@@ -1,17 +1,17 @@
--- Where the signatures of a walk verify, they do so by the keys that stand in its records: our own Ed25519 answers yes to
--- all of the pile.
+-- Where the signatures of a walk verify, they do so by the keys that stand in its records: our own Ed25519 answers yes
+-- to all of the pile.
 use Prim.Native.Nat.{ℕ, _+_, _*_, _/_, _%_, _≤_, _<_}
-use mathlib.Core.Path.{_≡_, refl, sym, subst, ap, ap₂, _∙_}
+use mathlib.Core.Path.{_≡_, refl, sym, subst, ap, _∙_}
 use mathlib.Core.Bool.{Bool, true, false, cond}
 use mathlib.Core.List.{List}
 use mathlib.Core.Logic.{⊎-elim}
 use native.Mathlib.Nat.{eq-or-lt-of-le}
 use native.Mathlib.Omega.{arith}
 use lib.Dec.{eqb}
-use lib.ListN.{length, getD, replicate, length-replicate, getD-replicate}
+use lib.ListN.{length, length-replicate, getD-replicate}
 use lib.Seq.{ext-getD}
 use Rattle.pile.specs.Pile.{recordsIn, recordAt, keyIn, responsePacket}
-use Rattle.signed.specs.Answers.{delegatedAt, respondedAt, answerByte, ownAnswer, ownAnswers}
+use Rattle.signed.specs.Answers.{answerByte, ownAnswer, ownAnswers}
 use Rattle.signed.proofs.Own.{own-length, own-at}
 use Rattle.walk.specs.State.{keyOf}
 use Rattle.walk.specs.Starting.{begunWalk}

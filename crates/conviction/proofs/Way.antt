@@ -1,12 +1,10 @@
 -- A pile that the check with its own Ed25519 accepts goes the whole way, whoever made it.
 use Prim.Native.Nat.{ℕ, _-_, _*_, _≤_}
 use mathlib.Core.Path.{_≡_, refl, sym, subst, ap, ap₂, _∙_}
-use mathlib.Core.Bool.{false}
 use mathlib.Core.List.{List}
 use native.Mathlib.Nat.{le-refl}
 use native.Mathlib.Omega.{arith}
 use borrow.Author.Tests.{le-ltb}
-use lib.Dec.{ltb}
 use lib.ListN.{length, take, drop}
 use lib.Seq.{take-at}
 use Rattle.laws.specs.Bytes.{Bytes}
@@ -26,19 +24,16 @@ use Rattle.report.proofs.Agree.{named-is-cut}
 use Rattle.report.proofs.Stands.{taken-run, cut-names}
 use Rattle.signed.specs.Answers.{ownAnswers}
 use Rattle.signed.proofs.OwnRuns.{own-run}
-use Rattle.intake.specs.Entry.{entriesOf}
-use Rattle.intake.specs.Read.{readNumber, recordBytes}
 use Rattle.intake.specs.declared.Read.{Read}
 use Rattle.publish.specs.Entries.{textOf}
-use Rattle.publish.specs.Published.{roomed, Publishes, publishedNumber, publishedBytes}
+use Rattle.publish.specs.Published.{Publishes}
 use Rattle.publish.specs.declared.Published.{Published}
 use Rattle.publish.specs.declared.Published.the-variants as published
 use Rattle.publish.proofs.Piles.{publishes-once}
 use Rattle.publish.proofs.RoundTrip.{report-back}
-use Rattle.forward.specs.Forwarded.{Forwards, pileOf, forwardedNumber, forwardedBytes}
+use Rattle.forward.specs.Forwarded.{pileOf, forwardedNumber}
 use Rattle.forward.specs.declared.Forwarded.{Forwarded}
 use Rattle.forward.specs.declared.Forwarded.the-variants as forwarded
-use Rattle.forward.proofs.Cuts.{forwardOf}
 use Rattle.posting.proofs.CutText.{signed-text-is-cut-and-written}
 use Rattle.posting.proofs.Longest.{longest}
 use Rattle.posting.proofs.Written.{run-bytes, written-is-report}
@@ -59,7 +54,8 @@ taken pile answers i j s =
         let t : Takes pile answers (length pile) (Run a b) = (s .0, le-refl (length pile), m) in
         subst (Takes pile answers (length pile)) (named-is-cut pile answers _ i j (Run a b) s (le-refl _) t) t
     by Nothing m =
-        let e : NoRun ≡ Run i j = named-is-cut pile answers _ i j NoRun s (le-refl _) (s .0, le-refl (length pile), m) in
+        let e : NoRun ≡ Run i j
+        = named-is-cut pile answers _ i j NoRun s (le-refl _) (s .0, le-refl (length pile), m) in
         let z : _≡_ {A = ℕ} 0 1 = cc in absurd (omega arith)
 
 -- ---- of a pile in which the check names records i and j:
@@ -86,10 +82,10 @@ module _ (pile : List ℕ) (i j : ℕ) (named : Checks pile (Pair i j)) where
 
   -- and the pile arrives with it, as it is bytes
   module _ (bytes : Bytes pile) where
-    arrives : (out : List ℕ) → 65536 ≤ length out → (x : Read) (left : List ℕ) → Reads (textOf pile) out x left
+    arrives : (out : List ℕ) → length pile ≤ length out → (x : Read) (left : List ℕ) → Reads (textOf pile) out x left
         → Arrived pile i j x left
     arrives out h x left r =
-        let back = report-back pile (ownAnswers pile) i j (length out) bytes named (omega (arith, most)) in
+        let back = report-back pile (ownAnswers pile) i j (length out) bytes named h in
         let e = r .answer ∙ back .0 in
         let same =
         front pile out (4096 * recordsIn pile) (rw (e, back .1) at (r .bytes))
@@ -99,7 +95,7 @@ module _ (pile : List ℕ) (i j : ℕ) (named : Checks pile (Pair i j)) where
     posts : Posted (textOf pile) pile i j
     posts = record {
       report = written-is-report pile (ownAnswers pile) i j 65536 bytes named most;
-      read = arrives;
+      read = λ out h x left r. arrives out (omega (arith, most)) x left r;
     }
 
 -- ---- and of the run that the pair names, cut out of it:

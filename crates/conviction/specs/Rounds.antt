@@ -1,5 +1,5 @@
--- Whose records a walk leaves (request P10; draft 19, 8.2): those of all servers in their order, and of all of them once
--- more.
+-- Whose records a walk leaves (request P10; draft 19, 8.2): those of all servers in their order, and of all of them
+-- once more.
 use Prim.Native.Nat.{ℕ, _+_, _*_, _<_}
 use mathlib.Core.Path.{_≡_}
 use mathlib.Core.List.{List}

@@ -83,3 +83,9 @@ pub record WholeWay (pile : List ℕ) (i j : ℕ) : Type 0 where
       × (take (length (textOf (runBytes i j pile))) left ≡ textOf (runBytes i j pile))
   -- and the run arrives with that text, where its first and its last record are named
   pub cut-posted : Posted (textOf (runBytes i j pile)) (runBytes i j pile) 0 (j - i)
+
+-- the pile convicts: it goes the whole way, with some two of its records
+pub record Convicts (pile : List ℕ) : Type 0 where
+  pub i : ℕ
+  pub j : ℕ
+  pub way : WholeWay pile i j
