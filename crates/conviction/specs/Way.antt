@@ -13,7 +13,7 @@ use Rattle.report.specs.declared.Report.{Report}
 use Rattle.report.specs.declared.Report.the-variants.{Pair}
 use Rattle.signed.specs.Answers.{ownAnswers}
 use Rattle.intake.specs.Entry.{entriesOf}
-use Rattle.intake.specs.Read.{readOf, readNumber, recordBytes}
+use Rattle.intake.specs.Read.{readOf, readNumber, pileBytes}
 use Rattle.intake.specs.declared.Read.{Read}
 use Rattle.intake.specs.declared.Read.the-variants.{Records}
 use Rattle.publish.specs.Entries.{textOf}
@@ -39,7 +39,7 @@ pub record Writes (pile out : List ℕ) (p : Published) (left : List ℕ) : Type
 -- read_report
 pub record Reads (text out : List ℕ) (x : Read) (left : List ℕ) : Type 0 where
   pub answer : x ≡ readOf (entriesOf text) (length out)
-  pub bytes : left ≡ written (readNumber x) (recordBytes (entriesOf text)) out
+  pub bytes : left ≡ written (readNumber x) (pileBytes (entriesOf text)) out
 
 -- cut_signed_text
 pub record Cuts (text out : List ℕ) (f : Forwarded) (left : List ℕ) : Type 0 where
