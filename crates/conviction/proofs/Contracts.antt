@@ -1,7 +1,7 @@
 -- The operations of the way are the library's: what a caller learns from the contract of each of them, as the check
 -- hands it out, is what the way says of it; and a walk's calls are the steps of its trace.
-use Prim.Native.Nat.{ℕ}
-use mathlib.Core.Path.{_≡_, refl}
+use Prim.Native.Nat.{ℕ, _*_}
+use mathlib.Core.Path.{_≡_, refl, subst, ap, _∙_}
 use mathlib.Core.Bool.{Bool, true, false, cond}
 use mathlib.Core.List.{List}
 use borrow.Author.Tests.{eqb-true, eqb-false}
@@ -10,6 +10,8 @@ use lib.ListN.{length}
 use denote.Ref.{now}
 use denote.Triple.Clauses.{atExit}
 use borrow.Fn.Kinds.{endedOf}
+use Rattle.laws.specs.Bytes.{Bytes}
+use Rattle.report.specs.declared.Report.the-variants.{Pair}
 use Rattle.signed.proofs.check_signed_report.Kinds as check-kinds
 use Rattle.signed.proofs.check_signed_report.Reads as check-reads
 use Rattle.forward.proofs.write_signed_report.Kinds as write-kinds
@@ -18,11 +20,15 @@ use Rattle.intake.proofs.read_report.Kinds as read-kinds
 use Rattle.intake.proofs.read_report.Reads as read-reads
 use Rattle.forward.proofs.cut_signed_text.Kinds as cut-kinds
 use Rattle.forward.proofs.cut_signed_text.Reads as cut-reads
+use Rattle.hearing.specs.Heard.{ownHeard}
 use Rattle.hearing.proofs.take_signed.Kinds as take-signed-kinds
 use Rattle.hearing.proofs.take_signed.Reads as take-signed-reads
 use Rattle.walk.specs.Starting.{startCode, begunWalk, startedOf}
+use Rattle.walk.specs.Taking.{Takes, pileAfter, pileOf}
 use Rattle.walk.specs.Trace.{Reached}
 use Rattle.walk.specs.Trace.Reached.{took}
+use Rattle.walk.specs.declared.Said.{Said}
+use Rattle.walk.specs.declared.Said.the-variants.{Ended}
 use Rattle.walk.specs.declared.Started.{Started}
 use Rattle.walk.proofs.start.Kinds as start-kinds
 use Rattle.walk.proofs.start.Reads as start-reads
@@ -30,8 +36,8 @@ use Rattle.walk.proofs.take.Kinds as take-kinds
 use Rattle.walk.proofs.take.Reads as take-reads
 use Rattle.conviction.specs.Hearing.{ReachedAlone}
 use Rattle.conviction.specs.Hearing.ReachedAlone.{begun as begun-alone, took as took-alone}
-use Rattle.conviction.specs.Way.{Checks, Writes, Reads, Cuts}
-use Rattle.conviction.proofs.Hearing.{with-answers}
+use Rattle.conviction.specs.Way.{Checks, Writes, Reads, Cuts, WholeWay}
+use Rattle.conviction.proofs.Hearing.{with-answers, the-whole-way-alone}
 
 -- of the arguments a, with the answer x and u left of the parameters
 pub check-learnt : (κs : _) (a : _) (x : _) (u : _)
@@ -95,3 +101,20 @@ pub take-signed-steps : {keys nonce : List ℕ} {most : ℕ} (κs : _) (a : _) (
     → ReachedAlone keys nonce most (x .walk) (u .1 .1 .1 .1 .1 .0)
 take-signed-steps κs a x u p way l =
     rw (p .1 .1 .0, p .1 .1 .1) (took-alone _ _ _ _ (a .1 .1 .1 .0) _ (x .said) way l (p .1 .0))
+
+-- so that the theorem holds of whatever `take_signed` answers: where it says malfeasance, the front of the buffer goes
+-- the whole way
+pub malfeasance-convicts : {keys nonce : List ℕ} {most : ℕ} → length nonce ≡ 32 → (κs : _) (a : _) (x : _) (u : _)
+    → take-signed-reads.Learnt κs a x (atExit (endedOf _ take-signed-kinds.ps take-signed-kinds.r) κs a u)
+    → ReachedAlone keys nonce most (a .0) (now (a .1 .1 .1 .1 .1 .0)) → length (a .1 .1 .1 .0) ≡ 32
+    → (i j : ℕ) → x .said ≡ Ended (Pair i j) → Bytes (u .1 .1 .1 .1 .1 .0)
+    → WholeWay (pileOf (2 * a .0 .count) (u .1 .1 .1 .1 .1 .0)) i j
+malfeasance-convicts {keys} {nonce} {most} n32 κs a x u p way l i j e bytes =
+    let w = a .0 in
+    let response = now (a .1 .1 .1 .1 .0) in
+    let b = now (a .1 .1 .1 .1 .1 .0) in
+    let h = ownHeard w (a .1 .0) (a .1 .1 .0) (a .1 .1 .1 .0) response in
+    let left = p .1 .1 .1 ∙ ap (λ (s : Said). pileAfter s w response b) e in
+    rw left
+    (the-whole-way-alone keys nonce most n32 w b way (a .1 .0) (a .1 .1 .0) (a .1 .1 .1 .0) response l i j
+    (subst (Takes w h response b) e (p .1 .0)) (rw left at bytes))

@@ -54,8 +54,8 @@ pub record Accepted (pile : List ℕ) (i j : ℕ) : Type 0 where
   pub named : Checks pile (Pair i j)
   pub just-that : (r : Report) → Checks pile r → r ≡ Pair i j
 
--- who read a text, with the answer x, and what it left in the buffer, has this pile there, byte for byte, and the check
--- accepts it
+-- a text was read, with the answer x: the pile stands at the front of the buffer, byte for byte, and the check accepts
+-- what stands there
 pub record Arrived (pile : List ℕ) (i j : ℕ) (x : Read) (left : List ℕ) : Type 0 where
   pub answer : x ≡ Records (recordsIn pile)
   pub same : take (4096 * recordsIn pile) left ≡ pile
