@@ -6,6 +6,7 @@ mod members;
 mod numbers;
 mod scan;
 mod strings;
+mod unescaped;
 mod values;
 
 pub use members::find;
