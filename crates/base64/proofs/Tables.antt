@@ -161,4 +161,5 @@ letter-range n h =
 
 pub letter-ranged : (b : ℕ) → isLetter b ≡ true → Ranged b
 letter-ranged b e =
-    let r = back-letter b (eqb-false (sextetOf b) 64 (letter-number b e)) in rw (r .0) at (letter-range (sextetOf b) (r .1))
+    let r = back-letter b (eqb-false (sextetOf b) 64 (letter-number b e)) in
+    rw (r .0) at (letter-range (sextetOf b) (r .1))

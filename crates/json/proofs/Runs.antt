@@ -1,12 +1,12 @@
 -- Laws about runs of characters that stand for themselves.
 use Prim.Native.Nat.{ℕ, suc, _+_, _-_, _<_}
 use mathlib.Core.Path.{_≡_, refl, sym, _∙_, ap}
-use mathlib.Core.Bool.{Bool, true, false, not, _&&_}
+use mathlib.Core.Bool.{Bool, true, false, not, _&&_, true≢false}
 use mathlib.Core.List.{List}
 use native.Mathlib.Omega.{arith}
 use lib.Dec.{eqb, leb, ltb}
 use lib.ListN.{length, getD}
-use borrow.Author.Tests.{leb-true, leb-false, not-true}
+use borrow.Author.Tests.{leb-true, leb-false, eqb-true, eqb-false}
 use Rattle.laws.specs.Pick.{pick}
 use Rattle.json.specs.declared.Unit.the-variants.{Code}
 use Rattle.json.specs.declared.Step.{Step}
@@ -14,18 +14,30 @@ use Rattle.json.specs.declared.Step.the-variants.{More}
 use Rattle.json.specs.Scan.{pastWhile}
 use Rattle.json.specs.Walk.{walked}
 use Rattle.json.specs.Text.{unescaped, unitAt, stepOf, unitStep}
-use Rattle.json.proofs.While.{while-stop, while-end, while-ahead, while-same}
+use Rattle.json.proofs.Picks.{over}
+use Rattle.json.proofs.While.{while-more, while-stop, while-end, while-ahead, while-same}
 use Rattle.json.proofs.Turns.{walked-more, turn-falls}
 use Rattle.json.proofs.Ahead.{forth-unit}
 
--- where the byte does not pass, within the text or past its end, the run is empty
-pub run-none : {x : ℕ} {t : Bool} (s : List ℕ) (k : ℕ) → x ≡ getD s k 0 → t ≡ unescaped x → not t ≡ true
-    → k ≡ pastWhile unescaped s k
-run-none {x} {t} s k e g h = by (leb (suc k) (length s)) refl
-  where
-    by : (b : Bool) → leb (suc k) (length s) ≡ b → k ≡ pastWhile unescaped s k
-    by true u = while-stop unescaped s k (leb-true _ _ u) (ap unescaped (sym e) ∙ sym g ∙ not-true t h)
-    by false u = while-end unescaped s k (omega (arith, leb-false (suc k) (length s) u))
+-- A byte that is no such character, within the text or past its end: the run is empty. One that is lies within.
+module _ {x : ℕ} {t : Bool} (s : List ℕ) (k : ℕ) (e : x ≡ getD s k 0) (g : t ≡ unescaped x) where
+  pub run-none : t ≡ false → k ≡ pastWhile unescaped s k
+  run-none h = by (leb (suc k) (length s)) refl
+    where
+      by : (b : Bool) → leb (suc k) (length s) ≡ b → k ≡ pastWhile unescaped s k
+      by true u = while-stop unescaped s k (leb-true _ _ u) (ap unescaped (sym e) ∙ sym g ∙ h)
+      by false u = while-end unescaped s k (omega (arith, leb-false (suc k) (length s) u))
+
+  pub run-inside : t ≡ true → k < length s
+  unfolding unescaped
+  run-inside h = by (eqb x 0) refl
+    where
+      by : (b : Bool) → eqb x 0 ≡ b → k < length s
+      by true u = absurd (true≢false (sym h ∙ g ∙ ap unescaped (eqb-true x 0 u)))
+      by false u = let f = eqb-false x 0 u in over s e (omega (arith, f))
+
+  pub run-one : t ≡ true → pastWhile unescaped s (k + 1) ≡ pastWhile unescaped s k
+  run-one h = while-more unescaped s k (run-inside h) (ap unescaped (sym e) ∙ sym g ∙ h)
 
 -- by the tests, in the order of `unitAt`
 by-tests : {A : Type 0} (quote slash low below : Bool) (a b c d e : A)

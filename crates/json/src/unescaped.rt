@@ -51,13 +51,10 @@ fn singly(s: &[u8], at: usize) -> usize
     k
 }
 
-// Past the characters at a place that stand for themselves.
-pub fn unescaped_run(s: &[u8], at: usize) -> usize
+// The same, many at a time.
+fn in_stretches(s: &[u8], at: usize) -> usize
     ensures { λ r. ⌜ r ≡ pastWhile unescaped (now (s .entry)) at ⌝ }
 {
-    if !is_unescaped(byte(s, at)) {
-        return at; // the quick way out, for strings of escapes
-    }
     if s.len() < 64 {
         return singly(s, at);
     }
@@ -70,4 +67,27 @@ pub fn unescaped_run(s: &[u8], at: usize) -> usize
         k += 64;
     }
     singly(s, k)
+}
+
+// The same, with the first sixteen one by one, since names are short.
+fn past_few(s: &[u8], at: usize) -> usize
+    ensures { λ r. ⌜ r ≡ pastWhile unescaped (now (s .entry)) at ⌝ }
+{
+    let mut k = at;
+    let mut n: usize = 0;
+    while n < 16 {
+        if !is_unescaped(byte(s, k)) {
+            return k;
+        }
+        k += 1;
+        n += 1;
+    }
+    in_stretches(s, k)
+}
+
+// Past the characters at a place that stand for themselves. Where there are none, as among escapes, that is soon said.
+pub fn unescaped_run(s: &[u8], at: usize) -> usize
+    ensures { λ r. ⌜ r ≡ pastWhile unescaped (now (s .entry)) at ⌝ }
+{
+    if is_unescaped(byte(s, at)) { past_few(s, at) } else { at }
 }

@@ -24,7 +24,8 @@ returns c = while-stop unescaped _ (c .before .before .before .before .loop .k) 
     ∙ c .before .before .before .before .loop .inv
 
 loop-again : tie.Need-loop-again Inv-loop μ-loop
-loop-again c = while-more unescaped _ _ (omega arith) (search (choices, needs)) ∙ c .before .before .before .before .loop .inv
+loop-again c = while-more unescaped _ _ (omega arith) (search (choices, needs))
+    ∙ c .before .before .before .before .loop .inv
 
 returns-2 : tie.Need-returns-2 Inv-loop μ-loop
 returns-2 c = while-end unescaped _ _ (c .loop-test .left) ∙ c .before .loop .inv

@@ -62,7 +62,8 @@ loop-again c =
 
 add-t11 : tie.Need-add-t11 Inv-loop μ-loop
 add-t11 c =
-    let q : Grouped (now (c .before .before .before .before .before .before .before .before .before .before .before .args .s))
+    let q : Grouped
+    (now (c .before .before .before .before .before .before .before .before .before .before .before .args .s))
     (c .before .before .before .before .before .before .before .before .loop .k) _ _ =
     (rw (c .before .before .before .before .before .g .given .1) at
     (c .before .before .before .before .before .before .before .quad-of .ensures)) in search needs
@@ -85,7 +86,8 @@ returns-4 c =
 
 add-t13 : tie.Need-add-t13 Inv-loop μ-loop
 add-t13 c =
-    let q : Grouped (now (c .before .before .before .before .before .before .before .before .before .before .before .args .s))
+    let q : Grouped
+    (now (c .before .before .before .before .before .before .before .before .before .before .before .args .s))
     (c .before .before .before .before .before .before .before .before .loop .k) _ _ =
     (rw (c .before .before .before .before .before .g .given .1) at
     (c .before .before .before .before .before .before .before .quad-of .ensures)) in search needs
