@@ -89,5 +89,9 @@ fn past_few(s: &[u8], at: usize) -> usize
 pub fn unescaped_run(s: &[u8], at: usize) -> usize
     ensures { λ r. ⌜ r ≡ pastWhile unescaped (now (s .entry)) at ⌝ }
 {
-    if is_unescaped(byte(s, at)) { past_few(s, at) } else { at }
+    if is_unescaped(byte(s, at)) {
+        past_few(s, at)
+    } else {
+        at
+    }
 }
