@@ -70,8 +70,8 @@ const PADDING: usize = 912;
 /// A socket that asks.
 struct Client {
     socket: UdpSocket,
-    /// Its requests that are not answered yet, the last one at the end.
-    waiting: Vec<Vec<u8>>,
+    /// Its requests that are not answered yet, the last one at the end, and when each was sent.
+    waiting: Vec<(Vec<u8>, u64)>,
     /// How many of them, at the front, are of earlier rounds, and not waited for any more.
     late: usize,
 }
@@ -83,9 +83,9 @@ impl Client {
     }
 
     /// Takes the request with this nonce from those that wait.
-    fn asked(&mut self, nonce: &[u8; 32]) -> Option<Vec<u8>> {
-        let nonces = |request: &Vec<u8>| trawlbeacon::read_request(request).map(|read| read.nonc);
-        let place = self.waiting.iter().position(|request| nonces(request) == Ok(*nonce))?;
+    fn asked(&mut self, nonce: &[u8; 32]) -> Option<(Vec<u8>, u64)> {
+        let nonce_of = |request: &[u8]| trawlbeacon::read_request(request).map(|read| read.nonc);
+        let place = self.waiting.iter().position(|(asked, _)| nonce_of(asked) == Ok(*nonce))?;
         self.late -= usize::from(place < self.late);
         Some(self.waiting.remove(place))
     }
@@ -130,8 +130,9 @@ impl Crowd {
     fn round(&mut self, number: usize) {
         for client in &mut self.clients {
             let request = request(&mut self.random, &self.key, PADDING);
+            let sent = now();
             client.socket.send(&request).expect("it is sent");
-            client.waiting.push(request);
+            client.waiting.push((request, sent));
         }
         let packet = self.undeserving_packet(number % UNDESERVING);
         self.undeserving.send(&packet).expect("it is sent");
@@ -171,9 +172,9 @@ impl Crowd {
         let Ok(length) = client.socket.recv(&mut packet) else { return false };
         let response = &packet[..length];
         let nonce = trawlbeacon::read_response(response).expect("the server writes responses").nonc;
-        let request = client.asked(&nonce).expect("it was asked, and not answered yet");
+        let (request, sent) = client.asked(&nonce).expect("it was asked, and not answered yet");
         let window = self.check(&request, response).expect("it is valid");
-        assert!(length <= request.len() && window.low <= now() && now() <= window.high);
+        assert!(length <= request.len() && sent <= window.high && window.low <= now());
         self.last = packet[..length].to_vec();
         self.heard += 1;
         true

@@ -11,7 +11,7 @@ use std::io;
 use std::net::{SocketAddr, UdpSocket};
 use std::thread;
 use std::time::Duration;
-use trawlbeacon::{Asked, Heard, Outcome, PacketRefusal, Walk, LONGEST_PACKET};
+use trawlbeacon::{Asked, Outcome, Walk, LONGEST_PACKET};
 
 /// How long a second of the draft's backoff is here.
 const SECOND: Duration = Duration::from_millis(50);
@@ -117,31 +117,13 @@ impl Console {
             }
             socket.set_read_timeout(Some(left))?;
             let Ok(length) = socket.recv(&mut packet) else { continue };
-            match self.take(walk, asked.server, sent, &packet[..length])? {
+            let (sent, received) = (sent.as_secs(), self.teller.since_boot().as_secs());
+            match walk.take_signed(&packet[..length], sent, received, &keys::random()?) {
                 Ok(outcome) => return Ok(Some(outcome)),
                 Err(why) => {
                     self.says(format!("refuses the answer with code {}: {why}", why.code()))
                 }
             }
         }
-    }
-
-    /// Gives a packet to the walk, with what the library says of its two signatures.
-    fn take(
-        &self,
-        walk: &mut Walk,
-        server: usize,
-        sent: Duration,
-        packet: &[u8],
-    ) -> io::Result<Result<Outcome, PacketRefusal>> {
-        let answers = trawlbeacon::answers(&self.servers[server].key, packet);
-        let heard = Heard {
-            delegation: answers.delegation,
-            signature: answers.signature,
-            sent: sent.as_secs(),
-            received: self.teller.since_boot().as_secs(),
-            rand: keys::random()?,
-        };
-        Ok(walk.take(packet, &heard))
     }
 }

@@ -5,8 +5,8 @@
 //! starts three time servers on this machine, one of them nine seconds ahead, behind a network that
 //! loses and damages packets. A console that has no date measures the time by the walk of draft 19,
 //! finds that one lied, and writes the report and its picture into FOLDER. Then the clock is set
-//! right, and it measures again. SEED says which packets are lost or damaged; without it, those of
-//! seed 1 are. The status is 0 where the story went as it should.
+//! right, and it measures again. SEED, a whole number, says which packets are lost or damaged. The
+//! status is 0 where the story went as it should.
 //!
 //! Everything on the wire is the library's: requests, batches of responses, and what is said of
 //! them. Signatures are made by a signer for tests.
@@ -27,8 +27,9 @@ mod words;
 use std::path::PathBuf;
 use std::process::ExitCode;
 
-/// Which packets are lost or damaged where nothing is said of it: some of either, both ways.
-const SEED: u64 = 1;
+/// The seed where none is given. It was sought: with it a time is changed on its way, and two answers
+/// in a row are lost.
+const SEED: u64 = 29_242;
 
 /// The folder and the seed that the arguments name.
 fn named() -> Option<(PathBuf, u64)> {

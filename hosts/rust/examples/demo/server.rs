@@ -23,10 +23,9 @@ pub struct Counts {
     pub largest: AtomicU64,
 }
 
-impl Counts {
-    fn add(&self, to: &AtomicU64, more: usize) {
-        to.fetch_add(more as u64, Ordering::SeqCst);
-    }
+/// Counts some more.
+fn add(counter: &AtomicU64, more: usize) {
+    counter.fetch_add(more as u64, Ordering::SeqCst);
 }
 
 /// A server that runs until this is dropped.
@@ -87,10 +86,9 @@ impl Post {
     fn serve(&self) {
         let (asked, received) = self.drain();
         let answered = if asked.is_empty() { 0 } else { self.answer(&asked) };
-        let counts = &self.counts;
-        counts.add(&counts.answered, answered);
-        // Last, so that whoever sees all packets received sees the rest counted too.
-        counts.add(&counts.received, received);
+        add(&self.counts.answered, answered);
+        // Last, so that whoever sees a packet counted here finds its answer sent and counted.
+        add(&self.counts.received, received);
     }
 
     /// Waits for a packet, and takes it and those behind it, up to a whole batch. Bad ones count
@@ -132,7 +130,7 @@ impl Post {
             let length = batch.answer(place, &asked.packet, &mut out).ok()?;
             self.socket.send_to(&out[..length], asked.from).ok()
         };
-        self.counts.add(&self.counts.batches, 1);
+        add(&self.counts.batches, 1);
         self.counts.largest.fetch_max(asked.len() as u64, Ordering::SeqCst);
         asked.iter().enumerate().filter_map(|each| send(each)).count()
     }
