@@ -1,6 +1,6 @@
 //! The demo's server under load: 100,000 requests from many sockets, and among them packets that
-//! deserve no answer. Each answer is checked as its client does. What is not answered must have been
-//! dropped by the system, which counts that.
+//! deserve no answer. Each answer is checked as its client does. What is not answered must have
+//! been dropped by the system, which counts that.
 
 #[path = "../examples/demo/batch.rs"]
 mod batch;
@@ -31,11 +31,14 @@ use trawlbeacon::{
 
 const REQUESTS: usize = 100_000;
 
-/// Crowds of clients, a thread each, and the sockets of each crowd. Linux has room for some hundred
-/// requests at a socket if nothing else is asked for, and drops what comes beyond that.
+/// Crowds of clients, a thread each, and the sockets of each crowd.
 const CROWDS: usize = 4;
-const SOCKETS: usize = 20;
-const ROUNDS: usize = REQUESTS / CROWDS / SOCKETS;
+const SOCKETS: usize = 200;
+
+/// So many sockets of a crowd ask at once, and the next ones in the next round. Linux by itself has
+/// room for some hundred requests at a socket, and drops what comes beyond that.
+const AT_ONCE: usize = 20;
+const ROUNDS: usize = REQUESTS / CROWDS / AT_ONCE;
 
 /// Kinds of packets that deserve no answer. A crowd sends one in each round.
 const UNDESERVING: usize = 5;
@@ -126,9 +129,10 @@ impl Crowd {
         }
     }
 
-    /// Asks from each socket, and waits for the answers.
+    /// Asks from the sockets whose turn it is, and waits for the answers.
     fn round(&mut self, number: usize) {
-        for client in &mut self.clients {
+        let first = number * AT_ONCE % SOCKETS;
+        for client in &mut self.clients[first..first + AT_ONCE] {
             let request = request(&mut self.random, &self.key, PADDING);
             let sent = now();
             client.socket.send(&request).expect("it is sent");
@@ -137,7 +141,7 @@ impl Crowd {
         let packet = self.undeserving_packet(number % UNDESERVING);
         self.undeserving.send(&packet).expect("it is sent");
         let end = Instant::now() + PATIENCE;
-        for at in 0..self.clients.len() {
+        for at in first..first + AT_ONCE {
             while self.clients[at].awaits() && self.hear(at, end) {}
             self.clients[at].late = self.clients[at].waiting.len();
         }
@@ -178,6 +182,14 @@ impl Crowd {
         self.last = packet[..length].to_vec();
         self.heard += 1;
         true
+    }
+
+    /// Takes what is left at the sockets, and waits for nothing.
+    fn hear_the_rest(&mut self) {
+        for at in 0..SOCKETS {
+            self.clients[at].socket.set_nonblocking(true).expect("it can be set");
+            while self.hear(at, Instant::now()) {}
+        }
     }
 
     /// What a client learns from a response.
@@ -251,7 +263,7 @@ fn settle(server: &Server, crowds: &mut [Crowd]) {
         thread::sleep(Duration::from_millis(10));
     }
     for crowd in crowds {
-        (0..SOCKETS).for_each(|at| while crowd.hear(at, Instant::now()) {});
+        crowd.hear_the_rest();
         assert!(crowd.is_ignored());
     }
 }
@@ -277,8 +289,9 @@ fn a_crowd_is_answered_and_nothing_else_is() {
     let heard: u64 = crowds.iter().map(|crowd| crowd.heard).sum();
     let unanswered = REQUESTS as u64 - heard;
     println!(
-        "{REQUESTS} requests in {seconds:.1} s: {heard} were answered, in {batches} batches of up to \
-         {largest}; {unanswered} were not, and {} packets were ignored",
+        "{REQUESTS} requests from {} sockets in {seconds:.1} s: {heard} were answered, in \
+         {batches} batches of up to {largest}; {unanswered} were not; {} packets were ignored",
+        CROWDS * SOCKETS,
         received - answered
     );
     assert!(batches < heard && largest > 1);

@@ -27,8 +27,8 @@ mod words;
 use std::path::PathBuf;
 use std::process::ExitCode;
 
-/// The seed where none is given. It was sought: with it a time is changed on its way, and two answers
-/// in a row are lost.
+/// The seed where none is given. It was sought: with it a time is changed on its way, and two
+/// answers in a row are lost.
 const SEED: u64 = 29_242;
 
 /// The folder and the seed that the arguments name.

@@ -84,12 +84,15 @@ pub fn tell(folder: &Path, seed: u64) -> Result<(), Ended> {
 /// What is known beforehand, but not to the console.
 fn opening(seed: u64) -> String {
     let ([first, second, third], liar) = (NAMES, NAMES[LIAR]);
-    format!(
-        "Three time servers run on this machine: {first}, {second} and {third}. The clock of {liar} is \
-         {AHEAD} seconds\nahead. The network loses one packet in {ONE_IN} and damages one in {ONE_IN} \
-         (seed {seed}). A console boots.\nIt has no date, only a clock that counts the seconds since \
-         then. They begin each line.\n"
-    )
+    [
+        format!("Three time servers run on this machine: {first}, {second} and {third}. The clock"),
+        format!("of {liar} is {AHEAD} seconds ahead. The network loses one packet in {ONE_IN} and"),
+        format!(
+            "damages one in {ONE_IN} (seed {seed}). A console boots. It has no date, only a clock"
+        ),
+        "that counts the seconds since then. They begin each line.\n".into(),
+    ]
+    .join("\n")
 }
 
 /// What the console concludes where one lied.
@@ -103,9 +106,7 @@ fn lie(console: &Console, measured: &Measured, teller: Teller) -> Result<(), End
     let says = |what: String| teller.says("console", what);
     says("concludes: malfeasance".into());
     says(format!("{one} said, in record {first}, that it was {low} or later"));
-    says(format!(
-        "{other}, asked after that, said in record {second} that it was {high} or earlier"
-    ));
+    says(format!("{other}, asked later, said in record {second} that it was {high} or earlier"));
     says("one of the two lied, and so it takes no time from anybody".into());
     if one != NAMES[LIAR] && other != NAMES[LIAR] {
         return Err("one lied, and the two that are named are others".into());
