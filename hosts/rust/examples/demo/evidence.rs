@@ -42,14 +42,21 @@ pub fn keep(pile: &[u8], folder: &Path) -> Result<Evidence, Box<dyn Error>> {
     })
 }
 
-/// What somebody does who was sent a report: reads it, and checks it by the signatures in it. Tells
-/// the pair that contradicts itself, and the keys of its records, since anybody can make a report
-/// with keys of his own.
-pub fn receive(report: &Path) -> Result<(Pair, Vec<[u8; 32]>), Box<dyn Error>> {
+/// What somebody learns who was sent a report.
+pub struct Received {
+    /// The two of its records that contradict each other.
+    pub pair: Pair,
+    /// The long-term keys in its records. Whose they are is for him to know, since anybody can make
+    /// a report with keys of his own.
+    pub keys: Vec<[u8; 32]>,
+}
+
+/// Reads a report, and checks it by the signatures in it.
+pub fn receive(report: &Path) -> Result<Received, Box<dyn Error>> {
     let mut pile = vec![0; MOST_RECORDS * RECORD_LENGTH];
     let records = trawlbeacon::read_report(&fs::read(report)?, &mut pile)?;
     pile.truncate(records * RECORD_LENGTH);
     let pair = trawlbeacon::check_signed_report(&pile)?;
     let key = |record: &[u8]| record[..32].try_into().expect("a record starts with 32 bytes");
-    Ok((pair, pile.chunks(RECORD_LENGTH).map(key).collect()))
+    Ok(Received { pair, keys: pile.chunks(RECORD_LENGTH).map(key).collect() })
 }

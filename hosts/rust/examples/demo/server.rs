@@ -126,12 +126,12 @@ impl Post {
         let packets = asked.iter().map(|asked| &asked.packet[..]);
         let Ok(batch) = Batch::sign(&self.delegated, midp, packets) else { return 0 };
         let mut out = [0; LONGEST_PACKET];
-        let mut send = |(place, asked): (usize, &Asked)| {
+        let send = |(place, asked): (usize, &Asked)| {
             let length = batch.answer(place, &asked.packet, &mut out).ok()?;
             self.socket.send_to(&out[..length], asked.from).ok()
         };
         add(&self.counts.batches, 1);
         self.counts.largest.fetch_max(asked.len() as u64, Ordering::SeqCst);
-        asked.iter().enumerate().filter_map(|each| send(each)).count()
+        asked.iter().enumerate().filter_map(send).count()
     }
 }

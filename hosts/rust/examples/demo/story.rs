@@ -2,7 +2,7 @@
 
 use super::clock;
 use super::console::{Console, Known, Measured};
-use super::evidence;
+use super::evidence::{self, Received};
 use super::keys::{self, Delegated, TestSigner};
 use super::relay::{Relay, ONE_IN};
 use super::server::{self, Server};
@@ -130,7 +130,7 @@ fn convict(pile: &[u8], keys: &[[u8; 32]], folder: &Path, teller: Teller) -> Res
     says(format!("keeps all records, for ./trawl: {}", kept.pile.display()));
     says(format!("draws them: {}", kept.picture.display()));
     teller.line(format!("\n{}", kept.drawn));
-    let (pair, named) = evidence::receive(&kept.report)?;
+    let Received { pair, keys: named } = evidence::receive(&kept.report)?;
     if !named.iter().all(|key| keys.contains(key)) {
         return Err("the report has the key of a server that nobody asked".into());
     }
