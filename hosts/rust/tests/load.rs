@@ -310,9 +310,10 @@ fn a_crowd_is_answered_and_nothing_else_is() {
 /// the server has counted the request.
 fn answer_to(server: &Server, request: &[u8]) -> Option<Vec<u8>> {
     let socket = connected(server.address);
-    let before = count(&server.counts.received);
+    let (before, end) = (count(&server.counts.received), Instant::now() + Duration::from_secs(20));
     socket.send(request).expect("it is sent");
     while count(&server.counts.received) == before {
+        assert!(Instant::now() < end, "the server has not taken the request");
         thread::sleep(Duration::from_millis(1));
     }
     socket.set_nonblocking(true).expect("it can be set");
