@@ -36,6 +36,7 @@
 mod check;
 mod gathering;
 mod packets;
+pub mod picture;
 mod pieces;
 mod piles;
 pub mod raw;
