@@ -39,6 +39,17 @@ prove() { # WORDS-OF-RT...
     return "$status"
 }
 
+# What a compiled crate is made of: the crates and the kit.
+made_of() {
+    cat "$kit/KIT-ID"
+    find crates crates.txt -name must-fail -prune -o -type f -print0 | sort -z | xargs -0 sha256sum | sha256sum
+}
+
+# Whether a file was delivered that is made of the crates as they are. find_kit goes before.
+made_of_these() { # FILE
+    [ -f "$1" ] && [ -f "$1.of" ] && [ "$(cat "$1.of")" = "$(made_of)" ]
+}
+
 # A toolchain folder that is the kit's but for a clang that first keeps a copy of the module it is to compile.
 listening_toolchain() {
     local file
