@@ -407,7 +407,10 @@ fn wrong_arguments_are_told() {
 fn help_and_version() {
     let room = Room::new("help");
     let help = room.run(&["--help"]);
-    assert!(help.out.starts_with("usage: trawl [PILE [ANSWERS]]\n") && help.status == Some(0));
+    assert!(
+        help.out.starts_with("usage: trawl [PILE [ANSWERS]] [--status]\n")
+            && help.status == Some(0)
+    );
     assert_eq!(help.out.lines().find(|line| line.chars().count() > 100), None);
     let version = room.run(&["--version"]);
     assert_eq!(version.out, format!("trawl {}\n", env!("CARGO_PKG_VERSION")));

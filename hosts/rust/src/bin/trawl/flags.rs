@@ -5,7 +5,7 @@ use std::ffi::OsString;
 use std::path::PathBuf;
 
 pub const USAGE: &str = "\
-usage: trawl [PILE [ANSWERS]]
+usage: trawl [PILE [ANSWERS]] [--status]
        trawl --judge FILE [ANSWERS] [--json] [--dates] [--status]
        trawl --cut FILE [ANSWERS] [--json] [--out OUT [--force]]
        trawl --draw FILE [ANSWERS] [--svg] [--out OUT [--force]] [--status]
