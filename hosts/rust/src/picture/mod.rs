@@ -27,7 +27,7 @@ mod words;
 
 pub use dates::Date;
 
-use crate::{Checked, PacketRefusal, Refusal, Run, Window, MOST_RECORDS, RECORD_LENGTH};
+use crate::{Checked, Cut, PacketRefusal, Refusal, Run, Window, MOST_RECORDS, RECORD_LENGTH};
 
 /// What is drawn of a pile.
 #[derive(Clone, Debug, PartialEq, Eq)]
@@ -61,14 +61,13 @@ impl Picture {
     /// where it is not 1 to 16 whole records.
     pub fn of_pile(pile: &[u8]) -> Result<Picture, Refusal> {
         let judge = |place| crate::judge_signed(pile, place);
-        Picture::of(pile, Judged::Signatures, judge, |out| crate::cut_signed_run(pile, out))
+        Picture::of(pile, Judged::Signatures, judge, crate::cut_signed(pile))
     }
 
     /// The picture of a pile, with answers about its signatures. The only refusal is 15.
     pub fn with_answers(pile: &[u8], answers: &[u8]) -> Result<Picture, Refusal> {
-        crate::pile_code(pile, answers)?;
         let judge = |place| crate::judge(pile, answers, place);
-        Picture::of(pile, Judged::Answers, judge, |out| crate::cut_run(pile, answers, out))
+        Picture::of(pile, Judged::Answers, judge, crate::cut(pile, answers))
     }
 
     /// The picture of a report in the public form, the JSON of draft 19, section 8.4.1, with each
@@ -83,9 +82,9 @@ impl Picture {
         pile: &[u8],
         judged: Judged,
         judge: impl Fn(usize) -> Result<Checked, PacketRefusal>,
-        cut: impl FnOnce(&mut [u8]) -> Result<Run, Refusal>,
+        cut: Result<Cut, Refusal>,
     ) -> Result<Picture, Refusal> {
-        let run = match crate::piles::own_cut(pile, cut) {
+        let run = match cut {
             Ok(cut) => Some(cut.run),
             Err(Refusal::NoContradiction) => None,
             Err(refusal) => return Err(refusal),
@@ -119,6 +118,12 @@ impl Picture {
     fn pair(&self) -> Option<(Window, Window)> {
         let run = self.run?;
         Some((self.records[run.first].told.ok()?, self.records[run.last].told.ok()?))
+    }
+
+    /// Whether a run of its records convicts.
+    #[must_use]
+    pub const fn convicts(&self) -> bool {
+        self.run.is_some()
     }
 
     /// The picture as SVG, for any browser: by itself a whole file, with nothing that is fetched or
