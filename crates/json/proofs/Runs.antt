@@ -1,5 +1,5 @@
 -- Laws about runs of characters that stand for themselves.
-use Prim.Native.Nat.{ℕ, suc, _+_, _-_, _<_}
+use Prim.Native.Nat.{ℕ, suc, _+_, _<_}
 use mathlib.Core.Path.{_≡_, refl, sym, _∙_, ap}
 use mathlib.Core.Bool.{Bool, true, false, not, _&&_, true≢false}
 use mathlib.Core.List.{List}
@@ -9,14 +9,13 @@ use lib.ListN.{length, getD}
 use borrow.Author.Tests.{leb-true, leb-false, eqb-true, eqb-false}
 use Rattle.laws.specs.Pick.{pick}
 use Rattle.json.specs.declared.Unit.the-variants.{Code}
-use Rattle.json.specs.declared.Step.{Step}
 use Rattle.json.specs.declared.Step.the-variants.{More}
 use Rattle.json.specs.Scan.{pastWhile}
 use Rattle.json.specs.Walk.{walked}
 use Rattle.json.specs.Text.{unescaped, unitAt, stepOf, unitStep}
 use Rattle.json.proofs.Picks.{over}
-use Rattle.json.proofs.While.{while-more, while-stop, while-end, while-ahead, while-same}
-use Rattle.json.proofs.Turns.{walked-more, turn-falls}
+use Rattle.json.proofs.While.{while-more, while-stop, while-end, while-same}
+use Rattle.json.proofs.Turns.{walked-more}
 use Rattle.json.proofs.Ahead.{forth-unit}
 
 -- A byte that is no such character, within the text or past its end: the run is empty. One that is lies within.
@@ -67,9 +66,3 @@ pub walked-run : {r : ℕ} (s : List ℕ) (k : ℕ) → r ≡ pastWhile unescape
 walked-run s k e =
     ap (walked (length s) (unitStep s)) e ∙ while-same unescaped s (walked (length s) (unitStep s))
     (λ j u. walked-more (length s) (unitStep s) (forth-unit s) j refl (step-unescaped s j u)) k
-
--- a turn and the run after it end further on
-pub run-falls : {x : Step} {j r : ℕ} (s : List ℕ) (k : ℕ) → x ≡ unitStep s k → x ≡ More j → r ≡ pastWhile unescaped s j
-    → length s - r < length s - k
-run-falls {x} {j} s k e h g =
-    omega (arith, turn-falls (length s) (unitStep s) (forth-unit s) k e h, while-ahead unescaped s j)

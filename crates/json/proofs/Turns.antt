@@ -53,6 +53,9 @@ module _ (L : ℕ) (f : ℕ → Step) (forth : (k : ℕ) → Forth L k (f k)) wh
   pub turn-falls : {x : Step} {j : ℕ} (k : ℕ) → x ≡ f k → x ≡ More j → L - j < L - k
   turn-falls {x} {j} k e h = let p : Forth L k (More j) = rw (sym e ∙ h) at (forth k) in omega arith
 
+  pub turn-ahead : {x : Step} {j : ℕ} (k : ℕ) → x ≡ f k → x ≡ More j → k < j
+  turn-ahead {x} {j} k e h = let p : Forth L k (More j) = rw (sym e ∙ h) at (forth k) in p .0
+
   ahead-walk : (n k : ℕ) → Ahead k (walk n f k)
   unfolding walk onward
   ahead-walk zero k = tt

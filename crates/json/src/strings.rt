@@ -1,6 +1,8 @@
 // Strings (RFC 8259, section 7).
 ghost use mathlib.Core.Path.{_≡_};
-ghost use Prim.Native.Nat.{_+_, _<_};
+ghost use Prim.Native.Nat.{_+_, _≤_, _<_};
+ghost use lib.ListN.{length};
+ghost use Rattle.json.specs.Walk.{walked};
 ghost use Rattle.json.specs.Text.{unitAt, unitStep, stringAt, contentAt, sameList};
 use super::Skip;
 use super::Step;
@@ -43,6 +45,19 @@ fn unit_step(s: &[u8], at: usize) -> Step
     }
 }
 
+// Where to go on after the character from k to n: past the run that it begins, if it is one byte. Others come in rows of
+// their own, and after them no run is looked for.
+fn onward(s: &[u8], k: usize, n: usize) -> usize
+    requires { ⌜ k < n ⌝ }
+    ensures { λ r. ⌜
+        (walked (length (now (s .entry))) (unitStep (now (s .entry))) r
+        ≡ walked (length (now (s .entry))) (unitStep (now (s .entry))) n)
+        × (n ≤ r)
+        ⌝ }
+{
+    if n - k == 1 { unescaped_run(s, n) } else { n }
+}
+
 // A string, at its opening quote.
 pub fn string(s: &[u8], at: usize) -> Skip
     ensures { λ r. ⌜ r ≡ stringAt (now (s .entry)) at ⌝ }
@@ -51,11 +66,11 @@ pub fn string(s: &[u8], at: usize) -> Skip
     if b != 34 {
         return Skip::Bad;
     }
-    let mut k = unescaped_run(s, at + 1);
+    let mut k = at + 1;
     loop {
         match unit_step(s, k) {
             Step::More(n) => {
-                k = unescaped_run(s, n);
+                k = onward(s, k, n);
             }
             Step::End(e) => {
                 return Skip::Past(e);

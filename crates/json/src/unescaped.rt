@@ -69,8 +69,8 @@ fn in_stretches(s: &[u8], at: usize) -> usize
     singly(s, k)
 }
 
-// The same, with the first sixteen one by one, since names are short.
-fn past_few(s: &[u8], at: usize) -> usize
+// Past the characters at a place that stand for themselves. The first sixteen are taken one by one, as names are short.
+pub fn unescaped_run(s: &[u8], at: usize) -> usize
     ensures { λ r. ⌜ r ≡ pastWhile unescaped (now (s .entry)) at ⌝ }
 {
     let mut k = at;
@@ -83,15 +83,4 @@ fn past_few(s: &[u8], at: usize) -> usize
         n += 1;
     }
     in_stretches(s, k)
-}
-
-// Past the characters at a place that stand for themselves. Where there are none, as among escapes, that is soon said.
-pub fn unescaped_run(s: &[u8], at: usize) -> usize
-    ensures { λ r. ⌜ r ≡ pastWhile unescaped (now (s .entry)) at ⌝ }
-{
-    if is_unescaped(byte(s, at)) {
-        past_few(s, at)
-    } else {
-        at
-    }
 }

@@ -1,13 +1,13 @@
 use borrow.Author.Needs.{needs}
-use Prim.Native.Nat.{_+_, _-_}
+use native.Mathlib.Omega.{arith}
+use Prim.Native.Nat.{_-_}
 use mathlib.Core.Path.{_≡_, _∙_}
 use lib.ListN.{length}
 use Rattle.json.specs.Text.{unitStep, stringAt}
 use Rattle.json.specs.Walk.{walked}
 use Rattle.json.proofs.Ahead.{forth-unit}
-use Rattle.json.proofs.Runs.{walked-run, run-falls}
 use Rattle.json.proofs.Picks.{picks}
-use Rattle.json.proofs.Turns.{walked-more, walked-end, walked-wrong}
+use Rattle.json.proofs.Turns.{walked-more, turn-ahead, turn-falls, walked-end, walked-wrong}
 use Rattle.json.proofs.strings.string.Statement.{statement}
 use Rattle.json.proofs.strings.string.Tie as tie
 
@@ -21,23 +21,28 @@ returns : tie.Need-returns Inv-loop μ-loop
 unfolding stringAt
 returns c = search (picks, needs)
 
-add-unescaped-run : tie.Need-add-unescaped-run Inv-loop μ-loop
-add-unescaped-run c = search (picks, needs)
+add-k : tie.Need-add-k Inv-loop μ-loop
+add-k c = search (picks, needs)
 
 loop-holds : tie.Need-loop-holds Inv-loop μ-loop
 unfolding stringAt
-loop-holds c =
-    let a = c .before .before .before .before .args in
-    walked-run (a .s .now) (a .at + 1) (c .unescaped-run .ensures) ∙ search (picks, needs)
+loop-holds c = search (picks, needs)
+
+onward-requires : tie.Need-onward-requires Inv-loop μ-loop
+onward-requires c κs =
+    turn-ahead _ (unitStep _) (forth-unit _) _ (c .before .before .before .unit-step .ensures) (c .before .n .given .1)
 
 loop-less : tie.Need-loop-less Inv-loop μ-loop
 loop-less c =
-    run-falls _ _ (c .before .before .before .before .unit-step .ensures) (c .before .before .n .given .1)
-    (c .unescaped-run2 .ensures)
+    let s = c .before .before .before .before .before .before .before .before .before .args .s .now in
+    let f =
+    turn-falls (length s) (unitStep s) (forth-unit s) (c .before .before .before .before .before .loop .k)
+    (c .before .before .before .before .unit-step .ensures) (c .before .before .n .given .1) in
+    omega (arith, f, c .onward .ensures .1)
 
 loop-again : tie.Need-loop-again Inv-loop μ-loop
 loop-again c =
-    walked-run _ _ (c .unescaped-run2 .ensures)
+    c .onward .ensures .0
     ∙ walked-more _ _ (forth-unit _) _ (c .before .before .before .before .unit-step .ensures)
     (c .before .before .n .given .1)
     ∙ c .before .before .before .before .before .loop .inv
@@ -58,12 +63,11 @@ string-spec =
     μ-loop
     (λ c κs. search needs)
     returns
-    add-unescaped-run
-    (λ c κs. search needs)
+    add-k
     loop-holds
     (λ c κs. search needs)
     (λ c. search needs)
-    (λ c κs. search needs)
+    onward-requires
     loop-less
     loop-again
     (λ c. search needs)
