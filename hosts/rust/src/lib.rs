@@ -31,14 +31,22 @@
 //! # Ok::<(), Refusal>(())
 //! ```
 
+#![cfg_attr(not(feature = "std"), no_std)]
 #![warn(missing_docs)]
 
+#[cfg(feature = "alloc")]
+extern crate alloc;
+
 mod check;
+#[cfg(feature = "alloc")]
+mod cutting;
+#[cfg(feature = "alloc")]
 mod gathering;
 mod packets;
 mod pieces;
 mod piles;
 pub mod raw;
+mod record;
 mod refusal;
 mod reports;
 mod servers;
@@ -49,18 +57,23 @@ mod stamps;
 mod tally;
 mod trees;
 mod verifying;
+#[cfg(feature = "alloc")]
 mod walk;
 
 pub use check::{check_response, may_use, same_delegation, Checked, Window};
-pub use gathering::{Pile, Record, SignedPile};
+#[cfg(feature = "alloc")]
+pub use cutting::{cut, cut_signed, Cut};
+#[cfg(feature = "alloc")]
+pub use gathering::{Pile, SignedPile};
 pub use packets::{
     read_request, read_response, write_request, Request, Response, LONGEST_PACKET, REQUEST_LENGTH,
 };
 pub use pieces::Sha512;
 pub use piles::{
-    check_report, contradicts, cut, cut_run, first_rand_zero, judge, linked, pile_code, Cut, Pair,
+    check_report, contradicts, cut_run, first_rand_zero, judge, linked, pile_code, Pair,
     ReportRefusal, Run, MOST_RECORDS, RECORD_LENGTH,
 };
+pub use record::Record;
 pub use refusal::{PacketRefusal, Refusal};
 pub use reports::{
     cut_signed_text, cut_text, read_report, write_report, write_signed_report, CutText,
@@ -72,7 +85,7 @@ pub use serving::{
     DELEGATION_CONTEXT, DELE_LENGTH, RESPONSE_CONTEXT, SREP_LENGTH,
 };
 pub use signed::{
-    answers, check_signed, check_signed_report, cut_signed, cut_signed_run, judge_signed, Answers,
+    answers, check_signed, check_signed_report, cut_signed_run, judge_signed, Answers,
 };
 pub use signing::{delegation_text, response_text, signed_parts, SignedParts, LONGEST_TEXT};
 pub use stamps::{old_window, OldWindow};
@@ -81,6 +94,7 @@ pub use trees::{
     leads, path, path_from, root, rows, Placed, Rooted, MOST_LEAVES, MOST_ROWS_LENGTH,
 };
 pub use verifying::{verify, verify_parts};
+#[cfg(feature = "alloc")]
 pub use walk::{Asked, Heard, Outcome, Walk, FEWEST_SERVERS, MOST_SERVERS};
 
 /// A SHA-512 digest.

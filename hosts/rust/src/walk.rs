@@ -1,5 +1,8 @@
 //! The measuring walk: servers that are asked in turn, and then again in the same order.
 
+use alloc::vec;
+use alloc::vec::Vec;
+
 use crate::raw::{self, tb_walk};
 use crate::{Hash, PacketRefusal, Pair, Refusal, RECORD_LENGTH, REQUEST_LENGTH};
 
