@@ -57,7 +57,6 @@ mod stamps;
 mod tally;
 mod trees;
 mod verifying;
-#[cfg(feature = "alloc")]
 mod walk;
 
 pub use check::{check_response, may_use, same_delegation, Checked, Window};
@@ -94,7 +93,6 @@ pub use trees::{
     leads, path, path_from, root, rows, Placed, Rooted, MOST_LEAVES, MOST_ROWS_LENGTH,
 };
 pub use verifying::{verify, verify_parts};
-#[cfg(feature = "alloc")]
 pub use walk::{Asked, Heard, Outcome, Walk, FEWEST_SERVERS, MOST_SERVERS};
 
 /// A SHA-512 digest.

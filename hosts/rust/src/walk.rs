@@ -1,9 +1,9 @@
 //! The measuring walk: servers that are asked in turn, and then again in the same order.
 
-use alloc::vec;
-use alloc::vec::Vec;
+#[cfg(feature = "alloc")]
+use alloc::{vec, vec::Vec};
 
-use crate::raw::{self, tb_walk};
+use crate::raw::{self, tb_took, tb_walk};
 use crate::{Hash, PacketRefusal, Pair, Refusal, RECORD_LENGTH, REQUEST_LENGTH};
 
 /// The fewest servers of a walk.
@@ -23,11 +23,10 @@ pub struct Asked {
     pub request: [u8; REQUEST_LENGTH],
 }
 
-/// What a host has of a response beside its packet.
+/// What a host that verifies signatures itself has of a response beside its packet.
 #[derive(Clone, Copy, Debug, PartialEq, Eq)]
 pub struct Heard {
-    /// Whether the delegation's signature verifies, as [`SignedParts`](crate::SignedParts) says;
-    /// [`answers`](crate::answers) has this and the next, with the key of the server that is asked.
+    /// Whether the delegation's signature verifies, as [`SignedParts`](crate::SignedParts) says.
     pub delegation: bool,
     /// Whether the response's signature does.
     pub signature: bool,
@@ -59,30 +58,26 @@ pub enum Outcome {
 /// once more in the same order. It holds the state between packets and the pile of the records.
 ///
 /// ```
-/// use trawlbeacon::{Heard, Outcome, Walk};
-/// # use trawlbeacon::{leaf, write_cert, write_response, Reply};
+/// use trawlbeacon::{Outcome, Walk};
+/// # use independent::{ed25519::Ed25519, making::Link, signing::Keys};
 /// # fn random() -> [u8; 32] { [7; 32] }
 /// # fn now() -> u64 { 100 }
-/// # fn exchange(_server: usize, request: &[u8]) -> Vec<u8> {
-/// #     let (mut cert, mut out, root, signature) = ([0; 152], [0; 416], leaf(request), &[8; 64]);
-/// #     write_cert(&[5; 32], 0, 2000, &[6; 64], &mut cert).unwrap();
-/// #     let (midp, radi, path) = (1000, 3, &[]);
-/// #     let (indx, root, cert) = (0, &root, &cert);
-/// #     let reply = Reply { request, indx, root, path, midp, radi, cert, signature };
-/// #     write_response(&reply, &mut out).unwrap();
-/// #     out.to_vec()
-/// # }
-/// # fn verify(_key: &[u8; 32], _response: &[u8]) -> (bool, bool) { (true, true) }
+/// # let ed25519 = Ed25519::new();
+/// # let servers = [1, 2, 3].map(|seed| Keys::new(&ed25519, [seed; 32], [9 + seed; 32]));
+/// # let keys: Vec<[u8; 32]> = servers.iter().map(|server| server.long_term.public).collect();
+/// # let exchange = |asked: &trawlbeacon::Asked| {
+/// #     let link = Link { nonce: Some(asked.nonce), ..Link::new(0, 1000, 3) };
+/// #     let mut pieces = link.response(&asked.request, &[]);
+/// #     servers[asked.server].sign(&ed25519, &mut pieces);
+/// #     pieces.packet()
+/// # };
 ///
-/// let keys = [[1; 32], [2; 32], [3; 32]];
 /// let mut walk = Walk::start(&keys, &random(), 5)?;
 /// let mut outcome = Outcome::GoesOn;
 /// while outcome == Outcome::GoesOn {
 ///     let asked = walk.ask()?;
-///     let (sent, response, received) = (now(), exchange(asked.server, &asked.request), now());
-///     let (delegation, signature) = verify(&keys[asked.server], &response);
-///     let heard = Heard { delegation, signature, sent, received, rand: random() };
-///     outcome = walk.take(&response, &heard)?;
+///     let (sent, response, received) = (now(), exchange(&asked), now());
+///     outcome = walk.take_signed(&response, sent, received, &random())?;
 /// }
 /// assert_eq!(outcome, Outcome::Consistent);
 /// # assert_eq!(walk.pile().len(), 6 * trawlbeacon::RECORD_LENGTH);
@@ -90,12 +85,22 @@ pub enum Outcome {
 /// ```
 ///
 /// A response that is refused changes nothing, so that the same request can be sent again.
+///
+/// The buffer of its pile is its own, or one that is lent or handed over
+/// ([`start_in`](Walk::start_in)), as where there is no heap.
 #[derive(Clone, Debug, PartialEq, Eq)]
-pub struct Walk {
+pub struct Walk<Buffer = Own> {
     state: tb_walk,
-    buffer: Vec<u8>,
+    buffer: Buffer,
 }
 
+/// What holds a pile where nothing else is said.
+#[cfg(feature = "alloc")]
+type Own = Vec<u8>;
+#[cfg(not(feature = "alloc"))]
+type Own = [u8; crate::MOST_RECORDS * RECORD_LENGTH];
+
+#[cfg(feature = "alloc")]
 impl Walk {
     /// A walk over the servers with these long-term keys, in their order, whose first request has
     /// this nonce. A response may take `longest` seconds.
@@ -105,8 +110,36 @@ impl Walk {
     /// [`Refusal::WalkServers`] (31) where the servers are fewer than 3 or more than 8, or a key
     /// stands there twice.
     pub fn start(servers: &[[u8; 32]], nonce: &[u8; 32], longest: u64) -> Result<Walk, Refusal> {
-        let keys = servers.concat();
         let buffer = vec![0; 2 * servers.len().min(MOST_SERVERS) * RECORD_LENGTH];
+        Walk::start_in(servers, nonce, longest, buffer)
+    }
+}
+
+impl<Buffer: AsRef<[u8]> + AsMut<[u8]>> Walk<Buffer> {
+    /// What [`start`](Walk::start) does, with a buffer that is an array, say, or lent: two records a
+    /// server. What it holds plays no part.
+    ///
+    /// # Errors
+    ///
+    /// 31 as there, and then [`Refusal::Room`] (19) where the buffer is too short.
+    ///
+    /// ```
+    /// use trawlbeacon::{Refusal, Walk, RECORD_LENGTH};
+    ///
+    /// let (keys, mut pile) = ([[1; 32], [2; 32], [3; 32]], [0; 6 * RECORD_LENGTH]);
+    /// let walk = Walk::start_in(&keys, &[7; 32], 5, &mut pile[..])?;
+    /// assert_eq!((walk.ask()?.server, walk.pile().len()), (0, 0));
+    /// let short = Walk::start_in(&keys, &[7; 32], 5, &mut pile[1..]);
+    /// assert_eq!(short.err(), Some(Refusal::Room));
+    /// # Ok::<(), Refusal>(())
+    /// ```
+    pub fn start_in(
+        servers: &[[u8; 32]],
+        nonce: &[u8; 32],
+        longest: u64,
+        buffer: Buffer,
+    ) -> Result<Walk<Buffer>, Refusal> {
+        let pile = buffer.as_ref();
         let mut state = tb_walk {
             keys: [0; 256],
             count: 0,
@@ -126,12 +159,12 @@ impl Walk {
                 &mut state.rand,
                 &mut state.last,
                 &mut state.most,
-                keys.as_ptr(),
-                keys.len(),
+                servers.as_ptr().cast(),
+                32 * servers.len(),
                 nonce,
                 longest,
-                buffer.as_ptr(),
-                buffer.len(),
+                pile.as_ptr(),
+                pile.len(),
             )
         })?;
         Ok(Walk { state, buffer })
@@ -141,7 +174,7 @@ impl Walk {
     /// buffer of two records a server that begins with what [`pile`](Walk::pile) gave. A state that
     /// no start led to does no harm, and what is then said means nothing.
     #[must_use]
-    pub fn resume(state: tb_walk, buffer: Vec<u8>) -> Walk {
+    pub fn resume(state: tb_walk, buffer: Buffer) -> Walk<Buffer> {
         Walk { state, buffer }
     }
 
@@ -180,7 +213,7 @@ impl Walk {
     /// or sent for before the last one was received; 27 where it took too long; and 1 to 13 as
     /// [`check_response`](crate::check_response) has them. The walk stays as it was.
     pub fn take(&mut self, response: &[u8], heard: &Heard) -> Result<Outcome, PacketRefusal> {
-        let state = &mut self.state;
+        let (state, pile) = (&mut self.state, self.buffer.as_mut());
         // SAFETY: see raw.
         let took = unsafe {
             raw::tb_walk_take_fields(
@@ -198,20 +231,47 @@ impl Walk {
                 &heard.rand,
                 response.as_ptr(),
                 response.len(),
-                self.buffer.as_mut_ptr(),
-                self.buffer.len(),
+                pile.as_mut_ptr(),
+                pile.len(),
             )
         };
-        PacketRefusal::check(took.code, took.at)?;
-        // A pair is of two records of the pile, so that nothing is lost.
-        Ok(match took.outcome {
-            0 => Outcome::GoesOn,
-            1 => Outcome::Consistent,
-            2 => Outcome::Malfeasance(Pair {
-                first: took.first as usize,
-                second: took.second as usize,
-            }),
-            _ => Outcome::PileAltered,
+        outcome(took)
+    }
+
+    /// The same with no answers: the response's two signatures are verified under the key of the
+    /// server that is asked, as [`answers`](crate::answers) does. `sent` and `received` are when, in
+    /// seconds by the host's own clock, the request was sent and the response received, and `rand`
+    /// is 32 random bytes for the next request.
+    ///
+    /// # Errors
+    ///
+    /// As [`take`](Walk::take), where nothing is verified if another code than 12 and 13 refuses.
+    pub fn take_signed(
+        &mut self,
+        response: &[u8],
+        sent: u64,
+        received: u64,
+        rand: &[u8; 32],
+    ) -> Result<Outcome, PacketRefusal> {
+        let (state, pile) = (&mut self.state, self.buffer.as_mut());
+        // SAFETY: see raw.
+        outcome(unsafe {
+            raw::tb_walk_take_signed_fields(
+                &state.keys,
+                state.count,
+                &mut state.step,
+                &mut state.nonce,
+                &mut state.rand,
+                &mut state.last,
+                state.most,
+                sent,
+                received,
+                rand,
+                response.as_ptr(),
+                response.len(),
+                pile.as_mut_ptr(),
+                pile.len(),
+            )
         })
     }
 
@@ -219,9 +279,10 @@ impl Walk {
     /// are what [`check_report`](crate::check_report) and [`cut`](crate::cut) take.
     #[must_use]
     pub fn pile(&self) -> &[u8] {
-        let room = self.buffer.len() / RECORD_LENGTH;
+        let buffer = self.buffer.as_ref();
+        let room = buffer.len() / RECORD_LENGTH;
         let taken = usize::try_from(self.state.step).map_or(room, |step| step.min(room));
-        &self.buffer[..taken * RECORD_LENGTH]
+        &buffer[..taken * RECORD_LENGTH]
     }
 
     /// The state as it is, to be kept and gone on with.
@@ -229,4 +290,18 @@ impl Walk {
     pub fn state(&self) -> tb_walk {
         self.state
     }
+}
+
+/// What a call of a taker answered.
+fn outcome(took: tb_took) -> Result<Outcome, PacketRefusal> {
+    PacketRefusal::check(took.code, took.at)?;
+    // A pair is of two records of the pile, so that nothing is lost.
+    Ok(match took.outcome {
+        0 => Outcome::GoesOn,
+        1 => Outcome::Consistent,
+        2 => {
+            Outcome::Malfeasance(Pair { first: took.first as usize, second: took.second as usize })
+        }
+        _ => Outcome::PileAltered,
+    })
 }
