@@ -1,0 +1,212 @@
+//! The picture as SVG.
+
+use super::axis::{Axis, Tick};
+use super::canvas::{Anchor, Canvas, Length, PX};
+use super::dates::{brief, Date, DAY};
+use super::{style, words, Picture, Shown};
+use crate::Window;
+
+const WIDTH: Length = 960 * PX;
+const MARGIN: Length = 18 * PX;
+
+/// Where the rows of records start, and how high each is.
+const ROWS: Length = 66 * PX;
+const ROW: Length = 48 * PX;
+
+/// Where the circles stand that are chained, and what stands beside them.
+const CHAIN: Length = 32 * PX;
+const BESIDE: Length = 52 * PX;
+
+/// Where the axis starts, how long it is, and how much of that a break of it takes.
+const AXIS: Length = 160 * PX;
+const AXIS_WIDTH: Length = 700 * PX;
+const BREAK: Length = 44 * PX;
+
+/// How far the axis is below the rows, and how much it takes there with its names.
+const OFF_ROWS: Length = 12 * PX;
+const SCALE: Length = 58 * PX;
+
+/// How far a bar is below the start of its row, and how high it is.
+const BAR_DOWN: Length = 6 * PX;
+const BAR: Length = 14 * PX;
+const LEAST_BAR: Length = 3 * PX;
+
+/// A line of text below the scale.
+const LINE: Length = 19 * PX;
+
+/// How wide a letter of the names below the axis is, at most.
+const LETTER: Length = 7 * PX;
+
+pub(super) fn draw(picture: &Picture) -> String {
+    let windows: Vec<_> = picture.windows().iter().map(|told| (told.low, told.high)).collect();
+    let axis = Axis::of(&windows, AXIS_WIDTH, BREAK);
+    let notes = words::notes(picture, axis.as_ref(), LEAST_BAR);
+    let lines = (picture.servers.len() + notes.len()) as u64;
+    let height = below(picture) + SCALE + LINE * lines + LINE / 2 + MARGIN;
+    let heading = words::heading(picture);
+    let sheet = style::sheet(picture.servers.len());
+    let mut canvas = Canvas::new(WIDTH, height, &heading, &sheet);
+    canvas.rect("paper", (0, 0), (WIDTH, height));
+    canvas.text("ink heading", (MARGIN, 30 * PX), Anchor::Start, &heading);
+    canvas.text("faint", (MARGIN, 48 * PX), Anchor::Start, "Dates and times are UTC.");
+    if let Some(axis) = &axis {
+        breaks(&mut canvas, axis, below(picture) + OFF_ROWS);
+    }
+    band(&mut canvas, picture);
+    if let Some(axis) = &axis {
+        scale(&mut canvas, axis, below(picture) + OFF_ROWS);
+    }
+    for (place, shown) in picture.records.iter().enumerate() {
+        record(&mut canvas, picture, axis.as_ref(), place, shown);
+    }
+    if let Some(axis) = &axis {
+        contradiction(&mut canvas, picture, axis);
+    }
+    legend(&mut canvas, picture, &notes);
+    canvas.finish()
+}
+
+/// Where a row starts.
+fn row(place: usize) -> Length {
+    ROWS + ROW * place as u64
+}
+
+/// Where the rows end.
+fn below(picture: &Picture) -> Length {
+    row(picture.records.len())
+}
+
+/// Where a window starts and ends.
+fn ends(axis: &Axis, window: &Window) -> (Length, Length) {
+    (AXIS + axis.place(window.low), AXIS + axis.place(window.high))
+}
+
+/// What lies behind the records of the run.
+fn band(canvas: &mut Canvas, picture: &Picture) {
+    let Some(run) = picture.run else { return };
+    let side = 8 * PX;
+    let height = row(run.last + 1) - row(run.first);
+    canvas.rect("band", (side, row(run.first)), (WIDTH - 2 * side, height));
+    let label = format!("run {} to {}", run.first, run.last);
+    canvas.text("red", (WIDTH - MARGIN, row(run.first) + 17 * PX), Anchor::End, &label);
+}
+
+/// The breaks of the axis, which is at this height, each with what is left out there.
+fn breaks(canvas: &mut Canvas, axis: &Axis, y: Length) {
+    for two in axis.pieces.windows(2) {
+        let (start, end) = (AXIS + two[0].end, AXIS + two[1].start);
+        canvas.rect("gap", (start, ROWS), (end - start, y - ROWS));
+        let length = brief(two[1].first - two[0].last);
+        canvas.text("faint small", ((start + end) / 2, y + 3 * PX), Anchor::Middle, &length);
+    }
+}
+
+/// The axis, with the names of its seconds.
+fn scale(canvas: &mut Canvas, axis: &Axis, y: Length) {
+    for piece in &axis.pieces {
+        canvas.line("scale", (AXIS + piece.start, y), (AXIS + piece.end, y));
+    }
+    let last = axis.pieces.last().map_or(0, |piece| piece.last);
+    let name = LETTER * (Date::of(last).day().len() as u64 + 2);
+    for Tick { second, at, step } in axis.ticks(name) {
+        let (x, date) = (AXIS + at, Date::of(second));
+        canvas.line("grid", (x, ROWS), (x, y));
+        canvas.line("scale", (x, y), (x, y + 5 * PX));
+        let mut names = vec![date.day()];
+        if step < DAY {
+            names.insert(0, date.time());
+        }
+        for (line, name) in (0..).zip(names) {
+            let y = y + 18 * PX + line * 14 * PX;
+            canvas.text("faint mono", (x, y), Anchor::Middle, &name);
+        }
+    }
+}
+
+/// The row of a record.
+fn record(
+    canvas: &mut Canvas,
+    picture: &Picture,
+    axis: Option<&Axis>,
+    place: usize,
+    shown: &Shown,
+) {
+    let (y, key) = (row(place), &picture.servers[shown.server]);
+    canvas.group(&title(key, place, shown));
+    chain(canvas, place, shown);
+    let server = format!("{} {}", words::letter(shown.server), words::short(key));
+    canvas.text("ink mono", (BESIDE, y + 17 * PX), Anchor::Start, &server);
+    let tied = if place == 0 || shown.linked { "faint small" } else { "red small" };
+    canvas.text(tied, (BESIDE, y + 32 * PX), Anchor::Start, words::link(place, shown));
+    let (ink, down) = match (axis, &shown.told) {
+        (Some(axis), Ok(window)) => {
+            bar(canvas, axis, window, place, shown.server);
+            ("faint mono", 36 * PX)
+        }
+        _ => ("red mono", 17 * PX),
+    };
+    canvas.text(ink, (AXIS, y + down), Anchor::Start, &words::told(shown));
+    canvas.end_group();
+}
+
+/// The bar of a window, which is not too short to be seen.
+fn bar(canvas: &mut Canvas, axis: &Axis, window: &Window, place: usize, server: usize) {
+    let (start, end) = ends(axis, window);
+    let width = (end - start).max(LEAST_BAR);
+    let start = start.min(AXIS + AXIS_WIDTH - width);
+    canvas.rect(&format!("s{server}"), (start, row(place) + BAR_DOWN), (width, BAR));
+}
+
+/// What a browser shows of a record under the mouse.
+fn title(key: &[u8; 32], place: usize, shown: &Shown) -> String {
+    let key = words::hex(key);
+    match shown.told {
+        Ok(Window { midp, radi, mint, maxt, .. }) => {
+            format!("record {place}, key {key}: MIDP {midp}, RADI {radi}, MINT {mint}, MAXT {maxt}")
+        }
+        Err(why) => format!("record {place}, key {key}: refused with code {}", why.code()),
+    }
+}
+
+/// The circle of a record, with its place, and what ties it to the one above it.
+fn chain(canvas: &mut Canvas, place: usize, shown: &Shown) {
+    let (y, radius) = (row(place) + 14 * PX, 11 * PX);
+    if place > 0 {
+        let tie = if shown.linked { "link" } else { "unlinked" };
+        canvas.line(tie, (CHAIN, y + radius - ROW), (CHAIN, y - radius));
+    }
+    let (circle, number) = match shown.told {
+        Ok(_) => (format!("s{}", shown.server), "number"),
+        Err(_) => ("hollow".to_string(), "ink small"),
+    };
+    canvas.circle(&circle, (CHAIN, y), radius);
+    canvas.text(number, (CHAIN, y + 4 * PX), Anchor::Middle, &place.to_string());
+}
+
+/// From the earliest second that the earlier record of the pair allows, down to the later one, and
+/// there from the latest second that this one allows.
+fn contradiction(canvas: &mut Canvas, picture: &Picture, axis: &Axis) {
+    let (Some(run), Some((earlier, later))) = (picture.run, picture.pair()) else { return };
+    let (top, bottom) = (row(run.first) + 3 * PX, row(run.last) + BAR_DOWN + BAR + 3 * PX);
+    let (least, most) = (AXIS + axis.place(earlier.low), AXIS + axis.place(later.high));
+    canvas.line("guide", (least, top), (least, bottom));
+    canvas.line("guide", (most, row(run.last) + 3 * PX), (most, bottom));
+    let middle = row(run.last) + BAR_DOWN + BAR / 2;
+    canvas.line("apart", (most, middle), (least, middle));
+}
+
+/// The servers with their whole keys, and what is said of the records.
+fn legend(canvas: &mut Canvas, picture: &Picture, notes: &[String]) {
+    let mut y = below(picture) + SCALE;
+    for server in 0..picture.servers.len() {
+        y += LINE;
+        canvas.rect(&format!("s{server}"), (MARGIN, y - 10 * PX), (12 * PX, 12 * PX));
+        let name = format!("{} {}", words::letter(server), words::server(picture, server));
+        canvas.text("ink mono", (MARGIN + 20 * PX, y), Anchor::Start, &name);
+    }
+    y += LINE / 2;
+    for note in notes {
+        y += LINE;
+        canvas.text("ink", (MARGIN, y), Anchor::Start, note);
+    }
+}
