@@ -43,6 +43,7 @@ mod cutting;
 #[cfg(feature = "alloc")]
 mod gathering;
 mod packets;
+#[cfg(feature = "std")]
 pub mod picture;
 mod pieces;
 mod piles;
