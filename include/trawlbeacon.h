@@ -373,12 +373,12 @@ struct tb_wrote tb_write_request(const uint8_t key[32], const uint8_t nonce[32],
 /* ---- Signatures ----
  *
  * Four checks verify signatures by themselves: tb_check_signed, tb_judge_signed,
- * tb_check_signed_report and tb_cut_signed_run. Those that take answers, tb_check_response,
- * tb_judge, tb_check_report, tb_cut_run and tb_pile_contradicts, verify none: the caller asks
- * whether both verify, of tb_answers, of tb_verify or of an Ed25519 of its own, and says there what
- * came out. All questions go by what the library hands out, and nothing is to be read from the
- * packet by the caller's own code: one that reads a key or a signature at the place where it
- * usually stands can be made to accept a forged time. */
+ * tb_check_signed_report and tb_cut_signed_run; and so does tb_walk_take_signed. Those that take
+ * answers, tb_check_response, tb_judge, tb_check_report, tb_cut_run, tb_pile_contradicts and
+ * tb_walk_take, verify none: the caller asks whether both verify, of tb_answers, of tb_verify or of
+ * an Ed25519 of its own, and says there what came out. All questions go by what the library hands
+ * out, and nothing is to be read from the packet by the caller's own code: one that reads a key or
+ * a signature at the place where it usually stands can be made to accept a forged time. */
 
 /* Whether the signature of the text verifies under the key: Ed25519 of RFC 8032, 5.1.7, with S
  * below the group order and the group equation without the cofactor. Any lengths are taken: a key

@@ -85,6 +85,16 @@ static void call_write_signed_report(void) {
     code = tb_write_signed_report(pile, sizeof pile, text, sizeof text).code;
 }
 
+/* The first step of a walk, whose servers are those of the draft's report. */
+static struct tb_walk walk;
+static uint8_t walk_pile[2 * REPORT_LENGTH];
+static void call_walk_take_signed(void) {
+    const uint8_t rand[32] = {1};
+    code = tb_walk_take_signed(&walk, 0, 0, rand, RESPONSE, sizeof RESPONSE, walk_pile,
+                               sizeof walk_pile)
+               .code;
+}
+
 static const struct operation {
     const char *name;
     void (*call)(void);
@@ -99,7 +109,8 @@ static const struct operation SIGNED[] = {{"tb_answers", call_answers},
                                           {"tb_judge_signed", call_judge_signed},
                                           {"tb_check_signed_report", call_check_signed_report},
                                           {"tb_cut_signed_run", call_cut_signed_run},
-                                          {"tb_write_signed_report", call_write_signed_report}};
+                                          {"tb_write_signed_report", call_write_signed_report},
+                                          {"tb_walk_take_signed", call_walk_take_signed}};
 
 static const struct operation TEXTS[] = {{"tb_cut_text", call_cut_text},
                                          {"tb_cut_signed_text", call_cut_signed_text}};
@@ -177,6 +188,10 @@ int main(void) {
     size_t verifying = taken(stack, call_verify) - before;
     printf("%-22s %6zu, and the header says %d\n", "tb_verify_parts", verifying, TB_VERIFY_STACK);
     lay_report(pile);
+    uint8_t keys[32 * DRAFTS];
+    for (size_t k = 0; k < DRAFTS; k++) memcpy(keys + 32 * k, pile + k * TB_RECORD_LENGTH, 32);
+    struct tb_response first = tb_read_response(RESPONSE, sizeof RESPONSE);
+    tb_walk_start(&walk, keys, sizeof keys, first.nonc, 0, walk_pile, sizeof walk_pile);
     for (size_t i = 0; i < SIZE(SIGNED); i++) {
         code = UINT32_MAX;
         size_t n = taken(stack, SIGNED[i].call) - before;
