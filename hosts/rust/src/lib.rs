@@ -12,6 +12,10 @@
 //! example `console` does the same with an Ed25519 of the host's; the example `server` delegates a
 //! key and answers a batch of 900 requests.
 //!
+//! Without the feature `std`, which is on by default, the package needs no operating system, and
+//! without `alloc`, which `std` brings along, no heap: what holds bytes of its own is then left out,
+//! and every function of the library is there, with buffers that are lent.
+//!
 //! ```
 //! use trawlbeacon::Refusal;
 //!
