@@ -120,6 +120,12 @@ impl Picture {
         Some((self.records[run.first].told.ok()?, self.records[run.last].told.ok()?))
     }
 
+    /// Whether a run of its records convicts.
+    #[must_use]
+    pub const fn convicts(&self) -> bool {
+        self.run.is_some()
+    }
+
     /// The picture as SVG, for any browser: by itself a whole file, with nothing that is fetched or
     /// run, and in the colours that the reader's system prefers, light or dark.
     #[must_use]

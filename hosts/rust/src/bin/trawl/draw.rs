@@ -1,0 +1,19 @@
+//! The picture of a pile or a report.
+
+use crate::evidence::Evidence;
+use crate::flags::Flags;
+use crate::output;
+use crate::status::{Ended, Stop};
+use trawlbeacon::picture::Picture;
+
+pub fn run(flags: &Flags) -> Result<Ended, Stop> {
+    let Evidence { pile, answers } = Evidence::of(flags)??;
+    let picture = match answers {
+        Some(answers) => Picture::with_answers(&pile, &answers)?,
+        None => Picture::of_pile(&pile)?,
+    };
+    let drawn = if flags.svg { picture.svg() } else { picture.text() };
+    output::deliver(flags, drawn.as_bytes())?;
+    let ended = if picture.convicts() { Ended::Done } else { Ended::None };
+    Ok(ended.told(flags.status))
+}

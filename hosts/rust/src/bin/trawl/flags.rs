@@ -1,0 +1,173 @@
+//! What the command is asked for.
+
+use crate::status::Stop;
+use std::ffi::OsString;
+use std::path::PathBuf;
+
+pub const USAGE: &str = "\
+usage: trawl [PILE [ANSWERS]]
+       trawl --judge FILE [ANSWERS] [--json] [--dates] [--status]
+       trawl --cut FILE [ANSWERS] [--json] [--out OUT [--force]]
+       trawl --draw FILE [ANSWERS] [--svg] [--out OUT [--force]] [--status]
+       trawl --make KEY RAND REQUEST RESPONSE ... [--out OUT [--force]]
+       trawl --look-up KEY LIST [SHIPPED-LIST]
+       trawl --help | --version
+";
+
+/// What `--help` says below that.
+pub const HELP: &str = "
+With files alone, trawl runs the proved program and prints its verdict on PILE, or on a sample where
+there is none. Signatures are verified, each under the key in its record; or ANSWERS says what was
+found out about them, two bytes a record, 1 for yes and 0 for no. A file that cannot be read counts
+as empty. All else is done by this command, with the proved library:
+
+--judge    prints the same lines of FILE, which may also be a report in JSON
+--cut      writes the shortest run of records of FILE that convicts by itself
+--draw     draws the records of FILE on a time axis, for the terminal
+--make     writes the pile of these captured packets. KEY is the server's long-term key in hex, RAND
+           the rand in hex or - for zeros, and REQUEST and RESPONSE are files
+--look-up  finds the server with this long-term key, in hex, by its SRV value; LIST, the owner's, is
+           searched first
+
+FILE is a pile or a report in JSON, told apart by their bytes: a pile has bytes that are zero.
+
+--json     judge: prints JSON; cut: writes the report in JSON
+--dates    puts behind the seconds of a line their dates, in UTC and in the same order
+--svg      draws for a browser
+--out OUT  writes to OUT and not to standard output
+--force    writes over OUT where it exists
+--status   ends with a status by the verdict
+--         ends the flags: what follows are files
+
+Status: 0 where it was done; 1 where something could not be read, written or run; 2 where the
+arguments are wrong. Where there is nothing to write, 3: no run convicts, or no list has the server;
+and 4: what was given is refused. A verdict that is printed has status 0, whatever it says, but with
+--status: 0 where a run convicts, and 3 or 4.
+";
+
+#[derive(Clone, Copy, Debug, PartialEq, Eq)]
+pub enum Action {
+    Plain,
+    Judge,
+    Cut,
+    Make,
+    LookUp,
+    Draw,
+    Help,
+    Version,
+}
+
+impl Action {
+    fn of(flag: &str) -> Option<Action> {
+        Some(match flag {
+            "--judge" => Action::Judge,
+            "--cut" => Action::Cut,
+            "--make" => Action::Make,
+            "--look-up" => Action::LookUp,
+            "--draw" => Action::Draw,
+            "--help" => Action::Help,
+            "--version" => Action::Version,
+            _ => return None,
+        })
+    }
+
+    /// The flags that go with it.
+    fn takes(self) -> &'static [&'static str] {
+        match self {
+            Action::Plain => &["--status"],
+            Action::Judge => &["--json", "--dates", "--status"],
+            Action::Cut => &["--json", "--out", "--force"],
+            Action::Make => &["--out", "--force"],
+            Action::Draw => &["--svg", "--out", "--force", "--status"],
+            Action::LookUp | Action::Help | Action::Version => &[],
+        }
+    }
+
+    /// Whether so many words beside the flags are right.
+    fn counts(self, words: usize) -> bool {
+        match self {
+            Action::Plain => words <= 2,
+            Action::Judge | Action::Cut | Action::Draw => words == 1 || words == 2,
+            Action::Make => words > 0 && words % 4 == 0,
+            Action::LookUp => words == 2 || words == 3,
+            Action::Help | Action::Version => true,
+        }
+    }
+}
+
+#[derive(Debug)]
+pub struct Flags {
+    pub action: Action,
+    /// The words that are no flags.
+    pub words: Vec<OsString>,
+    pub json: bool,
+    pub dates: bool,
+    pub svg: bool,
+    pub force: bool,
+    pub status: bool,
+    pub out: Option<PathBuf>,
+}
+
+impl Flags {
+    pub fn of(arguments: impl Iterator<Item = OsString>) -> Result<Flags, Stop> {
+        let (mut words, mut given, mut actions, mut out) = (vec![], vec![], vec![], None);
+        let mut arguments = arguments;
+        while let Some(word) = arguments.next() {
+            match word.to_str().filter(|word| word.starts_with("--")) {
+                None => words.push(word),
+                Some("--") => words.extend(arguments.by_ref()),
+                Some(flag) => match Action::of(flag) {
+                    Some(action) => actions.push(action),
+                    None => given.push(flag.to_string()),
+                },
+            }
+            if given.last().map_or(false, |flag| flag == "--out") && out.is_none() {
+                out = Some(arguments.next().ok_or_else(|| Stop::usage("--out names no file"))?);
+            }
+        }
+        let flags = Flags {
+            action: action(&actions, &given)?,
+            words,
+            json: given.iter().any(|flag| flag == "--json"),
+            dates: given.iter().any(|flag| flag == "--dates"),
+            svg: given.iter().any(|flag| flag == "--svg"),
+            force: given.iter().any(|flag| flag == "--force"),
+            status: given.iter().any(|flag| flag == "--status"),
+            out: out.map(PathBuf::from),
+        };
+        flags.check(&given)
+    }
+
+    fn check(self, given: &[String]) -> Result<Flags, Stop> {
+        if let Some(flag) = given.iter().find(|flag| !self.action.takes().contains(&flag.as_str()))
+        {
+            return Err(Stop::usage(format!("{flag} is not known here")));
+        }
+        if given.iter().enumerate().any(|(at, flag)| given[..at].contains(flag)) {
+            return Err(Stop::usage("a flag stands there twice"));
+        }
+        if !self.action.counts(self.words.len()) {
+            return Err(Stop::usage(format!("{} files or words are wrong here", self.words.len())));
+        }
+        if self.force && self.out.is_none() {
+            return Err(Stop::usage("--force goes with --out"));
+        }
+        Ok(self)
+    }
+
+    /// The word at a place, as a file.
+    pub fn file(&self, place: usize) -> Option<PathBuf> {
+        self.words.get(place).map(PathBuf::from)
+    }
+}
+
+/// The one action. What a verdict alone can be asked for asks for one.
+fn action(actions: &[Action], given: &[String]) -> Result<Action, Stop> {
+    let judged = given.iter().any(|flag| flag == "--json" || flag == "--dates");
+    match actions {
+        [] if judged => Ok(Action::Judge),
+        [] => Ok(Action::Plain),
+        [action] => Ok(*action),
+        _ => Err(Stop::usage("these go not together")),
+    }
+}

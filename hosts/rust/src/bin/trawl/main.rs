@@ -1,0 +1,47 @@
+//! The command `trawl`: the front end of the proved program.
+//!
+//! `trawl [PILE [ANSWERS]]` runs the proved program, which stands in ../libexec/trawlbeacon/verdict
+//! as seen from here, and passes on what it prints. All else, which `--help` lists, the functions of
+//! the library do; here their inputs are read and their answers printed. Nothing here is proved.
+
+mod cut;
+mod draw;
+mod evidence;
+mod flags;
+mod hints;
+mod judge;
+mod look_up;
+mod make;
+mod output;
+mod plain;
+mod status;
+
+use flags::{Action, Flags};
+use status::{Ended, Stop};
+use std::process::ExitCode;
+
+fn main() -> ExitCode {
+    let ended = Flags::of(std::env::args_os().skip(1)).and_then(run);
+    match ended {
+        Ok(ended) => ExitCode::from(ended.status()),
+        Err(stop) => {
+            eprintln!("trawl: {stop}");
+            ExitCode::from(stop.status())
+        }
+    }
+}
+
+fn run(flags: Flags) -> Result<Ended, Stop> {
+    match flags.action {
+        Action::Plain => plain::run(&flags),
+        Action::Judge => judge::run(&flags),
+        Action::Cut => cut::run(&flags),
+        Action::Make => make::run(&flags),
+        Action::LookUp => look_up::run(&flags),
+        Action::Draw => draw::run(&flags),
+        Action::Help => output::print([flags::USAGE, flags::HELP].concat().as_bytes()),
+        Action::Version => {
+            output::print(format!("trawl {}\n", env!("CARGO_PKG_VERSION")).as_bytes())
+        }
+    }
+}

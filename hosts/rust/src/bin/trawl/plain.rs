@@ -1,0 +1,80 @@
+//! The proved program: found, run, and what it prints passed on.
+
+use crate::flags::Flags;
+use crate::status::{Ended, Stop};
+use crate::{hints, output};
+use std::ffi::OsString;
+use std::path::{Path, PathBuf};
+use std::process::{Command, Stdio};
+use std::{env, fs, process};
+
+/// Document 01's fifth example. Its signatures are made up, and its answers are yes.
+const SAMPLE: [(&str, &[u8]); 2] = [
+    ("pile", include_bytes!("../../../../../crates/trawl/data/example5.pile")),
+    ("answers", include_bytes!("../../../../../crates/trawl/data/example5.answers")),
+];
+
+pub fn run(flags: &Flags) -> Result<Ended, Stop> {
+    if flags.words.is_empty() {
+        return on_sample(flags.status);
+    }
+    for word in &flags.words {
+        hints::unreadable(Path::new(word)).into_iter().for_each(|hint| output::say(&hint));
+    }
+    let said = verdict(&flags.words)?;
+    output::print(&said)?;
+    let ended = ended(&said);
+    if ended == Ended::Refused {
+        hints::on_refusal(&flags.words).iter().for_each(|hint| output::say(hint));
+    }
+    Ok(ended.told(flags.status))
+}
+
+/// Where the program stands, as seen from this one.
+fn program() -> Result<PathBuf, Stop> {
+    let own = env::current_exe().map_err(|error| Stop::Failed(error.to_string()))?;
+    let folder = own.parent().and_then(Path::parent).unwrap_or_else(|| Path::new("/"));
+    Ok(folder.join("libexec/trawlbeacon/verdict"))
+}
+
+/// What the program prints of these files. It has no status of its own to say that its words were
+/// not written, so that they are taken from it and written here.
+fn verdict(files: &[OsString]) -> Result<Vec<u8>, Stop> {
+    let program = program()?;
+    let ran = Command::new(&program)
+        .args(files)
+        .stdin(Stdio::inherit())
+        .stderr(Stdio::inherit())
+        .output()
+        .map_err(|error| Stop::file(&program, error))?;
+    if !ran.status.success() {
+        return Err(Stop::file(&program, format!("it ended with {}", ran.status)));
+    }
+    Ok(ran.stdout)
+}
+
+/// What the last line of a verdict says.
+fn ended(said: &[u8]) -> Ended {
+    let last = said.strip_suffix(b"\n").unwrap_or(said).rsplit(|byte| *byte == b'\n').next();
+    match last {
+        Some(b"run none") => Ended::None,
+        Some(run) if run.starts_with(b"run ") => Ended::Done,
+        _ => Ended::Refused,
+    }
+}
+
+/// The program reads files, so that the sample is put into some, in a folder that was not there
+/// before.
+fn on_sample(status: bool) -> Result<Ended, Stop> {
+    let folder = env::temp_dir().join(format!("trawl-sample-{}", process::id()));
+    let failed = |error| Stop::file(&folder, error);
+    fs::create_dir(&folder).map_err(failed)?;
+    let files = SAMPLE.map(|(name, _)| folder.join(name));
+    let written =
+        SAMPLE.iter().zip(&files).try_for_each(|((_, bytes), file)| fs::write(file, bytes));
+    let said = written.map_err(failed).and_then(|()| verdict(&files.map(OsString::from)));
+    fs::remove_dir_all(&folder).map_err(failed)?;
+    let said = said?;
+    output::print(&said)?;
+    Ok(ended(&said).told(status))
+}

@@ -1,0 +1,404 @@
+//! The command `trawl` as people type it: the front end beside the proved program, as both are
+//! installed. What it prints, what it says beside that, its status, and the files that it writes.
+
+mod support;
+
+use independent::appendix::{self, Entry};
+use independent::making;
+use std::fs;
+use std::path::{Path, PathBuf};
+use std::process::{Command, Output, Stdio};
+use support::hex;
+use trawlbeacon::picture::Picture;
+
+const ROOT: &str = concat!(env!("CARGO_MANIFEST_DIR"), "/../..");
+
+/// A folder with the command in it, and files.
+struct Room {
+    folder: PathBuf,
+}
+
+/// What a run of the command left.
+#[derive(Debug, PartialEq, Eq)]
+struct Ran {
+    out: String,
+    said: String,
+    status: Option<i32>,
+}
+
+impl Room {
+    /// An empty folder of this name with the command, as it is installed.
+    fn new(name: &str) -> Room {
+        let folder = Path::new(env!("CARGO_TARGET_TMPDIR")).join("program").join(name);
+        let _ = fs::remove_dir_all(&folder);
+        for part in ["bin", "libexec/trawlbeacon", "at"] {
+            fs::create_dir_all(folder.join(part)).expect("a folder can be made");
+        }
+        let program = Path::new(ROOT).join("build/libexec/trawlbeacon/verdict");
+        fs::copy(env!("CARGO_BIN_EXE_trawl"), folder.join("bin/trawl")).expect("cargo built it");
+        fs::copy(&program, folder.join("libexec/trawlbeacon/verdict")).unwrap_or_else(|error| {
+            let how = "tools/native-program trawl build/libexec/trawlbeacon/verdict";
+            panic!("{}: {error}; '{how}' makes it", program.display())
+        });
+        Room { folder }
+    }
+
+    fn command(&self, words: &[&str]) -> Command {
+        let mut command = Command::new(self.folder.join("bin/trawl"));
+        command.args(words).current_dir(self.folder.join("at"));
+        command
+    }
+
+    fn output(&self, words: &[&str]) -> Output {
+        self.command(words).stdin(Stdio::null()).output().expect("it can be run")
+    }
+
+    fn run(&self, words: &[&str]) -> Ran {
+        let Output { status, stdout, stderr } = self.output(words);
+        let text = |bytes| String::from_utf8(bytes).expect("it is text");
+        Ran { out: text(stdout), said: text(stderr), status: status.code() }
+    }
+
+    /// Writes a file, and names it.
+    fn put<'a>(&self, name: &'a str, bytes: &[u8]) -> &'a str {
+        fs::write(self.folder.join("at").join(name), bytes).expect("a file can be written");
+        name
+    }
+
+    fn bytes(&self, name: &str) -> Vec<u8> {
+        fs::read(self.folder.join("at").join(name)).expect("the file is there")
+    }
+}
+
+fn kept(file: &str) -> Vec<u8> {
+    fs::read(Path::new(ROOT).join(file)).unwrap_or_else(|error| panic!("{file}: {error}"))
+}
+
+/// The words of a program's file `args`, which name files of its folder `data`, as whole paths.
+fn arguments(program: &str) -> Vec<String> {
+    let words = String::from_utf8(kept(&format!("crates/{program}/args"))).expect("they are text");
+    words.lines().map(|word| format!("{ROOT}/crates/{program}/data/{word}")).collect()
+}
+
+/// What a program must print.
+fn due(program: &str) -> String {
+    String::from_utf8(kept(&format!("crates/{program}/stdout"))).expect("it is text")
+}
+
+/// What the command prints of these files, so many at a time.
+fn printed(room: &Room, flags: &[&str], files: &[String], each: usize) -> String {
+    let words = |files: &[String]| {
+        let words: Vec<&str> = files.iter().map(String::as_str).collect();
+        let ran = room.run(&[flags, &words].concat());
+        assert_eq!(ran.status, Some(0), "{words:?}: {}", ran.said);
+        ran.out
+    };
+    files.chunks(each).map(words).collect()
+}
+
+#[test]
+fn files_alone_are_told_of_by_the_proved_program() {
+    let room = Room::new("plain");
+    assert_eq!(printed(&room, &[], &arguments("cases"), 2), due("cases"));
+    assert_eq!(printed(&room, &[], &arguments("alone"), 1), due("alone"));
+    assert_eq!(printed(&room, &["--"], &arguments("trawl"), 2), due("trawl"));
+    let sample = room.run(&[]);
+    assert_eq!((sample.out, sample.said, sample.status), (due("trawl"), String::new(), Some(0)));
+    let files = arguments("cases").len() / 2 + arguments("alone").len();
+    println!("the command: {files} sets of files, by the proved program as it is installed");
+}
+
+#[test]
+fn judging_prints_the_same_lines() {
+    let room = Room::new("judge");
+    // Of what cannot be read the proved program says what it says of an empty one; judging does not.
+    let there = |program, each| {
+        let files = arguments(program);
+        let sets =
+            files.chunks(each).filter(|set| set.iter().all(|file| Path::new(file).is_file()));
+        sets.flatten().cloned().collect::<Vec<String>>()
+    };
+    for (files, each) in [(there("alone", 1), 1), (there("cases", 2), 2)] {
+        let ours = printed(&room, &["--judge"], &files, each);
+        assert_eq!(ours, printed(&room, &[], &files, each));
+        println!("judging: {} sets of files as the proved program", files.len() / each);
+    }
+}
+
+#[test]
+fn a_report_in_json_is_judged_too() {
+    let room = Room::new("json");
+    let report = format!("{ROOT}/vectors/malfeasance-report.json");
+    let pile = room.put("pile", &appendix::pile().pile);
+    let told = room.run(&["--judge", &report]);
+    assert_eq!(told, room.run(&["--judge", pile]));
+    assert!(told.out.starts_with("records 3\n0 ok 1773685568 1773685574 ") && told.said.is_empty());
+    let dated = room.run(&["--dates", &report]).out;
+    let line = dated.lines().nth(1).expect("there is a record");
+    let words: Vec<&str> = line.split(' ').collect();
+    assert_eq!(words[..4], ["0", "ok", "1773685568", "1773685574"]);
+    assert_eq!(words[6..8], ["2026-03-16T18:26:08Z", "2026-03-16T18:26:14Z"]);
+    let bad = room.put("bad", b"{\"responses\": 1}");
+    let refused = room.run(&["--judge", bad]);
+    assert_eq!((refused.out.as_str(), refused.status), ("refused 24\n", Some(0)));
+    assert!(refused.said.starts_with("trawl: the text is no report"));
+}
+
+#[test]
+fn a_verdict_as_json() {
+    let room = Room::new("as_json");
+    let mut made = making::pile_of(&[(1000, 10), (1500, 10), (1495, 1), (1400, 10)]);
+    made.answers[1] = 0;
+    made.pile[4096 + 2096 + 12] = 0;
+    let (pile, answers) = (room.put("pile", &made.pile), room.put("answers", &made.answers));
+    let told = room.run(&["--json", "--dates", pile, answers]).out;
+    let first = "{\"records\":[{\"publicKey\":\"5555555555555555555555555555555555555555555555555555\
+                 555555555555\",\"linked\":false,\"refused\":{\"code\":13,\"words\":\"the response's \
+                 signature does not verify\"}},";
+    assert!(told.starts_with(first), "{told}");
+    assert!(told.contains("or offset is wrong\",\"at\":12}}"), "{told}");
+    let last = "\"linked\":true,\"midp\":1400,\"radi\":10,\"low\":1390,\"high\":1410,\"mint\":0,\
+                \"maxt\":18446744073709551615,\"pubk\":\"0f0f";
+    assert!(told.contains(last), "{told}");
+    assert!(told.contains("\"dates\":{\"low\":\"1970-01-01T00:24:54Z\""), "{told}");
+    assert!(told.ends_with("],\"run\":{\"first\":2,\"last\":3}}\n"), "{told}");
+    let short = room.put("short", &made.pile[1..]);
+    let refused = room.run(&["--json", short]).out;
+    assert!(refused.starts_with("{\"refused\":{\"code\":15,\"words\":\""), "{refused}");
+    for text in [told, refused] {
+        assert!(independent::json::read(text.as_bytes(), 16).is_ok(), "{text}");
+    }
+}
+
+#[test]
+fn a_status_by_the_verdict_is_for_who_asks_for_it() {
+    let room = Room::new("status");
+    let made = making::pile_of(&[(1000, 10), (1500, 10), (1495, 1), (1400, 10)]);
+    let (pile, answers) = (room.put("pile", &made.pile), room.put("answers", &made.answers));
+    let (no, short) = (room.put("no", &[0; 8]), room.put("short", &[1; 7]));
+    for (answers, due) in [(answers, 0), (no, 3), (short, 4)] {
+        for action in [&["--judge"][..], &["--draw"], &[]] {
+            // A picture of what is refused cannot be drawn.
+            let without = if action == ["--draw"] && due == 4 { 4 } else { 0 };
+            let words = [action, &[pile, answers]].concat();
+            assert_eq!(room.run(&words).status, Some(without), "{words:?}");
+            let words = [action, &["--status", pile, answers]].concat();
+            assert_eq!(room.run(&words).status, Some(due), "{words:?}");
+        }
+    }
+    assert_eq!(room.run(&["--status"]).status, Some(0));
+}
+
+#[test]
+fn wrong_files_get_a_hint_and_the_verdict_stays() {
+    let room = Room::new("hints");
+    let made = making::pile_of(&[(1000, 10), (1500, 10)]);
+    let pile = room.put("a pile", &made.pile);
+    let hinted = |words: &[&str], hint: &str| {
+        let ran = room.run(words);
+        let due = format!("trawl: {hint}\n");
+        assert_eq!((ran.out.as_str(), ran.said, ran.status), ("refused 15\n", due, Some(0)));
+    };
+    hinted(
+        &[pile, room.put("odd", &[1; 3])],
+        "'odd' has 3 bytes, and there are two answers a record",
+    );
+    hinted(&[pile, room.put("few", &[1; 2])], "'few' has 2 bytes; 2 records have 4 answers");
+    let digits = room.put("digits", b"1111\n");
+    hinted(&[pile, digits], "byte 0 of 'digits' is 49; an answer is the byte 1 or 0, and no digit");
+    let line = room.put("line", b"\x01\x01\x01\x01\n");
+    hinted(&[pile, line], "byte 4 of 'line' is 10; an answer is the byte 1 or 0");
+    let short = room.put("short", &made.pile[1..]);
+    hinted(&[short], "'short' has 8191 bytes, and a record has 4096");
+    hinted(
+        &[room.put("long", &[0; 17 * 4096])],
+        "'long' has 17 records, and a pile has at most 16",
+    );
+    hinted(&[room.put("empty", b"")], "'empty' is empty");
+    let text = room.put("text", b"{}");
+    hinted(&[text], "'text' is a text; --judge, --cut and --draw take reports in JSON");
+    hinted(&["missing"], "'missing' cannot be read, and counts as empty");
+    hinted(&["."], "'.' cannot be read, and counts as empty");
+    let right = room.put("right", &[1; 4]);
+    assert_eq!(room.run(&[pile, right]).said, "");
+}
+
+#[test]
+fn a_run_is_cut() {
+    let room = Room::new("cut");
+    let report = format!("{ROOT}/vectors/malfeasance-report.json");
+    let Entry { key, .. } = appendix::entries().swap_remove(0);
+    let pile = appendix::pile().pile;
+    let cut = room.output(&["--cut", &report]);
+    assert_eq!((cut.stdout == pile[..2 * 4096], cut.status.code()), (true, Some(0)));
+    assert_eq!(cut.stderr, b"trawl: run 0 1\n");
+    assert_eq!(room.run(&["--cut", room.put("pile", &pile), "--out", "run"]).out, "");
+    assert_eq!(room.bytes("run")[..32], key);
+    // As JSON it is what the library writes of it.
+    let mut text = vec![0; trawlbeacon::LONGEST_REPORT];
+    let length = trawlbeacon::cut_signed_text(&kept("vectors/malfeasance-report.json"), &mut text);
+    text.truncate(length.expect("it is a report").length);
+    assert_eq!(room.output(&["--json", "--cut", "run"]).stdout, text);
+    // With answers, and a run that does not start the pile.
+    let made = making::pile_of(&[(1000, 10), (1500, 10), (1495, 1), (1400, 10)]);
+    let (pile, answers) = (room.put("made", &made.pile), room.put("answers", &made.answers));
+    assert_eq!(room.run(&["--cut", pile, answers, "--json", "--out", "text"]).status, Some(0));
+    room.put("two", &[1; 4]);
+    assert!(room.run(&["--judge", "text", "two"]).out.ends_with("\nrun 0 1\n"));
+    // Unsigned as it is, no run convicts by itself.
+    let none = room.run(&["--cut", pile]);
+    assert_eq!((none.out.as_str(), none.status), ("", Some(3)));
+    assert_eq!(room.run(&["--cut", answers]).status, Some(4));
+    assert_eq!(room.run(&["--cut", "missing"]).status, Some(1));
+}
+
+#[test]
+fn no_file_is_written_over_unless_that_is_wanted() {
+    let room = Room::new("force");
+    let pile = room.put("pile", &appendix::pile().pile);
+    room.put("there", b"kept");
+    let refused = room.run(&["--cut", pile, "--out", "there"]);
+    assert_eq!((refused.out.as_str(), refused.status), ("", Some(1)));
+    assert_eq!(refused.said, "trawl: 'there': it exists, and --force is not given\n");
+    assert_eq!(room.bytes("there"), b"kept");
+    assert_eq!(room.run(&["--cut", pile, "--out", "there", "--force"]).status, Some(0));
+    assert_eq!(room.bytes("there").len(), 2 * 4096);
+    let full = fs::OpenOptions::new().write(true).open("/dev/full").expect("Linux has it");
+    let mut command = room.command(&["--draw", pile]);
+    let status = command.stdout(full).stderr(Stdio::null()).status().expect("it can be run");
+    assert_eq!(status.code(), Some(1));
+    let full = fs::OpenOptions::new().write(true).open("/dev/full").expect("Linux has it");
+    let status = room.command(&[pile]).stdout(full).stderr(Stdio::null()).status();
+    assert_eq!(status.expect("it can be run").code(), Some(1));
+}
+
+#[test]
+fn a_pile_is_made_of_captured_packets() {
+    let room = Room::new("make");
+    let mut words = vec!["--make".to_string(), "--out".to_string(), "made".to_string()];
+    for (place, Entry { key, rand, request, response }) in appendix::entries().iter().enumerate() {
+        let (asked, told) = (format!("request {place}"), format!("response {place}"));
+        room.put(&asked, request);
+        room.put(&told, response);
+        words.extend([hex(key), rand.map_or("-".to_string(), |rand| hex(&rand)), asked, told]);
+    }
+    let words: Vec<&str> = words.iter().map(String::as_str).collect();
+    assert_eq!(room.run(&words).status, Some(0));
+    assert_eq!(room.bytes("made"), appendix::pile().pile);
+    let long = room.put("long", &[0; 2001]);
+    let key = "00".repeat(32);
+    assert_eq!(room.run(&["--make", &key, "-", long, long]).status, Some(4));
+    assert_eq!(room.run(&["--make", &key[1..], "-", long, long]).status, Some(2));
+    assert_eq!(room.run(&["--make", &key, "-", long]).status, Some(2));
+    let short = room.put("short", &[7; 12]);
+    let many = [&["--make"][..], &[&key[..], "-", short, short].repeat(17)].concat();
+    assert_eq!(room.run(&many).status, Some(4));
+}
+
+#[test]
+fn a_server_is_looked_up_by_its_key() {
+    let room = Room::new("look_up");
+    let server = |key: [u8; 32]| [key, trawlbeacon::srv_value(&key)].concat();
+    let owner = room.put("owner", &[server([1; 32]), server([2; 32])].concat());
+    let shipped = room.put("shipped", &server([3; 32]));
+    let line = |list: &str, key: [u8; 32]| {
+        format!("{list} {} {}\n", hex(&key), hex(&trawlbeacon::srv_value(&key)))
+    };
+    let found = room.run(&["--look-up", &hex(&[2; 32]), owner, shipped]);
+    assert_eq!(
+        (found.out, found.said, found.status),
+        (line("owner 1", [2; 32]), String::new(), Some(0))
+    );
+    let found = room.run(&["--look-up", &hex(&[3; 32]).to_uppercase(), owner, shipped]);
+    assert_eq!((found.out, found.status), (line("shipped 0", [3; 32]), Some(0)));
+    assert_eq!(room.run(&["--look-up", &hex(&[4; 32]), owner]).status, Some(3));
+    let bad = room.put("bad", &[0; 63]);
+    assert_eq!(room.run(&["--look-up", &hex(&[4; 32]), bad]).status, Some(4));
+    // A list that gives somebody else's key for a server.
+    let forged = room.put("forged", &[[9; 32], trawlbeacon::srv_value(&[4; 32])].concat());
+    let found = room.run(&["--look-up", &hex(&[4; 32]), forged]);
+    assert_eq!(found.said, "trawl: the list has another key beside this server's SRV value\n");
+}
+
+#[test]
+fn a_picture_is_the_librarys() {
+    let room = Room::new("draw");
+    let made = making::pile_of(&[(1000, 10), (1500, 10), (1495, 1), (1400, 10)]);
+    let (pile, answers) = (room.put("pile", &made.pile), room.put("answers", &made.answers));
+    let due = Picture::with_answers(&made.pile, &made.answers).expect("it is a pile");
+    assert_eq!(room.run(&["--draw", pile, answers]).out, due.text());
+    assert_eq!(room.run(&["--draw", pile, answers, "--svg", "--out", "svg"]).status, Some(0));
+    assert_eq!(room.bytes("svg"), due.svg().as_bytes());
+    let report = format!("{ROOT}/vectors/malfeasance-report.json");
+    let due = Picture::of_pile(&appendix::pile().pile).expect("it is a pile");
+    assert_eq!(room.run(&["--draw", &report]).out, due.text());
+}
+
+#[test]
+fn what_follows_two_dashes_are_files() {
+    let room = Room::new("dashes");
+    let pile = appendix::pile().pile;
+    let due = room.run(&["--judge", room.put("pile", &pile)]).out;
+    for name in ["--judge", "--", "-", "--out", "cut"] {
+        room.put(name, &pile);
+        assert_eq!(room.run(&["--", name]).out, due, "{name}");
+        assert_eq!(room.run(&["--judge", "--", name]).out, due, "{name}");
+    }
+    // No name without two dashes is taken for a flag.
+    assert_eq!(room.run(&["cut"]).out, due);
+    assert_eq!(room.run(&["-"]).out, due);
+}
+
+#[test]
+fn a_pipe_is_read_once() {
+    let room = Room::new("pipe");
+    let pile =
+        fs::File::open(format!("{ROOT}/crates/alone/data/appendix.pile")).expect("it is kept");
+    let mut cat = Command::new("cat").stdin(pile).stdout(Stdio::piped()).spawn().expect("cat runs");
+    let mut command = room.command(&["/dev/stdin"]);
+    let ran = command.stdin(cat.stdout.take().expect("it is piped")).output().expect("it runs");
+    cat.wait().expect("cat ends");
+    let due: String = due("alone").lines().take(5).map(|line| format!("{line}\n")).collect();
+    assert_eq!(String::from_utf8(ran.stdout), Ok(due));
+    assert_eq!((ran.stderr, ran.status.code()), (vec![], Some(0)));
+}
+
+#[test]
+fn wrong_arguments_are_told() {
+    let room = Room::new("usage");
+    let wrong: [&[&str]; 14] = [
+        &["a", "b", "c"],
+        &["--judge"],
+        &["--judge", "a", "b", "c"],
+        &["--judge", "--cut", "a"],
+        &["--nonsense"],
+        &["--svg", "a"],
+        &["--out", "a"],
+        &["--cut", "a", "--out"],
+        &["--cut", "a", "--force"],
+        &["--json", "--json", "a"],
+        &["--make"],
+        &["--make", "a", "b", "c"],
+        &["--look-up", "a"],
+        &["--help", "--json"],
+    ];
+    for words in wrong {
+        let ran = room.run(words);
+        assert_eq!((ran.out.as_str(), ran.status), ("", Some(2)), "{words:?}");
+        assert!(ran.said.starts_with("trawl: ") && ran.said.contains("\nusage: trawl ["));
+    }
+}
+
+#[test]
+fn help_and_version() {
+    let room = Room::new("help");
+    let help = room.run(&["--help"]);
+    assert!(help.out.starts_with("usage: trawl [PILE [ANSWERS]]\n") && help.status == Some(0));
+    assert_eq!(help.out.lines().find(|line| line.chars().count() > 100), None);
+    let version = room.run(&["--version"]);
+    assert_eq!(version.out, format!("trawl {}\n", env!("CARGO_PKG_VERSION")));
+    // Without the proved program there is no verdict.
+    fs::remove_file(room.folder.join("libexec/trawlbeacon/verdict")).expect("it is there");
+    let ran = room.run(&["missing"]);
+    assert_eq!((ran.out.as_str(), ran.status), ("", Some(1)));
+}
