@@ -8,12 +8,13 @@ use independent::making;
 use std::fs;
 use std::path::{Path, PathBuf};
 use std::process::{Command, Output, Stdio};
+use std::sync::Once;
 use support::hex;
 use trawlbeacon::picture::Picture;
 
 const ROOT: &str = concat!(env!("CARGO_MANIFEST_DIR"), "/../..");
 
-/// A folder with the command in it, and files.
+/// A folder with files, in which the command is run.
 struct Room {
     folder: PathBuf,
 }
@@ -26,26 +27,39 @@ struct Ran {
     status: Option<i32>,
 }
 
-impl Room {
-    /// An empty folder of this name with the command, as it is installed.
-    fn new(name: &str) -> Room {
-        let folder = Path::new(env!("CARGO_TARGET_TMPDIR")).join("program").join(name);
+static INSTALLED: Once = Once::new();
+
+/// The folder in which the command is installed, once for all tests: a file that is written while
+/// another test starts a process cannot be run for as long as that process has it, too.
+fn installed() -> PathBuf {
+    let folder = Path::new(env!("CARGO_TARGET_TMPDIR")).join("program");
+    INSTALLED.call_once(|| {
         let _ = fs::remove_dir_all(&folder);
-        for part in ["bin", "libexec/trawlbeacon", "at"] {
+        for part in ["bin", "libexec/trawlbeacon", "without/bin"] {
             fs::create_dir_all(folder.join(part)).expect("a folder can be made");
         }
         let program = Path::new(ROOT).join("build/libexec/trawlbeacon/verdict");
         fs::copy(env!("CARGO_BIN_EXE_trawl"), folder.join("bin/trawl")).expect("cargo built it");
+        fs::copy(env!("CARGO_BIN_EXE_trawl"), folder.join("without/bin/trawl")).expect("and again");
         fs::copy(&program, folder.join("libexec/trawlbeacon/verdict")).unwrap_or_else(|error| {
             let how = "tools/native-program trawl build/libexec/trawlbeacon/verdict";
             panic!("{}: {error}; '{how}' makes it", program.display())
         });
+    });
+    folder
+}
+
+impl Room {
+    /// An empty folder of this name.
+    fn new(name: &str) -> Room {
+        let folder = installed().join("rooms").join(name);
+        fs::create_dir_all(&folder).expect("a folder can be made");
         Room { folder }
     }
 
     fn command(&self, words: &[&str]) -> Command {
-        let mut command = Command::new(self.folder.join("bin/trawl"));
-        command.args(words).current_dir(self.folder.join("at"));
+        let mut command = Command::new(installed().join("bin/trawl"));
+        command.args(words).current_dir(&self.folder);
         command
     }
 
@@ -61,12 +75,12 @@ impl Room {
 
     /// Writes a file, and names it.
     fn put<'a>(&self, name: &'a str, bytes: &[u8]) -> &'a str {
-        fs::write(self.folder.join("at").join(name), bytes).expect("a file can be written");
+        fs::write(self.folder.join(name), bytes).expect("a file can be written");
         name
     }
 
     fn bytes(&self, name: &str) -> Vec<u8> {
-        fs::read(self.folder.join("at").join(name)).expect("the file is there")
+        fs::read(self.folder.join(name)).expect("the file is there")
     }
 }
 
@@ -393,12 +407,20 @@ fn wrong_arguments_are_told() {
 fn help_and_version() {
     let room = Room::new("help");
     let help = room.run(&["--help"]);
-    assert!(help.out.starts_with("usage: trawl [PILE [ANSWERS]]\n") && help.status == Some(0));
+    assert!(
+        help.out.starts_with("usage: trawl [PILE [ANSWERS]] [--status]\n")
+            && help.status == Some(0)
+    );
     assert_eq!(help.out.lines().find(|line| line.chars().count() > 100), None);
     let version = room.run(&["--version"]);
     assert_eq!(version.out, format!("trawl {}\n", env!("CARGO_PKG_VERSION")));
-    // Without the proved program there is no verdict.
-    fs::remove_file(room.folder.join("libexec/trawlbeacon/verdict")).expect("it is there");
-    let ran = room.run(&["missing"]);
-    assert_eq!((ran.out.as_str(), ran.status), ("", Some(1)));
+}
+
+#[test]
+fn without_the_proved_program_there_is_no_verdict() {
+    let ran = Command::new(installed().join("without/bin/trawl")).arg("any").output();
+    let ran = ran.expect("it can be run");
+    assert_eq!((ran.stdout, ran.status.code()), (vec![], Some(1)));
+    let said = String::from_utf8(ran.stderr).expect("it is text");
+    assert!(said.contains("without/libexec/trawlbeacon/verdict': No such file"), "{said}");
 }

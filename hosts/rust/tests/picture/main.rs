@@ -161,6 +161,9 @@ fn the_report_of_the_draft() {
     for due in ["24 h", "run 0 to 1", "A 1670f22d", "18:26:10", "2026-03-15"] {
         assert!(texts.contains(&due), "{due}");
     }
+    // The README shows it.
+    let kept = concat!(env!("CARGO_MANIFEST_DIR"), "/../../docs/draft-report.svg");
+    assert!(std::fs::read_to_string(kept).expect("it is kept") == read.svg());
     assert_eq!(Picture::of_text(&text.as_bytes()[1..]), Err(Refusal::ReportText));
     assert_eq!(Picture::of_text(br#"{"responses": []}"#), Err(Refusal::Entries));
 }

@@ -5,7 +5,7 @@ use std::ffi::OsString;
 use std::path::PathBuf;
 
 pub const USAGE: &str = "\
-usage: trawl [PILE [ANSWERS]]
+usage: trawl [PILE [ANSWERS]] [--status]
        trawl --judge FILE [ANSWERS] [--json] [--dates] [--status]
        trawl --cut FILE [ANSWERS] [--json] [--out OUT [--force]]
        trawl --draw FILE [ANSWERS] [--svg] [--out OUT [--force]] [--status]
@@ -108,66 +108,88 @@ pub struct Flags {
     pub out: Option<PathBuf>,
 }
 
-impl Flags {
-    pub fn of(arguments: impl Iterator<Item = OsString>) -> Result<Flags, Stop> {
-        let (mut words, mut given, mut actions, mut out) = (vec![], vec![], vec![], None);
-        let mut arguments = arguments;
+/// What stands on the command line, before it is known whether it goes together.
+#[derive(Default)]
+struct Given {
+    actions: Vec<Action>,
+    flags: Vec<String>,
+    words: Vec<OsString>,
+    out: Option<OsString>,
+}
+
+impl Given {
+    fn of(mut arguments: impl Iterator<Item = OsString>) -> Result<Given, Stop> {
+        let mut given = Given::default();
         while let Some(word) = arguments.next() {
             match word.to_str().filter(|word| word.starts_with("--")) {
-                None => words.push(word),
-                Some("--") => words.extend(arguments.by_ref()),
+                None => given.words.push(word),
+                Some("--") => given.words.extend(arguments.by_ref()),
+                Some("--out") => {
+                    let out = arguments.next().ok_or_else(|| Stop::usage("--out names no file"));
+                    given.out = Some(out?);
+                    given.flags.push("--out".to_string());
+                }
                 Some(flag) => match Action::of(flag) {
-                    Some(action) => actions.push(action),
-                    None => given.push(flag.to_string()),
+                    Some(action) => given.actions.push(action),
+                    None => given.flags.push(flag.to_string()),
                 },
             }
-            if given.last().map_or(false, |flag| flag == "--out") && out.is_none() {
-                out = Some(arguments.next().ok_or_else(|| Stop::usage("--out names no file"))?);
-            }
         }
-        let flags = Flags {
-            action: action(&actions, &given)?,
-            words,
-            json: given.iter().any(|flag| flag == "--json"),
-            dates: given.iter().any(|flag| flag == "--dates"),
-            svg: given.iter().any(|flag| flag == "--svg"),
-            force: given.iter().any(|flag| flag == "--force"),
-            status: given.iter().any(|flag| flag == "--status"),
-            out: out.map(PathBuf::from),
-        };
-        flags.check(&given)
+        Ok(given)
     }
 
-    fn check(self, given: &[String]) -> Result<Flags, Stop> {
-        if let Some(flag) = given.iter().find(|flag| !self.action.takes().contains(&flag.as_str()))
-        {
+    fn has(&self, flag: &str) -> bool {
+        self.flags.iter().any(|given| given == flag)
+    }
+
+    /// The one action. What only a verdict can be asked for asks for one.
+    fn action(&self) -> Result<Action, Stop> {
+        match self.actions[..] {
+            [] if self.has("--json") || self.has("--dates") => Ok(Action::Judge),
+            [] => Ok(Action::Plain),
+            [action] => Ok(action),
+            _ => Err(Stop::usage("only one thing can be asked for")),
+        }
+    }
+
+    /// Whether flags and words go with the action.
+    fn check(&self, action: Action) -> Result<(), Stop> {
+        let words = self.words.len();
+        if let Some(flag) = self.flags.iter().find(|flag| !action.takes().contains(&&flag[..])) {
             return Err(Stop::usage(format!("{flag} is not known here")));
         }
-        if given.iter().enumerate().any(|(at, flag)| given[..at].contains(flag)) {
+        if (1..self.flags.len()).any(|at| self.flags[..at].contains(&self.flags[at])) {
             return Err(Stop::usage("a flag stands there twice"));
         }
-        if !self.action.counts(self.words.len()) {
-            return Err(Stop::usage(format!("{} files or words are wrong here", self.words.len())));
+        if !action.counts(words) {
+            return Err(Stop::usage(format!("{words} files or words are too few or too many")));
         }
-        if self.force && self.out.is_none() {
+        if self.has("--force") && self.out.is_none() {
             return Err(Stop::usage("--force goes with --out"));
         }
-        Ok(self)
+        Ok(())
+    }
+}
+
+impl Flags {
+    pub fn of(arguments: impl Iterator<Item = OsString>) -> Result<Flags, Stop> {
+        let given = Given::of(arguments)?;
+        let action = given.action()?;
+        given.check(action)?;
+        Ok(Flags {
+            action,
+            json: given.has("--json"),
+            dates: given.has("--dates"),
+            svg: given.has("--svg"),
+            force: given.has("--force"),
+            status: given.has("--status"),
+            words: given.words,
+            out: given.out.map(PathBuf::from),
+        })
     }
 
     /// The word at a place, as a file.
     pub fn file(&self, place: usize) -> Option<PathBuf> {
         self.words.get(place).map(PathBuf::from)
-    }
-}
-
-/// The one action. What a verdict alone can be asked for asks for one.
-fn action(actions: &[Action], given: &[String]) -> Result<Action, Stop> {
-    let judged = given.iter().any(|flag| flag == "--json" || flag == "--dates");
-    match actions {
-        [] if judged => Ok(Action::Judge),
-        [] => Ok(Action::Plain),
-        [action] => Ok(*action),
-        _ => Err(Stop::usage("these go not together")),
     }
 }

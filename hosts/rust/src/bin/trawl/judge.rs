@@ -2,6 +2,7 @@
 
 use crate::evidence::Evidence;
 use crate::flags::Flags;
+use crate::hex::hex;
 use crate::output;
 use crate::status::{Ended, Stop};
 use trawlbeacon::picture::Date;
@@ -132,8 +133,4 @@ fn valid(checked: &Checked, dates: bool) -> String {
 fn refused(why: &PacketRefusal) -> String {
     let at = why.at.map_or(String::new(), |at| format!(r#","at":{at}"#));
     format!(r#""refused":{{"code":{},"words":"{}"{at}}}"#, why.code(), why.refusal)
-}
-
-pub fn hex(bytes: &[u8]) -> String {
-    bytes.iter().map(|byte| format!("{byte:02x}")).collect()
 }

@@ -2,8 +2,7 @@
 
 use crate::evidence;
 use crate::flags::Flags;
-use crate::judge::hex;
-use crate::make::hex32;
+use crate::hex::{hex, hex32};
 use crate::output;
 use crate::status::{Ended, Stop};
 use trawlbeacon::{List, SERVER_LENGTH};

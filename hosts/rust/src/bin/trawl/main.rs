@@ -8,6 +8,7 @@ mod cut;
 mod draw;
 mod evidence;
 mod flags;
+mod hex;
 mod hints;
 mod judge;
 mod look_up;

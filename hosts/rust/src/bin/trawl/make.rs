@@ -2,6 +2,7 @@
 
 use crate::evidence;
 use crate::flags::Flags;
+use crate::hex::hex32;
 use crate::output;
 use crate::status::{Ended, Stop};
 use std::ffi::OsString;
@@ -22,21 +23,4 @@ fn record(words: &[OsString]) -> Result<Record, Stop> {
     let rand = if words[1] == "-" { [0; 32] } else { hex32(&words[1])? };
     let packet = |word: &OsString| evidence::read(Path::new(word));
     Ok(Record::new(&key, &rand, &packet(&words[2])?, &packet(&words[3])?)?)
-}
-
-/// The 32 bytes that 64 digits of hex stand for.
-pub fn hex32(word: &OsString) -> Result<[u8; 32], Stop> {
-    let wrong = || Stop::usage(format!("{word:?} is not 64 digits of hex"));
-    let digits: Option<Vec<u8>> = word
-        .to_str()
-        .ok_or_else(wrong)?
-        .chars()
-        .map(|digit| digit.to_digit(16).map(|digit| digit as u8))
-        .collect();
-    let digits = digits.filter(|digits| digits.len() == 64).ok_or_else(wrong)?;
-    let mut bytes = [0; 32];
-    for (byte, two) in bytes.iter_mut().zip(digits.chunks_exact(2)) {
-        *byte = 16 * two[0] + two[1];
-    }
-    Ok(bytes)
 }
