@@ -1,0 +1,54 @@
+//! A console, three servers and a lie: the story, run for real.
+//!
+//!     cargo run --release -p trawlbeacon --example demo FOLDER [SEED]
+//!
+//! starts three time servers on this machine, one of them nine seconds ahead, behind a network that
+//! loses and damages packets. A console that has no date measures the time by the walk of draft 19,
+//! finds that one lied, and writes the report and its picture into FOLDER. Then the clock is set
+//! right, and it measures again. SEED, a whole number, says which packets are lost or damaged. The
+//! status is 0 where the story went as it should.
+//!
+//! Everything on the wire is the library's: requests, batches of responses, and what is said of
+//! them. Signatures are made by a signer for tests.
+
+mod backoff;
+mod batch;
+mod clock;
+mod console;
+mod evidence;
+mod keys;
+mod relay;
+mod running;
+mod server;
+mod story;
+mod teller;
+mod words;
+
+use std::path::PathBuf;
+use std::process::ExitCode;
+
+/// The seed where none is given. It was sought: with it a time is changed on its way, and two
+/// answers in a row are lost.
+const SEED: u64 = 29_242;
+
+/// The folder and the seed that the arguments name.
+fn named() -> Option<(PathBuf, u64)> {
+    let mut words = std::env::args().skip(1);
+    let folder = PathBuf::from(words.next()?);
+    let seed = words.next().map_or(Some(SEED), |word| word.parse().ok())?;
+    words.next().is_none().then_some((folder, seed))
+}
+
+fn main() -> ExitCode {
+    let Some((folder, seed)) = named() else {
+        eprintln!("usage: demo FOLDER [SEED]");
+        return ExitCode::from(2);
+    };
+    match story::tell(&folder, seed) {
+        Ok(()) => ExitCode::SUCCESS,
+        Err(why) => {
+            println!("The story did not go as it should: {why}");
+            ExitCode::FAILURE
+        }
+    }
+}

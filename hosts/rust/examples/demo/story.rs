@@ -1,0 +1,171 @@
+//! A console, three servers and a lie.
+
+use super::clock;
+use super::console::{Console, Known, Measured};
+use super::evidence::{self, Received};
+use super::keys::{self, Delegated, TestSigner};
+use super::relay::{Relay, ONE_IN};
+use super::server::{self, Server};
+use super::teller::Teller;
+use super::words;
+use std::error::Error;
+use std::path::Path;
+use std::sync::atomic::Ordering;
+use std::time::{SystemTime, UNIX_EPOCH};
+use trawlbeacon::picture::Date;
+use trawlbeacon::{Outcome, Pair};
+
+/// The servers, in the order in which they are asked. The last one lies: only an answer that was
+/// asked for after its own can contradict it, so that it takes the second round to find out.
+const NAMES: [&str; 3] = ["alder", "birch", "cedar"];
+const LIAR: usize = 2;
+
+/// How far the liar's clock is ahead, in seconds.
+const AHEAD: u64 = 9;
+
+/// How long a delegated key may sign, in seconds, before now and after.
+const DAY: u64 = 86_400;
+
+/// Why the story ended early.
+type Ended = Box<dyn Error>;
+
+/// The servers, each behind a network of its own, and what the console knows of them.
+struct Scene {
+    servers: Vec<Server>,
+    known: Vec<Known>,
+    _relays: Vec<Relay>,
+}
+
+/// A server with new keys, and its long-term public key.
+fn server() -> Result<(Server, [u8; 32]), Ended> {
+    let long_term = TestSigner::new(&keys::random()?);
+    let (key, now) = (long_term.key(), server::now());
+    let times = (now.saturating_sub(DAY), now + DAY);
+    let delegated = Delegated::new(&long_term, TestSigner::new(&keys::random()?), times)?;
+    Ok((Server::start(&key, delegated)?, key))
+}
+
+impl Scene {
+    fn set(seed: u64, teller: Teller) -> Result<Scene, Ended> {
+        let mut scene = Scene { servers: vec![], known: vec![], _relays: vec![] };
+        for (place, name) in (0..).zip(NAMES) {
+            let (server, key) = server()?;
+            let relay = Relay::start(name, server.address, (seed, place), teller)?;
+            scene.known.push(Known { name, key, address: relay.address });
+            scene.servers.push(server);
+            scene._relays.push(relay);
+        }
+        Ok(scene)
+    }
+}
+
+/// Tells the whole story, and why it ended where it does not go as it should.
+pub fn tell(folder: &Path, seed: u64) -> Result<(), Ended> {
+    let teller = Teller::boot();
+    let Scene { servers, known, _relays } = Scene::set(seed, teller)?;
+    let keys: Vec<[u8; 32]> = known.iter().map(|known| known.key).collect();
+    teller.line(opening(seed));
+    let mut console = Console::new(known, teller);
+    servers[LIAR].set_ahead(AHEAD);
+    let measured = console.measure()?;
+    lie(&console, &measured, teller)?;
+    convict(&measured.pile, &keys, folder, teller)?;
+    servers[LIAR].set_ahead(0);
+    teller.line(format!(
+        "\nThe clock of {} is set right. The console measures again.\n",
+        NAMES[LIAR]
+    ));
+    let measured = console.measure()?;
+    truth(&measured, teller)?;
+    servers.iter().zip(NAMES).for_each(|(server, name)| count(server, name, teller));
+    Ok(())
+}
+
+/// What is known beforehand, but not to the console.
+fn opening(seed: u64) -> String {
+    let ([first, second, third], liar) = (NAMES, NAMES[LIAR]);
+    [
+        format!("Three time servers run on this machine: {first}, {second} and {third}. The clock"),
+        format!("of {liar} is {AHEAD} seconds ahead. The network loses one packet in {ONE_IN} and"),
+        format!(
+            "damages one in {ONE_IN} (seed {seed}). A console boots. It has no date, only a clock"
+        ),
+        "that counts the seconds since then. They begin each line.\n".into(),
+    ]
+    .join("\n")
+}
+
+/// What the console concludes where one lied.
+fn lie(console: &Console, measured: &Measured, teller: Teller) -> Result<(), Ended> {
+    let Outcome::Malfeasance(Pair { first, second }) = measured.outcome else {
+        return Err(format!("one lied, and the walk ends as {:?}", measured.outcome).into());
+    };
+    let (one, other) = (console.name(first), console.name(second));
+    let low = Date::of(measured.kept[first].window.low);
+    let high = Date::of(measured.kept[second].window.high);
+    let says = |what: String| teller.says("console", what);
+    says("concludes: malfeasance".into());
+    says(format!("{one} said, in record {first}, that it was {low} or later"));
+    says(format!("{other}, asked later, said in record {second} that it was {high} or earlier"));
+    says("one of the two lied, and so it takes no time from anybody".into());
+    if one != NAMES[LIAR] && other != NAMES[LIAR] {
+        return Err("one lied, and the two that are named are others".into());
+    }
+    Ok(())
+}
+
+/// Keeps the evidence, and has it read by somebody who was sent the report.
+fn convict(pile: &[u8], keys: &[[u8; 32]], folder: &Path, teller: Teller) -> Result<(), Ended> {
+    let kept = evidence::keep(pile, folder)?;
+    let says = |what: String| teller.says("console", what);
+    says(format!(
+        "cuts records {} to {}, the shortest run that convicts",
+        kept.run.first, kept.run.last
+    ));
+    says(format!(
+        "writes them as a report, {} bytes of JSON: {}",
+        kept.length,
+        kept.report.display()
+    ));
+    says(format!("keeps all records, for ./trawl: {}", kept.pile.display()));
+    says(format!("draws them: {}", kept.picture.display()));
+    teller.line(format!("\n{}", kept.drawn));
+    let Received { pair, keys: named } = evidence::receive(&kept.report)?;
+    if !named.iter().all(|key| keys.contains(key)) {
+        return Err("the report has the key of a server that nobody asked".into());
+    }
+    let says = |what: String| teller.says("reader", what);
+    says("is sent the report; its keys are known ones, and all signatures verify".into());
+    says(format!(
+        "finds that its records {} and {} contradict each other",
+        pair.first, pair.second
+    ));
+    Ok(())
+}
+
+/// What the console concludes where nobody lied, and whether that is so.
+fn truth(measured: &Measured, teller: Teller) -> Result<(), Ended> {
+    if measured.outcome != Outcome::Consistent {
+        return Err(format!("nobody lied, and the walk ends as {:?}", measured.outcome).into());
+    }
+    teller.says("console", "concludes: consistent");
+    let time = clock::time_at(&measured.kept, teller.since_boot());
+    let true_time = SystemTime::now().duration_since(UNIX_EPOCH)?.as_millis() as u64;
+    let time = time.ok_or("nobody lied, and the windows leave no time")?;
+    teller.says("console", format!("carries the {} windows on to now", measured.kept.len()));
+    teller.says("console", format!("has the time: {}", words::span(&time)));
+    let true_words = words::fine(true_time);
+    teller.says("machine", format!("has {true_words} by its own clock, which no console sees"));
+    if !(time.low..=time.high).contains(&true_time) {
+        return Err("that is not the time by this machine's own clock".into());
+    }
+    Ok(())
+}
+
+/// What a server has done.
+fn count(server: &Server, name: &str, teller: Teller) {
+    let [received, answered] = [&server.counts.received, &server.counts.answered]
+        .map(|count| count.load(Ordering::SeqCst));
+    let ignored = received - answered;
+    teller.says(name, format!("has answered {answered} requests and ignored {ignored} packets"));
+}
