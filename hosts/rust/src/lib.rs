@@ -12,6 +12,10 @@
 //! example `console` does the same with an Ed25519 of the host's; the example `server` delegates a
 //! key and answers a batch of 900 requests.
 //!
+//! Without the feature `std`, which is on by default, the package needs no operating system, and
+//! without `alloc`, which `std` brings along, no heap: what holds bytes of its own is then left out,
+//! and every function of the library is there, with buffers that are lent.
+//!
 //! ```
 //! use trawlbeacon::Refusal;
 //!
@@ -31,15 +35,24 @@
 //! # Ok::<(), Refusal>(())
 //! ```
 
+#![cfg_attr(not(feature = "std"), no_std)]
 #![warn(missing_docs)]
 
+#[cfg(feature = "alloc")]
+extern crate alloc;
+
 mod check;
+#[cfg(feature = "alloc")]
+mod cutting;
+#[cfg(feature = "alloc")]
 mod gathering;
 mod packets;
+#[cfg(feature = "std")]
 pub mod picture;
 mod pieces;
 mod piles;
 pub mod raw;
+mod record;
 mod refusal;
 mod reports;
 mod servers;
@@ -53,15 +66,19 @@ mod verifying;
 mod walk;
 
 pub use check::{check_response, may_use, same_delegation, Checked, Window};
-pub use gathering::{Pile, Record, SignedPile};
+#[cfg(feature = "alloc")]
+pub use cutting::{cut, cut_signed, Cut};
+#[cfg(feature = "alloc")]
+pub use gathering::{Pile, SignedPile};
 pub use packets::{
     read_request, read_response, write_request, Request, Response, LONGEST_PACKET, REQUEST_LENGTH,
 };
 pub use pieces::Sha512;
 pub use piles::{
-    check_report, contradicts, cut, cut_run, first_rand_zero, judge, linked, pile_code, Cut, Pair,
+    check_report, contradicts, cut_run, first_rand_zero, judge, linked, pile_code, Pair,
     ReportRefusal, Run, MOST_RECORDS, RECORD_LENGTH,
 };
+pub use record::Record;
 pub use refusal::{PacketRefusal, Refusal};
 pub use reports::{
     cut_signed_text, cut_text, read_report, write_report, write_signed_report, CutText,
@@ -73,7 +90,7 @@ pub use serving::{
     DELEGATION_CONTEXT, DELE_LENGTH, RESPONSE_CONTEXT, SREP_LENGTH,
 };
 pub use signed::{
-    answers, check_signed, check_signed_report, cut_signed, cut_signed_run, judge_signed, Answers,
+    answers, check_signed, check_signed_report, cut_signed_run, judge_signed, Answers,
 };
 pub use signing::{delegation_text, response_text, signed_parts, SignedParts, LONGEST_TEXT};
 pub use stamps::{old_window, OldWindow};

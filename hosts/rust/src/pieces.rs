@@ -2,6 +2,7 @@
 
 use crate::raw::{self, tb_running};
 use crate::{Digest, Hash, Refusal};
+#[cfg(feature = "std")]
 use std::io;
 
 /// A hash that takes its message in pieces of any length, with no buffer for the whole. However
@@ -121,6 +122,7 @@ impl From<tb_running> for Sha512 {
 }
 
 /// Each write is a piece.
+#[cfg(feature = "std")]
 impl io::Write for Sha512 {
     fn write(&mut self, piece: &[u8]) -> io::Result<usize> {
         self.update(piece).map_err(|refusal| io::Error::new(io::ErrorKind::Other, refusal))?;

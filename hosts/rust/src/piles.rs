@@ -58,15 +58,6 @@ impl Run {
     }
 }
 
-/// A run of records with its bytes.
-#[derive(Clone, Debug, PartialEq, Eq)]
-pub struct Cut {
-    /// Where it stood in the pile.
-    pub run: Run,
-    /// Its records, with the rand of the first of them set to zero: with their answers, a report.
-    pub bytes: Vec<u8>,
-}
-
 /// Why a pile is no report.
 #[derive(Clone, Copy, Debug, PartialEq, Eq)]
 #[must_use]
@@ -90,6 +81,7 @@ impl fmt::Display for ReportRefusal {
     }
 }
 
+#[cfg(feature = "std")]
 impl std::error::Error for ReportRefusal {}
 
 /// Whether `pile` is 1 to 16 whole records and `answers` two bytes for each, none above 1. The only
@@ -217,21 +209,4 @@ pub fn cut_run(pile: &[u8], answers: &[u8], out: &mut [u8]) -> Result<Run, Refus
 pub(crate) fn of_cut(cut: raw::tb_cut) -> Result<Run, Refusal> {
     Refusal::check(cut.code)?;
     Ok(Run { first: cut.first as usize, last: cut.last as usize })
-}
-
-/// What [`cut_run`] does, without a buffer that is lent. The refusals are 15 and 18.
-pub fn cut(pile: &[u8], answers: &[u8]) -> Result<Cut, Refusal> {
-    own_cut(pile, |out| cut_run(pile, answers, out))
-}
-
-/// Cuts into a buffer of our own, which has no more room than the longest pile needs: what is longer
-/// is refused with 15, which comes before 19.
-pub(crate) fn own_cut(
-    pile: &[u8],
-    cut: impl FnOnce(&mut [u8]) -> Result<Run, Refusal>,
-) -> Result<Cut, Refusal> {
-    let mut bytes = vec![0; pile.len().min(MOST_RECORDS * RECORD_LENGTH)];
-    let run = cut(&mut bytes)?;
-    bytes.truncate(run.records() * RECORD_LENGTH);
-    Ok(Cut { run, bytes })
 }

@@ -250,6 +250,7 @@ impl fmt::Display for Refusal {
     }
 }
 
+#[cfg(feature = "std")]
 impl std::error::Error for Refusal {}
 
 /// Why a packet is refused, and where it is bad.
@@ -305,6 +306,7 @@ impl fmt::Display for PacketRefusal {
     }
 }
 
+#[cfg(feature = "std")]
 impl std::error::Error for PacketRefusal {}
 
 #[cfg(test)]

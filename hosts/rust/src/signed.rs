@@ -6,8 +6,8 @@
 //! and the response's only where the delegation's verifies.
 
 use crate::check::{of_judged, of_verdict};
-use crate::piles::{of_cut, of_reported, own_cut};
-use crate::{raw, Checked, Cut, PacketRefusal, Pair, Refusal, ReportRefusal, Run};
+use crate::piles::{of_cut, of_reported};
+use crate::{raw, Checked, PacketRefusal, Pair, Refusal, ReportRefusal, Run};
 
 /// Whether the two signatures of a response verify: what [`check_response`](crate::check_response)
 /// and [`Pile::push`](crate::Pile::push) take.
@@ -123,18 +123,4 @@ pub fn cut_signed_run(pile: &[u8], out: &mut [u8]) -> Result<Run, Refusal> {
     let (from, to) = (pile.as_ptr(), out.as_mut_ptr());
     // SAFETY: see raw.
     of_cut(unsafe { raw::tb_cut_signed_run(from, pile.len(), to, out.len()) })
-}
-
-/// What [`cut_signed_run`] does, without a buffer that is lent. The refusals are 15 and 18.
-///
-/// ```
-/// # let pile = independent::appendix::pile().pile;
-/// // Of the three records of draft 19's report the first two convict by themselves.
-/// let cut = trawlbeacon::cut_signed(&pile)?;
-/// assert_eq!((cut.run.first, cut.run.last), (0, 1));
-/// assert_eq!(cut.bytes, pile[..2 * trawlbeacon::RECORD_LENGTH]);
-/// # Ok::<(), trawlbeacon::Refusal>(())
-/// ```
-pub fn cut_signed(pile: &[u8]) -> Result<Cut, Refusal> {
-    own_cut(pile, |out| cut_signed_run(pile, out))
 }

@@ -1,5 +1,8 @@
 //! The measuring walk: servers that are asked in turn, and then again in the same order.
 
+#[cfg(feature = "alloc")]
+use alloc::{vec, vec::Vec};
+
 use crate::raw::{self, tb_took, tb_walk};
 use crate::{Hash, PacketRefusal, Pair, Refusal, RECORD_LENGTH, REQUEST_LENGTH};
 
@@ -82,12 +85,22 @@ pub enum Outcome {
 /// ```
 ///
 /// A response that is refused changes nothing, so that the same request can be sent again.
+///
+/// The buffer of its pile is its own, or one that is lent or handed over
+/// ([`start_in`](Walk::start_in)), as where there is no heap.
 #[derive(Clone, Debug, PartialEq, Eq)]
-pub struct Walk {
+pub struct Walk<Buffer = Own> {
     state: tb_walk,
-    buffer: Vec<u8>,
+    buffer: Buffer,
 }
 
+/// What holds a pile where nothing else is said.
+#[cfg(feature = "alloc")]
+type Own = Vec<u8>;
+#[cfg(not(feature = "alloc"))]
+type Own = [u8; crate::MOST_RECORDS * RECORD_LENGTH];
+
+#[cfg(feature = "alloc")]
 impl Walk {
     /// A walk over the servers with these long-term keys, in their order, whose first request has
     /// this nonce. A response may take `longest` seconds.
@@ -97,8 +110,36 @@ impl Walk {
     /// [`Refusal::WalkServers`] (31) where the servers are fewer than 3 or more than 8, or a key
     /// stands there twice.
     pub fn start(servers: &[[u8; 32]], nonce: &[u8; 32], longest: u64) -> Result<Walk, Refusal> {
-        let keys = servers.concat();
         let buffer = vec![0; 2 * servers.len().min(MOST_SERVERS) * RECORD_LENGTH];
+        Walk::start_in(servers, nonce, longest, buffer)
+    }
+}
+
+impl<Buffer: AsRef<[u8]> + AsMut<[u8]>> Walk<Buffer> {
+    /// What [`start`](Walk::start) does, with a buffer that is an array, say, or lent: two records a
+    /// server. What it holds plays no part.
+    ///
+    /// # Errors
+    ///
+    /// 31 as there, and then [`Refusal::Room`] (19) where the buffer is too short.
+    ///
+    /// ```
+    /// use trawlbeacon::{Refusal, Walk, RECORD_LENGTH};
+    ///
+    /// let (keys, mut pile) = ([[1; 32], [2; 32], [3; 32]], [0; 6 * RECORD_LENGTH]);
+    /// let walk = Walk::start_in(&keys, &[7; 32], 5, &mut pile[..])?;
+    /// assert_eq!((walk.ask()?.server, walk.pile().len()), (0, 0));
+    /// let short = Walk::start_in(&keys, &[7; 32], 5, &mut pile[1..]);
+    /// assert_eq!(short.err(), Some(Refusal::Room));
+    /// # Ok::<(), Refusal>(())
+    /// ```
+    pub fn start_in(
+        servers: &[[u8; 32]],
+        nonce: &[u8; 32],
+        longest: u64,
+        buffer: Buffer,
+    ) -> Result<Walk<Buffer>, Refusal> {
+        let pile = buffer.as_ref();
         let mut state = tb_walk {
             keys: [0; 256],
             count: 0,
@@ -118,12 +159,12 @@ impl Walk {
                 &mut state.rand,
                 &mut state.last,
                 &mut state.most,
-                keys.as_ptr(),
-                keys.len(),
+                servers.as_ptr().cast(),
+                32 * servers.len(),
                 nonce,
                 longest,
-                buffer.as_ptr(),
-                buffer.len(),
+                pile.as_ptr(),
+                pile.len(),
             )
         })?;
         Ok(Walk { state, buffer })
@@ -133,7 +174,7 @@ impl Walk {
     /// buffer of two records a server that begins with what [`pile`](Walk::pile) gave. A state that
     /// no start led to does no harm, and what is then said means nothing.
     #[must_use]
-    pub fn resume(state: tb_walk, buffer: Vec<u8>) -> Walk {
+    pub fn resume(state: tb_walk, buffer: Buffer) -> Walk<Buffer> {
         Walk { state, buffer }
     }
 
@@ -172,7 +213,7 @@ impl Walk {
     /// or sent for before the last one was received; 27 where it took too long; and 1 to 13 as
     /// [`check_response`](crate::check_response) has them. The walk stays as it was.
     pub fn take(&mut self, response: &[u8], heard: &Heard) -> Result<Outcome, PacketRefusal> {
-        let state = &mut self.state;
+        let (state, pile) = (&mut self.state, self.buffer.as_mut());
         // SAFETY: see raw.
         let took = unsafe {
             raw::tb_walk_take_fields(
@@ -190,8 +231,8 @@ impl Walk {
                 &heard.rand,
                 response.as_ptr(),
                 response.len(),
-                self.buffer.as_mut_ptr(),
-                self.buffer.len(),
+                pile.as_mut_ptr(),
+                pile.len(),
             )
         };
         outcome(took)
@@ -212,7 +253,7 @@ impl Walk {
         received: u64,
         rand: &[u8; 32],
     ) -> Result<Outcome, PacketRefusal> {
-        let state = &mut self.state;
+        let (state, pile) = (&mut self.state, self.buffer.as_mut());
         // SAFETY: see raw.
         outcome(unsafe {
             raw::tb_walk_take_signed_fields(
@@ -228,8 +269,8 @@ impl Walk {
                 rand,
                 response.as_ptr(),
                 response.len(),
-                self.buffer.as_mut_ptr(),
-                self.buffer.len(),
+                pile.as_mut_ptr(),
+                pile.len(),
             )
         })
     }
@@ -238,9 +279,10 @@ impl Walk {
     /// are what [`check_report`](crate::check_report) and [`cut`](crate::cut) take.
     #[must_use]
     pub fn pile(&self) -> &[u8] {
-        let room = self.buffer.len() / RECORD_LENGTH;
+        let buffer = self.buffer.as_ref();
+        let room = buffer.len() / RECORD_LENGTH;
         let taken = usize::try_from(self.state.step).map_or(room, |step| step.min(room));
-        &self.buffer[..taken * RECORD_LENGTH]
+        &buffer[..taken * RECORD_LENGTH]
     }
 
     /// The state as it is, to be kept and gone on with.
