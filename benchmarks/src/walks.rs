@@ -4,8 +4,9 @@
 //! The state is put back before each call. The pile is not: each call writes the same record over
 //! what the one before it left.
 
-use crate::limits::Limits;
+use crate::run::Run;
 use crate::sides::{work, Side, Subject, Work};
+use crate::table::{count, Table, MICROSECONDS};
 use independent::making::Link;
 use independent::pile::RECORD;
 use independent::walk::{Heard, Stand, Walk};
@@ -21,7 +22,7 @@ const PILE: usize = 2 * MOST_SERVERS * RECORD;
 const RAND: [u8; 32] = [9; 32];
 
 /// A walk before one of its steps, and the response that is taken there.
-pub struct Step {
+struct Step {
     name: &'static str,
     walk: Walk,
     pile: Vec<u8>,
@@ -79,14 +80,11 @@ impl Step {
         work(take)
     }
 
-    pub fn subject(&self, limits: &Limits) -> Subject<'_> {
+    fn subject(&self) -> Subject<'_> {
         let length = self.response.len();
-        Subject {
-            name: format!("{}, {length} B", self.name),
-            length,
-            limits: vec![(Side::Independent, limits.walks)],
-            works: vec![(Side::Ours, self.ours()), (Side::Independent, self.independents())],
-        }
+        let works = [self.ours(), self.independents()];
+        Subject::of_two(format!("{}, {} bytes", self.name, count(length)), length, works)
+            .held(Side::Independent, "walks")
     }
 }
 
@@ -116,11 +114,18 @@ fn take(mut state: tb_walk, response: &[u8], pile: &mut [u8]) -> tb_took {
 }
 
 /// A step with a response as short as it can be and with one as full, and the last with full ones.
-pub fn steps() -> [Step; 3] {
+fn steps() -> [Step; 3] {
     let last = 2 * MOST_SERVERS - 1;
     [
         Step::after("a step, no siblings", 3, 0, 0),
         Step::after("a step, 32 siblings", 3, 32, packet::MOST),
         Step::after("the last, 32 siblings", last, 32, packet::MOST),
     ]
+}
+
+pub fn part(run: &mut Run) {
+    let title = "a response that is taken by a walk over eight servers, answers lent";
+    let steps = steps();
+    let subjects = steps.iter().map(Step::subject).collect();
+    run.table(Table::new("walks", title, &["Step of a walk"]), &MICROSECONDS, subjects);
 }
