@@ -373,12 +373,12 @@ struct tb_wrote tb_write_request(const uint8_t key[32], const uint8_t nonce[32],
 /* ---- Signatures ----
  *
  * Four checks verify signatures by themselves: tb_check_signed, tb_judge_signed,
- * tb_check_signed_report and tb_cut_signed_run. Those that take answers, tb_check_response,
- * tb_judge, tb_check_report, tb_cut_run and tb_pile_contradicts, verify none: the caller asks
- * whether both verify, of tb_answers, of tb_verify or of an Ed25519 of its own, and says there what
- * came out. All questions go by what the library hands out, and nothing is to be read from the
- * packet by the caller's own code: one that reads a key or a signature at the place where it
- * usually stands can be made to accept a forged time. */
+ * tb_check_signed_report and tb_cut_signed_run; and so does tb_walk_take_signed. Those that take
+ * answers, tb_check_response, tb_judge, tb_check_report, tb_cut_run, tb_pile_contradicts and
+ * tb_walk_take, verify none: the caller asks whether both verify, of tb_answers, of tb_verify or of
+ * an Ed25519 of its own, and says there what came out. All questions go by what the library hands
+ * out, and nothing is to be read from the packet by the caller's own code: one that reads a key or
+ * a signature at the place where it usually stands can be made to accept a forged time. */
 
 /* Whether the signature of the text verifies under the key: Ed25519 of RFC 8032, 5.1.7, with S
  * below the group order and the group equation without the cofactor. Any lengths are taken: a key
@@ -801,7 +801,10 @@ struct tb_forwarded tb_cut_signed_text(const uint8_t *text, size_t text_len, uin
  * order again. The walk says whom to ask and what, takes each response, writes its record, and
  * after the last says whether the servers contradict each other:
  *
- *     start; then, until the walk has ended: ask, send the request, receive, verify, take.
+ *     start; then, until the walk has ended: ask, send the request, receive, take.
+ *
+ * tb_walk_take_signed verifies the two signatures of a response by itself, under the key of the
+ * server that was asked. tb_walk_take is for a caller with an Ed25519 of its own.
  *
  * The pile stands at the front of a buffer of the caller's, of two records a server, which is lent
  * at each call and must not be altered between calls: one whole record for each response that is
@@ -876,6 +879,11 @@ struct tb_took tb_walk_take_fields(const uint8_t keys[256], uint64_t count, uint
                                    uint64_t sent, uint64_t received, const uint8_t next[32],
                                    const uint8_t *response, size_t response_len, uint8_t *pile,
                                    size_t pile_len);
+struct tb_took tb_walk_take_signed_fields(const uint8_t keys[256], uint64_t count, uint64_t *step,
+                                          uint8_t nonce[32], uint8_t rand[32], uint64_t *last,
+                                          uint64_t most, uint64_t sent, uint64_t received,
+                                          const uint8_t next[32], const uint8_t *response,
+                                          size_t response_len, uint8_t *pile, size_t pile_len);
 
 /* Starts a walk over the servers with these long-term keys, 32 bytes each, in their order, from a
  * nonce of the caller's. longest is the longest delay in seconds that a response may take. Nothing
@@ -900,10 +908,9 @@ static inline struct tb_asked tb_walk_ask(const struct tb_walk *walk, uint8_t *o
 }
 
 /* Takes the response to the request that is asked. delegation and signature say whether its two
- * signatures verify, as in tb_check_response: 1 is yes and every other number is no; tb_answers has
- * the two, with the key of the server that is asked. sent and received are when, by the caller's
- * own clock, in seconds, the request was sent and the response received. rand is 32 random bytes
- * for the next request.
+ * signatures verify, as in tb_check_response: 1 is yes and every other number is no. sent and
+ * received are when, by the caller's own clock, in seconds, the request was sent and the response
+ * received. rand is 32 random bytes for the next request.
  * The codes are 28; 19, where the pile has under two records a server; 26; 27; and then those of
  * tb_check_response, 1 to 13. */
 static inline struct tb_took tb_walk_take(struct tb_walk *walk, uint32_t delegation,
@@ -913,6 +920,18 @@ static inline struct tb_took tb_walk_take(struct tb_walk *walk, uint32_t delegat
     return tb_walk_take_fields(walk->keys, walk->count, &walk->step, walk->nonce, walk->rand,
                                &walk->last, walk->most, delegation, signature, sent, received, rand,
                                response, response_len, pile, pile_len);
+}
+
+/* The same with no answers lent: it does what tb_walk_take does, given what tb_answers says under
+ * the key of the server that is asked. The codes are the same, in the same order, so that nothing
+ * is verified where another code than 12 and 13 refuses. */
+static inline struct tb_took tb_walk_take_signed(struct tb_walk *walk, uint64_t sent,
+                                                 uint64_t received, const uint8_t rand[32],
+                                                 const uint8_t *response, size_t response_len,
+                                                 uint8_t *pile, size_t pile_len) {
+    return tb_walk_take_signed_fields(walk->keys, walk->count, &walk->step, walk->nonce, walk->rand,
+                                      &walk->last, walk->most, sent, received, rand, response,
+                                      response_len, pile, pile_len);
 }
 
 /* ---- Old captures ----

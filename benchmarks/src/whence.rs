@@ -43,7 +43,7 @@ const GROUPS: [(&str, &[&str]); 6] = [
         ],
     ),
     ("packets", &["message", "wire", "writer", "seals", "respond", "verdict"]),
-    ("piles", &["pile", "runs", "report", "tally", "signed"]),
+    ("piles", &["pile", "runs", "report", "tally", "signed", "walk", "hearing"]),
     ("JSON", &["base64", "json", "quoted", "intake", "publish", "forward"]),
 ];
 

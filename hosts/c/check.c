@@ -8,9 +8,10 @@
  * report and by the forms that take answers, a lookup by the place of the record, old stamps by
  * both sides of each limit, a pile by the times it was made of, its report as JSON by a text that
  * is made here of the same records, windows as they come by every pair of them, a walk by its
- * records and by each refusal at each step, a writer by what it leaves in a buffer, a server by the
- * draft's response, which it writes again out of its values, the words of a code by some of them.
- * Whether all of that is right on every input is for the tests of hosts/rust.
+ * records and by each refusal at each step, and where it verifies by itself by the draft's three
+ * responses and tb_answers, a writer by what it leaves in a buffer, a server by the draft's
+ * response, which it writes again out of its values, the words of a code by some of them. Whether
+ * all of that is right on every input is for the tests of hosts/rust.
  */
 #include "report.h"
 #include "response.h"
@@ -1212,6 +1213,103 @@ static void expect_walk(size_t servers, uint64_t lag, bool altered, struct tb_to
                   lied ? 0 : TB_NO_CONTRADICTION);
 }
 
+/* The draft's three servers, and the walk over them that the responses of its report were made for,
+ * which ends after its first round. */
+static void start_drafts_walk(struct tb_walk *walk) {
+    uint8_t keys[32 * DRAFTS];
+    memcpy(keys, KEY, sizeof KEY);
+    memcpy(keys + sizeof KEY, LATER_KEYS, sizeof LATER_KEYS);
+    memset(walk_pile, 0xee, sizeof walk_pile);
+    memset(walk_should, 0xee, sizeof walk_should);
+    expect_number("a start over the draft's servers",
+                  tb_walk_start(walk, keys, sizeof keys, RESPONSE + NONC_AT, LONGEST, walk_pile,
+                                2 * REPORT_LENGTH),
+                  0);
+}
+
+/* Takes a response by its signatures, and holds that to tb_walk_take with what tb_answers says
+ * under the key of the server that is asked: the answer, the state and the pile. */
+static struct tb_took expect_taken_alike(const char *what, struct tb_walk *walk, uint64_t sent,
+                                         uint64_t received, const uint8_t *response, size_t n,
+                                         size_t room) {
+    struct tb_walk given = *walk;
+    uint8_t yes[2] = {7, 7}, rand[32] = {9};
+    if (walk->step + 1 < DRAFTS) memcpy(rand, RANDS[walk->step], sizeof rand);
+    tb_answers(walk->keys + 32 * (walk->step % DRAFTS), response, n, yes);
+    struct tb_took should = tb_walk_take(&given, yes[0], yes[1], sent, received, rand, response, n,
+                                         walk_should, room);
+    struct tb_took is =
+        tb_walk_take_signed(walk, sent, received, rand, response, n, walk_pile, room);
+    expect_took(what, is, should);
+    expect_bytes(what, (const uint8_t *)walk, (const uint8_t *)&given, sizeof given);
+    expect_bytes(what, walk_pile, walk_should, sizeof walk_pile);
+    return is;
+}
+
+/* A response of the draft's with a byte changed, and the code that it is refused with. */
+static const struct {
+    uint32_t code;
+    size_t at;
+    uint8_t flip;
+} FORGED[] = {{TB_DELEGATION, CERT_SIG_AT, 1}, {TB_DELEGATION, CERT_SIG_AT + 63, 0x10},
+              {TB_DELEGATION, PUBK_AT + 5, 1}, {TB_SIGNATURE, SIG_AT, 1},
+              {TB_SIGNATURE, SIG_AT + 63, 1},  {TB_SIGNATURE, MIDP_AT, 1},
+              {TB_MARK, 0, 1},                 {TB_FRAME, 12, 7},
+              {TB_VALUE, RADI_AT, 3},          {TB_NONCE, NONC_AT, 1},
+              {TB_PATH, ROOT_AT, 1},           {TB_TIME, MINT_AT + 7, 0x80}};
+
+static void expect_signed_refusals(struct tb_walk *walk, const uint8_t *right, uint64_t sent) {
+    const size_t n = DRAFT_LENGTH, room = 2 * REPORT_LENGTH;
+    const struct tb_walk before = *walk;
+    const char *what = "a refusal of a walk by signatures";
+    for (size_t i = 0; i < sizeof FORGED / sizeof FORGED[0]; i++) {
+        uint8_t response[DRAFT_LENGTH];
+        memcpy(response, right, n);
+        response[FORGED[i].at] ^= FORGED[i].flip;
+        const uint64_t late = sent + LONGEST + 1;
+        struct tb_took took = expect_taken_alike(what, walk, sent, sent, response, n, room);
+        expect_number(what, took.code, FORGED[i].code);
+        took = expect_taken_alike(what, walk, sent, late, response, n, room);
+        expect_number(what, took.code, TB_DELAY);
+        took = expect_taken_alike(what, walk, sent, sent - 1, response, n, room);
+        expect_number(what, took.code, TB_CLOCK);
+        took = expect_taken_alike(what, walk, sent, sent - 1, response, n, room - 1);
+        expect_number(what, took.code, TB_ROOM);
+    }
+    expect_bytes(what, (const uint8_t *)walk, (const uint8_t *)&before, sizeof before);
+}
+
+/* The draft's first round: its three responses are accepted by their own signatures, and under
+ * another server's key none is. What they leave is the draft's report. */
+static void expect_signed_walk(void) {
+    static uint8_t report[REPORT_LENGTH];
+    const size_t room = 2 * REPORT_LENGTH;
+    struct tb_walk walk = {{0}, 0, 0, {0}, {0}, 0, 0};
+    start_drafts_walk(&walk);
+    for (size_t k = 0; k < DRAFTS; k++) {
+        const uint8_t *right = k == 0 ? RESPONSE : LATER[k - 1];
+        const uint64_t sent = 100 + 10 * k;
+        expect_signed_refusals(&walk, right, sent);
+        struct tb_walk other = walk;
+        memcpy(other.keys + 32 * k, walk.keys + 32 * ((k + 1) % DRAFTS), 32);
+        struct tb_took took =
+            expect_taken_alike("another's key", &other, sent, sent, right, DRAFT_LENGTH, room);
+        /* The key is in the request, and so in the leaf that the path begins with. */
+        expect_number("another's key", took.code, TB_PATH);
+        const struct tb_took goes_on = {.outcome = TB_GOES_ON};
+        expect_took("a step by signatures",
+                    expect_taken_alike("a step by signatures", &walk, sent, sent + LONGEST, right,
+                                       DRAFT_LENGTH, room),
+                    goes_on);
+    }
+    lay_report(report);
+    expect_bytes("the draft's report by a walk", walk_pile, report, sizeof report);
+    expect_number("the step after the draft's", walk.step, DRAFTS);
+    walk.step = 2 * DRAFTS;
+    const char *ended = "an ended walk by signatures";
+    expect_number(ended, expect_taken_alike(ended, &walk, 1, 0, RESPONSE, 0, 0).code, TB_ENDED);
+}
+
 /* A start that is refused leaves the state of no walk. */
 static void expect_no_start(const char *what, const uint8_t *keys, size_t n, size_t room,
                             uint32_t code) {
@@ -1250,6 +1348,7 @@ static void expect_walks(void) {
     expect_no_start("too short a pile for eight", keys, many, WALK_ROOM - 1, TB_ROOM);
     memcpy(keys + many - 32, keys, 32);
     expect_no_start("one key twice", keys, many, 0, TB_WALK_SERVERS);
+    expect_signed_walk();
 }
 
 /* What a call of a server's writers answered, and what it left in a buffer of 0xee. */

@@ -86,6 +86,22 @@ static void call_write_signed_report(void) {
     code = tb_write_signed_report(pile, sizeof pile, text, sizeof text).code;
 }
 
+/* The first step of a walk whose servers are those of the draft's report. */
+static struct tb_walk among_drafts;
+static uint8_t drafts_walked[2 * REPORT_LENGTH];
+static void start_among_drafts(void) {
+    uint8_t keys[32 * DRAFTS];
+    for (size_t k = 0; k < DRAFTS; k++) memcpy(keys + 32 * k, pile + k * TB_RECORD_LENGTH, 32);
+    struct tb_response first = tb_read_response(RESPONSE, sizeof RESPONSE);
+    tb_walk_start(&among_drafts, keys, sizeof keys, first.nonc, 0, drafts_walked,
+                  sizeof drafts_walked);
+}
+static void call_walk_take_signed(void) {
+    code = tb_walk_take_signed(&among_drafts, 0, 0, leaves, RESPONSE, sizeof RESPONSE,
+                               drafts_walked, sizeof drafts_walked)
+               .code;
+}
+
 /* All the rest, on the same packets and records. */
 static const uint8_t ANSWERS[2 * DRAFTS] = {1, 1, 1, 1, 1, 1};
 static uint8_t digest[64], packet[TB_LONGEST_PACKET];
@@ -194,7 +210,8 @@ static const struct operation SIGNED[] = {{"tb_verify_parts", call_verify},
                                           {"tb_judge_signed", call_judge_signed},
                                           {"tb_check_signed_report", call_check_signed_report},
                                           {"tb_cut_signed_run", call_cut_signed_run},
-                                          {"tb_write_signed_report", call_write_signed_report}};
+                                          {"tb_write_signed_report", call_write_signed_report},
+                                          {"tb_walk_take_signed", call_walk_take_signed}};
 
 static const struct operation TEXTS[] = {{"tb_cut_text", call_cut_text},
                                          {"tb_cut_signed_text", call_cut_signed_text}};
@@ -323,6 +340,7 @@ int main(void) {
     lay_report(pile);
     text_length = (size_t)tb_write_signed_report(pile, sizeof pile, text, sizeof text).length;
     nest_text();
+    start_among_drafts();
     tb_sha512_start(&running);
     call_walk_start();
     walk_on(0);

@@ -4,8 +4,9 @@
  *
  * This program plays the servers too, with what a server of one's own writes. The clock of the
  * third is LAG seconds behind, or not at all. Nobody signs, and both signatures are taken as good.
- * A console would take random bytes for the nonce and the rands, send the requests over UDP, ask
- * tb_answers whether the signatures verify, and cut its report out of the pile with tb_cut_run.
+ * A console would take random bytes for the nonce and the rands, send the requests over UDP, take
+ * the responses with tb_walk_take_signed, which verifies them, and cut its report out of the pile
+ * with tb_cut_signed_run.
  */
 #include "trawlbeacon.h"
 

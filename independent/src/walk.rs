@@ -2,12 +2,14 @@
 //! the same ones in the same order once more. What each request and response was goes into a pile,
 //! and the pile says at the end whether a server lied.
 
-use crate::check;
+use crate::check::{self, Valid};
+use crate::ed25519::Ed25519;
 use crate::hash::{self, Hash};
 use crate::making;
 use crate::pile::RECORD;
 use crate::refusal::Refusal;
 use crate::report::{self, NoReport};
+use crate::signed;
 use crate::write;
 use std::ops::RangeInclusive;
 
@@ -52,6 +54,19 @@ pub struct Heard<'a> {
     pub delegation: bool,
     /// Whether the signature of the response is right.
     pub signature: bool,
+    /// The second at which the request went out, by the client's clock.
+    pub sent: u64,
+    /// The second at which the response came in, by the same clock.
+    pub received: u64,
+    /// What the next nonce is to be blinded with.
+    pub rand: [u8; 32],
+}
+
+/// A response that nothing is known about yet but when it came.
+#[derive(Clone, Copy, Debug)]
+pub struct Arrived<'a> {
+    /// The packet.
+    pub response: &'a [u8],
     /// The second at which the request went out, by the client's clock.
     pub sent: u64,
     /// The second at which the response came in, by the same clock.
@@ -121,21 +136,48 @@ impl Walk {
     /// Takes the response to the request that is due, and puts its record into the pile at the front
     /// of `buffer`. Where it is refused nothing is changed.
     pub fn take(&mut self, heard: &Heard, buffer: &mut [u8]) -> Result<Stand, Refusal> {
+        let &Heard { response, delegation, signature, sent, received, rand } = heard;
+        let arrived = Arrived { response, sent, received, rand };
+        self.take_by(&arrived, buffer, |_, request| {
+            check::check(request, response, delegation, signature)
+        })
+    }
+
+    /// The same, with the signatures verified here, under the key of the server that is due
+    /// (request P11).
+    pub fn take_signed(
+        &mut self,
+        ed25519: &Ed25519,
+        arrived: &Arrived,
+        buffer: &mut [u8],
+    ) -> Result<Stand, Refusal> {
+        self.take_by(arrived, buffer, |key, request| {
+            signed::check(ed25519, key, request, arrived.response)
+        })
+    }
+
+    /// Takes a response that is checked so, by the key of the server that is due and its request.
+    fn take_by(
+        &mut self,
+        arrived: &Arrived,
+        buffer: &mut [u8],
+        check: impl FnOnce(&[u8; 32], &[u8]) -> Result<Valid, Refusal>,
+    ) -> Result<Stand, Refusal> {
         let (server, request) = self.due()?;
         let pile = self.room(buffer)?;
-        let delay = heard.received.checked_sub(heard.sent).ok_or(Refusal::Clock)?;
-        heard.sent.checked_sub(self.last).ok_or(Refusal::Clock)?;
+        let delay = arrived.received.checked_sub(arrived.sent).ok_or(Refusal::Clock)?;
+        arrived.sent.checked_sub(self.last).ok_or(Refusal::Clock)?;
         self.longest.checked_sub(delay).ok_or(Refusal::Delay)?;
-        check::check(&request, heard.response, heard.delegation, heard.signature)?;
+        check(&self.servers[server], &request)?;
 
-        let record = making::record(&self.servers[server], &self.rand, &request, heard.response);
+        let record = making::record(&self.servers[server], &self.rand, &request, arrived.response);
         let places = &mut buffer[..pile];
         let step = self.accepted as usize;
         places.chunks_mut(RECORD).nth(step).expect("it is a step").copy_from_slice(&record);
         self.accepted += 1;
-        self.rand = heard.rand;
-        self.nonce = hash::link(heard.response, &heard.rand);
-        self.last = heard.received;
+        self.rand = arrived.rand;
+        self.nonce = hash::link(arrived.response, &arrived.rand);
+        self.last = arrived.received;
         Ok(if (step + 1) * RECORD == pile { ended(places) } else { Stand::GoesOn })
     }
 }
@@ -153,7 +195,9 @@ fn ended(pile: &[u8]) -> Stand {
 mod tests {
     use super::*;
     use crate::making::Link;
-    use crate::pieces::Pieces;
+    use crate::pieces::{put, Pieces};
+    use crate::signing::Keys;
+    use crate::tag::{NONC, SIG};
     use crate::{pile, request};
 
     const NONCE: Hash = [7; 32];
@@ -287,6 +331,41 @@ mod tests {
         assert_eq!(code(walk.take(&bad, &mut [])), 28);
         assert_eq!(code(walk.ask(&mut [])), 28);
         assert!(buffer.iter().all(|byte| *byte == 0xee));
+    }
+
+    #[test]
+    fn signatures_are_verified_under_the_key_of_the_server_that_is_due() {
+        let ed25519 = Ed25519::new();
+        let servers: Vec<Keys> =
+            (1..=3).map(|seed| Keys::new(&ed25519, [seed; 32], [seed + 9; 32])).collect();
+        let keys: Vec<u8> = servers.iter().flat_map(|server| server.long_term.public).collect();
+        let mut buffer = vec![0xee; 6 * RECORD];
+        let mut walk = Walk::start(&keys, &NONCE, 5, &buffer).unwrap();
+        let mut take = |walk: &mut Walk, server: &Keys, forge: fn(&mut Pieces), sent, received| {
+            let mut pieces = pieces(walk, 1000, 5);
+            server.sign(&ed25519, &mut pieces);
+            forge(&mut pieces);
+            let response = pieces.packet();
+            let arrived = Arrived { response: &response, sent, received, rand: [9; 32] };
+            walk.take_signed(&ed25519, &arrived, &mut buffer).map_err(Refusal::code)
+        };
+        let right = |_: &mut Pieces| ();
+        for step in 0..6 {
+            let (own, next) = (&servers[step % 3], &servers[(step + 1) % 3]);
+            assert_eq!(take(&mut walk, next, right, 7, 7), Err(12));
+            assert_eq!(take(&mut walk, own, |it| put(&mut it.cert, SIG, &[1; 64]), 7, 7), Err(12));
+            assert_eq!(take(&mut walk, own, |it| put(&mut it.outer, SIG, &[1; 64]), 7, 7), Err(13));
+            assert_eq!(
+                take(&mut walk, next, |it| put(&mut it.outer, NONC, &[1; 32]), 7, 7),
+                Err(9)
+            );
+            assert_eq!(take(&mut walk, next, right, 7, 13), Err(27));
+            assert_eq!(take(&mut walk, next, right, 7, 6), Err(26));
+            let stand = if step < 5 { Stand::GoesOn } else { Stand::Consistent };
+            assert_eq!(take(&mut walk, own, right, 7, 7), Ok(stand));
+        }
+        let nothing = Arrived { response: &[], sent: 7, received: 6, rand: [9; 32] };
+        assert_eq!(code(walk.take_signed(&ed25519, &nothing, &mut [])), 28);
     }
 
     #[test]

@@ -17,6 +17,8 @@ use Rattle.capi.proofs.walking.tb_walk_ask_fields.Kinds as tb-walk-ask-
 use Rattle.capi.proofs.walking.tb_walk_ask_fields.Reads as tb-walk-ask-fields-reads
 use Rattle.capi.proofs.walking.tb_walk_take_fields.Kinds as tb-walk-take-fields-kinds
 use Rattle.capi.proofs.walking.tb_walk_take_fields.Reads as tb-walk-take-fields-reads
+use Rattle.capi.proofs.walking.tb_walk_take_signed_fields.Kinds as tb-walk-take-signed-fields-kinds
+use Rattle.capi.proofs.walking.tb_walk_take_signed_fields.Reads as tb-walk-take-signed-fields-reads
 
 pub tb-walk-start-fields-once : Settles tb-walk-start-fields-kinds.ps tb-walk-start-fields-kinds.r
     tb-walk-start-fields-reads.Learnt
@@ -65,6 +67,22 @@ tb-walk-take-fields-once κs a x u y v p q =
                   (w .rand, (w .last, (tt, (tt, (tt, (tt, (tt, (tt, (tt, (pile, tt)))))))))),
                 ),
               ),
+            ),
+          ))
+          (same .1 .0) (same .1 .1),
+    )
+
+pub tb-walk-take-signed-fields-once : Settles tb-walk-take-signed-fields-kinds.ps tb-walk-take-signed-fields-kinds.r
+    tb-walk-take-signed-fields-reads.Learnt
+tb-walk-take-signed-fields-once κs a x u y v p q =
+    let same = took-same _ _ _ _ p q in (
+      same .0,
+      ap₂
+          (λ (w : Walk) (pile : List ℕ). (
+            tt,
+            (
+              tt,
+              (w .step, (w .nonce, (w .rand, (w .last, (tt, (tt, (tt, (tt, (tt, (pile, tt)))))))))),
             ),
           ))
           (same .1 .0) (same .1 .1),

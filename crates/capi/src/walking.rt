@@ -6,6 +6,7 @@ ghost use Rattle.laws.specs.Written.{written};
 ghost use Rattle.walk.specs.State.{requestNow};
 ghost use Rattle.walk.specs.Starting.{startedOf};
 ghost use Rattle.walk.specs.Asking.{askedOf};
+ghost use Rattle.hearing.specs.Heard.{ownHeard};
 ghost use Rattle.told.specs.Walking.{tbAsked};
 ghost use Rattle.capi.specs.Walking.{walkOf, heardOf, Took};
 use told::TbAsked;
@@ -123,6 +124,55 @@ pub extern "C" fn tb_walk_take_fields(
         rand: *next,
     };
     let m = walk::take(w, h, response, pile);
+    let v = m.walk;
+    *step = v.step as u64;
+    let n = v.nonce;
+    *nonce = n;
+    let r = v.rand;
+    *rand = r;
+    *last = v.last;
+    let s = m.said;
+    told::took_told(s)
+}
+
+// Takes a response with no answers lent: its signatures are verified under the key of the server that was asked.
+#[no_mangle]
+pub extern "C" fn tb_walk_take_signed_fields(
+    keys: &[u8; 256],
+    count: u64,
+    step: &mut u64,
+    nonce: &mut [u8; 32],
+    rand: &mut [u8; 32],
+    last: &mut u64,
+    most: u64,
+    sent: u64,
+    received: u64,
+    next: &[u8; 32],
+    response: &[u8],
+    pile: &mut [u8],
+) -> TbTook
+    ensures { λ r. ⌜ Took
+        (walkOf (now (keys .entry)) count (now (step .entry)) (now (nonce .entry)) (now (rand .entry))
+        (now (last .entry)) most)
+        (ownHeard
+        (walkOf (now (keys .entry)) count (now (step .entry)) (now (nonce .entry)) (now (rand .entry))
+        (now (last .entry)) most)
+        sent received (now (next .entry)) (now (response .entry)))
+        (now (response .entry)) (now (pile .entry)) r
+        (walkOf (now (keys .entry)) count (now (step .exit)) (now (nonce .exit)) (now (rand .exit)) (now (last .exit))
+        most)
+        (now (pile .exit)) ⌝ }
+{
+    let w = Walk {
+        keys: *keys,
+        count: count as usize,
+        step: *step as usize,
+        nonce: *nonce,
+        rand: *rand,
+        last: *last,
+        most: most,
+    };
+    let m = hearing::take_signed(w, sent, received, *next, response, pile);
     let v = m.walk;
     *step = v.step as u64;
     let n = v.nonce;

@@ -32,7 +32,7 @@ pub record Until (x y z : Refusal) : Type 0 where
   pub refused : (x .code ≡ 0 → ⊥) → y ≡ x
   pub passed : x .code ≡ 0 → y ≡ z
 
-until-more : (a b c : Refusal) (xs ys : List Refusal) {z : Refusal} → Until (first (b ∷ xs)) (first (c ∷ ys)) z
+pub until-more : (a b c : Refusal) (xs ys : List Refusal) {z : Refusal} → Until (first (b ∷ xs)) (first (c ∷ ys)) z
     → Until (first (a ∷ b ∷ xs)) (first (a ∷ c ∷ ys)) z
 unfolding firstOf
 until-more a b c xs ys {z} u = by (eqb (a .code) 0) refl
@@ -41,7 +41,7 @@ until-more a b c xs ys {z} u = by (eqb (a .code) 0) refl
     by true e = u
     by false e = record { refused = λ n. refl; passed = λ q. absurd (eqb-false (a .code) 0 e q) }
 
-until-last : {x y z : Refusal} → Until x y z → Until (first (x ∷ [])) (first (y ∷ [])) z
+pub until-last : {x y z : Refusal} → Until x y z → Until (first (x ∷ [])) (first (y ∷ [])) z
 unfolding firstOf
 until-last u = u
 

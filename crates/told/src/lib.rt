@@ -197,7 +197,8 @@ pub struct TbAsked {
     pub nonce: [u8; 32],
 }
 
-// What `tb_walk_take` answers: how the walk stands, and at its end the two records that contradict.
+// What `tb_walk_take` and `tb_walk_take_signed` answer: how the walk stands, and at its end the two records that
+// contradict.
 #[repr(C)]
 pub struct TbTook {
     pub code: u32,

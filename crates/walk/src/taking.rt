@@ -48,7 +48,7 @@ pub fn take(w: Walk, h: Heard, response: &[u8], pile: &mut [u8]) -> Moved
 }
 
 // The refusal of a response that is taken with a pile of room bytes.
-fn take_code(w: Walk, h: Heard, response: &[u8], room: usize) -> Refusal
+pub fn take_code(w: Walk, h: Heard, response: &[u8], room: usize) -> Refusal
     ensures { λ r. ⌜ r ≡ takeCode w h (now (response .entry)) room ⌝ }
 {
     if over(w) {

@@ -293,7 +293,7 @@ pub struct tb_asked {
     pub nonce: [u8; 32],
 }
 
-/// What [`tb_walk_take_fields`] answers.
+/// What [`tb_walk_take_fields`] and [`tb_walk_take_signed_fields`] answer.
 #[repr(C)]
 #[derive(Clone, Copy, Debug, PartialEq, Eq)]
 pub struct tb_took {
@@ -656,6 +656,24 @@ extern "C" {
         most: u64,
         delegation: u32,
         signature: u32,
+        sent: u64,
+        received: u64,
+        next: &[u8; 32],
+        response: *const u8,
+        response_len: usize,
+        pile: *mut u8,
+        pile_len: usize,
+    ) -> tb_took;
+    /// The same with no answers lent: the signatures are verified under the key of the server that
+    /// is asked.
+    pub fn tb_walk_take_signed_fields(
+        keys: &[u8; 256],
+        count: u64,
+        step: &mut u64,
+        nonce: &mut [u8; 32],
+        rand: &mut [u8; 32],
+        last: &mut u64,
+        most: u64,
         sent: u64,
         received: u64,
         next: &[u8; 32],

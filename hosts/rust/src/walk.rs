@@ -1,6 +1,6 @@
 //! The measuring walk: servers that are asked in turn, and then again in the same order.
 
-use crate::raw::{self, tb_walk};
+use crate::raw::{self, tb_took, tb_walk};
 use crate::{Hash, PacketRefusal, Pair, Refusal, RECORD_LENGTH, REQUEST_LENGTH};
 
 /// The fewest servers of a walk.
@@ -20,11 +20,10 @@ pub struct Asked {
     pub request: [u8; REQUEST_LENGTH],
 }
 
-/// What a host has of a response beside its packet.
+/// What a host that verifies signatures itself has of a response beside its packet.
 #[derive(Clone, Copy, Debug, PartialEq, Eq)]
 pub struct Heard {
-    /// Whether the delegation's signature verifies, as [`SignedParts`](crate::SignedParts) says;
-    /// [`answers`](crate::answers) has this and the next, with the key of the server that is asked.
+    /// Whether the delegation's signature verifies, as [`SignedParts`](crate::SignedParts) says.
     pub delegation: bool,
     /// Whether the response's signature does.
     pub signature: bool,
@@ -56,30 +55,26 @@ pub enum Outcome {
 /// once more in the same order. It holds the state between packets and the pile of the records.
 ///
 /// ```
-/// use trawlbeacon::{Heard, Outcome, Walk};
-/// # use trawlbeacon::{leaf, write_cert, write_response, Reply};
+/// use trawlbeacon::{Outcome, Walk};
+/// # use independent::{ed25519::Ed25519, making::Link, signing::Keys};
 /// # fn random() -> [u8; 32] { [7; 32] }
 /// # fn now() -> u64 { 100 }
-/// # fn exchange(_server: usize, request: &[u8]) -> Vec<u8> {
-/// #     let (mut cert, mut out, root, signature) = ([0; 152], [0; 416], leaf(request), &[8; 64]);
-/// #     write_cert(&[5; 32], 0, 2000, &[6; 64], &mut cert).unwrap();
-/// #     let (midp, radi, path) = (1000, 3, &[]);
-/// #     let (indx, root, cert) = (0, &root, &cert);
-/// #     let reply = Reply { request, indx, root, path, midp, radi, cert, signature };
-/// #     write_response(&reply, &mut out).unwrap();
-/// #     out.to_vec()
-/// # }
-/// # fn verify(_key: &[u8; 32], _response: &[u8]) -> (bool, bool) { (true, true) }
+/// # let ed25519 = Ed25519::new();
+/// # let servers = [1, 2, 3].map(|seed| Keys::new(&ed25519, [seed; 32], [9 + seed; 32]));
+/// # let keys: Vec<[u8; 32]> = servers.iter().map(|server| server.long_term.public).collect();
+/// # let exchange = |asked: &trawlbeacon::Asked| {
+/// #     let link = Link { nonce: Some(asked.nonce), ..Link::new(0, 1000, 3) };
+/// #     let mut pieces = link.response(&asked.request, &[]);
+/// #     servers[asked.server].sign(&ed25519, &mut pieces);
+/// #     pieces.packet()
+/// # };
 ///
-/// let keys = [[1; 32], [2; 32], [3; 32]];
 /// let mut walk = Walk::start(&keys, &random(), 5)?;
 /// let mut outcome = Outcome::GoesOn;
 /// while outcome == Outcome::GoesOn {
 ///     let asked = walk.ask()?;
-///     let (sent, response, received) = (now(), exchange(asked.server, &asked.request), now());
-///     let (delegation, signature) = verify(&keys[asked.server], &response);
-///     let heard = Heard { delegation, signature, sent, received, rand: random() };
-///     outcome = walk.take(&response, &heard)?;
+///     let (sent, response, received) = (now(), exchange(&asked), now());
+///     outcome = walk.take_signed(&response, sent, received, &random())?;
 /// }
 /// assert_eq!(outcome, Outcome::Consistent);
 /// # assert_eq!(walk.pile().len(), 6 * trawlbeacon::RECORD_LENGTH);
@@ -199,16 +194,43 @@ impl Walk {
                 self.buffer.len(),
             )
         };
-        PacketRefusal::check(took.code, took.at)?;
-        // A pair is of two records of the pile, so that nothing is lost.
-        Ok(match took.outcome {
-            0 => Outcome::GoesOn,
-            1 => Outcome::Consistent,
-            2 => Outcome::Malfeasance(Pair {
-                first: took.first as usize,
-                second: took.second as usize,
-            }),
-            _ => Outcome::PileAltered,
+        outcome(took)
+    }
+
+    /// The same with no answers: the response's two signatures are verified under the key of the
+    /// server that is asked, as [`answers`](crate::answers) does. `sent` and `received` are when, in
+    /// seconds by the host's own clock, the request was sent and the response received, and `rand`
+    /// is 32 random bytes for the next request.
+    ///
+    /// # Errors
+    ///
+    /// As [`take`](Walk::take), where nothing is verified if another code than 12 and 13 refuses.
+    pub fn take_signed(
+        &mut self,
+        response: &[u8],
+        sent: u64,
+        received: u64,
+        rand: &[u8; 32],
+    ) -> Result<Outcome, PacketRefusal> {
+        let state = &mut self.state;
+        // SAFETY: see raw.
+        outcome(unsafe {
+            raw::tb_walk_take_signed_fields(
+                &state.keys,
+                state.count,
+                &mut state.step,
+                &mut state.nonce,
+                &mut state.rand,
+                &mut state.last,
+                state.most,
+                sent,
+                received,
+                rand,
+                response.as_ptr(),
+                response.len(),
+                self.buffer.as_mut_ptr(),
+                self.buffer.len(),
+            )
         })
     }
 
@@ -226,4 +248,18 @@ impl Walk {
     pub fn state(&self) -> tb_walk {
         self.state
     }
+}
+
+/// What a call of a taker answered.
+fn outcome(took: tb_took) -> Result<Outcome, PacketRefusal> {
+    PacketRefusal::check(took.code, took.at)?;
+    // A pair is of two records of the pile, so that nothing is lost.
+    Ok(match took.outcome {
+        0 => Outcome::GoesOn,
+        1 => Outcome::Consistent,
+        2 => {
+            Outcome::Malfeasance(Pair { first: took.first as usize, second: took.second as usize })
+        }
+        _ => Outcome::PileAltered,
+    })
 }

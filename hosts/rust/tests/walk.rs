@@ -14,7 +14,7 @@ use std::collections::BTreeMap;
 use support::guarded::Guarded;
 use support::packets::number;
 use support::tally::Tally;
-use support::walks::{self, Reply, Story, Window, FAULTS, NO_WALK};
+use support::walks::{self, Between, Reply, Story, Window, FAULTS, NO_WALK};
 use support::Xorshift;
 use trawlbeacon::raw::{tb_took, tb_walk};
 use trawlbeacon::{Outcome, Pair, Walk};
@@ -407,70 +407,6 @@ fn both_sides_walk_alike() {
     assert!(seen.borders.values().all(|met| *met >= 1_000), "a limit was met too seldom");
 }
 
-/// A number at which something ends, or any.
-fn edge(random: &mut Xorshift, edges: &[u64]) -> u64 {
-    let any = number(random);
-    if random.once_in(4) {
-        any
-    } else {
-        random.pick(edges)
-    }
-}
-
-/// A state that no start led to: one in three of them could have come from one.
-fn made_up(random: &mut Xorshift) -> tb_walk {
-    let mut state = walks::unstarted(random);
-    let large = [0, 1, 2, 9, 10, 1 << 32, (1 << 32) + 3, (1 << 63) + 4, u64::MAX];
-    state.count = if random.once_in(5) { edge(random, &large) } else { 3 + random.below(6) as u64 };
-    let end = state.count.wrapping_mul(2);
-    let steps = [end, end.wrapping_add(1), end.wrapping_sub(1), u64::MAX, 1 << 63, 1 << 32];
-    let within = random.next() % end.max(1);
-    state.step = if random.once_in(4) { edge(random, &steps) } else { within };
-    if random.once_in(3) {
-        state.step = end.wrapping_sub(1);
-    }
-    state.last = edge(random, &[0, 1, 100, u64::MAX - 1, u64::MAX]);
-    state.most = edge(random, &[0, 1, 5, u64::MAX - 1, u64::MAX]);
-    if random.once_in(4) {
-        // One key twice, which no start lets pass.
-        state.keys.copy_within(0..32, 32);
-    }
-    state
-}
-
-/// A buffer for the pile of a state: of any bytes, or full of records that are valid and linked, as
-/// far as they are not written over.
-fn any_pile(random: &mut Xorshift, state: &tb_walk, chain: &[u8]) -> Vec<u8> {
-    let whole = 2 * state.count.min(9) as usize * RECORD;
-    let any = random.below(whole + 1);
-    let more = whole + random.below(100);
-    let length = random.pick(&[whole, whole, whole, more, whole.saturating_sub(1), any, 0]);
-    if random.once_in(2) {
-        return random.bytes(length);
-    }
-    let mut pile = chain.to_vec();
-    pile.resize(length, 0xee);
-    pile
-}
-
-/// The bytes of a state with others around it, which no call may touch.
-#[repr(C)]
-struct Between {
-    before: [u8; 64],
-    state: tb_walk,
-    after: [u8; 64],
-}
-
-impl Between {
-    fn new(state: tb_walk) -> Self {
-        Between { before: [0xc5; 64], state, after: [0xc5; 64] }
-    }
-
-    fn untouched(&self) -> bool {
-        [self.before, self.after] == [[0xc5; 64]; 2]
-    }
-}
-
 /// What the made-up states are given, in memory that ends at a page nobody may touch.
 struct Fences {
     response: Guarded,
@@ -517,8 +453,8 @@ fn made_up_call(random: &mut Xorshift, fences: &mut Fences, chain: &[u8], tally:
     let (state, pile) = if random.once_in(6) {
         before_the_last(random, chain)
     } else {
-        let state = made_up(random);
-        (state, any_pile(random, &state, chain))
+        let state = walks::made_up(random);
+        (state, walks::any_pile(random, &state, chain))
     };
     let mut theirs = walks::read_back(&state);
     let mut between = Between::new(state);
@@ -534,9 +470,10 @@ fn made_up_call(random: &mut Xorshift, fences: &mut Fences, chain: &[u8], tally:
     }
 
     let Reply { packet, delegation, signature, .. } = any_response(random, &state);
-    let sent = edge(random, &[state.last, state.last, state.last.saturating_sub(1), u64::MAX]);
+    let sent =
+        walks::edge(random, &[state.last, state.last, state.last.saturating_sub(1), u64::MAX]);
     let latest = sent.saturating_add(state.most);
-    let received = edge(random, &[sent, sent, latest, latest.saturating_add(1), 0]);
+    let received = walks::edge(random, &[sent, sent, latest, latest.saturating_add(1), 0]);
     let rand = random.array();
     let heard = Heard { response: &packet, delegation, signature, sent, received, rand };
     let (took, after) = fences.pile.lend(&pile, |lent| {

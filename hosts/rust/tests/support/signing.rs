@@ -5,7 +5,7 @@
 //! broken or mended: what was signed, who signed it and what became of the signature are other than
 //! they should be, or the key is.
 
-use super::packets::Level;
+use super::packets::{Level, ResponseFields};
 use super::pairs::Pair;
 use super::Xorshift;
 use independent::ed25519::{Ed25519, Secret};
@@ -133,6 +133,11 @@ impl Servers {
         Servers { ed25519, servers }
     }
 
+    /// The long-term key of the server at a place.
+    pub fn key(&self, place: usize) -> [u8; 32] {
+        self.servers[place].long_term.public
+    }
+
     /// Signs the response of a pair, by any server. Where one of the answers about it is to be a
     /// no, that signature is forged, in any way.
     pub fn sign(&self, random: &mut Xorshift, pair: &mut Pair) -> Signed {
@@ -149,9 +154,20 @@ impl Servers {
         forged: [Option<Forgery>; 2],
     ) -> Signed {
         let place = random.below(self.servers.len());
+        self.sign_by(random, place, &mut pair.response, forged)
+    }
+
+    /// The same of a response, by the server at a place.
+    pub fn sign_by(
+        &self,
+        random: &mut Xorshift,
+        place: usize,
+        fields: &mut ResponseFields,
+        forged: [Option<Forgery>; 2],
+    ) -> Signed {
         let [own, other] = [0, 1].map(|step| &self.servers[(place + step) % self.servers.len()]);
-        pair.response.pubk = key_of(random, forged[1], &own.delegated, &other.delegated);
-        let plan = pair.response.plan();
+        fields.pubk = key_of(random, forged[1], &own.delegated, &other.delegated);
+        let plan = fields.plan();
         let value = |level: Level| message::encode(&plan.messages[level as usize]);
         let (dele, srep) = (value(Level::Dele), value(Level::Srep));
         let delegation = Part { secret: &own.long_term, context: text::DELEGATION, value: &dele };
@@ -160,8 +176,8 @@ impl Servers {
         let sign = |random: &mut Xorshift, how, part, beside, another| {
             self.signature(random, how, part, beside, another).to_vec()
         };
-        pair.response.cert_sig = sign(random, forged[0], delegation, response, others[0]);
-        pair.response.sig = sign(random, forged[1], response, delegation, others[1]);
+        fields.cert_sig = sign(random, forged[0], delegation, response, others[0]);
+        fields.sig = sign(random, forged[1], response, delegation, others[1]);
         let key = key_of(random, forged[0], &own.long_term, others[0]);
         Signed { key, forged }
     }

@@ -5,10 +5,11 @@ use super::packets::{number, ResponseFields};
 use super::pairs::NOES;
 use super::Xorshift;
 use independent::hash::{self, Hash};
+use independent::pile::RECORD;
 use independent::place;
 use independent::refusal::Refusal;
 use independent::tree;
-use independent::walk::{Asked, Heard, Stand, Walk};
+use independent::walk::{Arrived, Asked, Heard, Stand, Walk};
 use trawlbeacon::raw::{self, tb_asked, tb_took, tb_walk};
 
 /// A window, by its MIDP and RADI.
@@ -93,6 +94,28 @@ pub fn take(state: &mut tb_walk, heard: &Heard, pile: &mut [u8]) -> tb_took {
             &heard.rand,
             heard.response.as_ptr(),
             heard.response.len(),
+            pile.as_mut_ptr(),
+            pile.len(),
+        )
+    }
+}
+
+pub fn take_signed(state: &mut tb_walk, arrived: &Arrived, pile: &mut [u8]) -> tb_took {
+    // SAFETY: the library only reads the response and the rand, and only writes state and pile.
+    unsafe {
+        raw::tb_walk_take_signed_fields(
+            &state.keys,
+            state.count,
+            &mut state.step,
+            &mut state.nonce,
+            &mut state.rand,
+            &mut state.last,
+            state.most,
+            arrived.sent,
+            arrived.received,
+            &arrived.rand,
+            arrived.response.as_ptr(),
+            arrived.response.len(),
             pile.as_mut_ptr(),
             pile.len(),
         )
@@ -201,28 +224,39 @@ pub struct Reply {
 pub const SHAPE: u32 = 8;
 pub const FAULTS: [u32; 6] = [SHAPE, 9, 10, 11, 12, 13];
 
-/// A valid response, spoilt by these faults, of which the first counts.
-pub fn spoilt(random: &mut Xorshift, mut right: ResponseFields, faults: &[u32]) -> Reply {
+/// Puts the faults of 9, 10 and 11 among these into what a response says.
+pub fn wrong(random: &mut Xorshift, response: &mut ResponseFields, faults: &[u32]) {
     for fault in faults {
         match fault {
-            9 => right.nonc = another(random, right.nonc),
-            10 => wrong_path(random, &mut right),
-            11 => wrong_time(random, &mut right),
+            9 => response.nonc = another(random, response.nonc),
+            10 => wrong_path(random, response),
+            11 => wrong_time(random, response),
             _ => (),
         }
     }
-    let [delegation, signature] = [!faults.contains(&12), !faults.contains(&13)];
+}
+
+/// The packet of a response with these faults, of which the first counts, and the code that is due.
+pub fn packed(random: &mut Xorshift, response: &ResponseFields, faults: &[u32]) -> (Vec<u8>, u32) {
     let first = faults.first().copied().unwrap_or(0);
     if first != SHAPE {
-        return Reply { packet: right.packet(), delegation, signature, code: first };
+        return (response.packet(), first);
     }
     loop {
-        let damaged = damage::bad_response(random, &right);
+        let damaged = damage::bad_response(random, response);
         let code = damage::first_code(&damaged.done);
         if code != 0 {
-            return Reply { packet: damaged.packet, delegation, signature, code };
+            return (damaged.packet, code);
         }
     }
+}
+
+/// A valid response, spoilt by these faults, of which the first counts.
+pub fn spoilt(random: &mut Xorshift, mut right: ResponseFields, faults: &[u32]) -> Reply {
+    wrong(random, &mut right, faults);
+    let [delegation, signature] = [!faults.contains(&12), !faults.contains(&13)];
+    let (packet, code) = packed(random, &right, faults);
+    Reply { packet, delegation, signature, code }
 }
 
 /// Another hash, by one bit or by all.
@@ -314,4 +348,68 @@ fn lie(random: &mut Xorshift, windows: &[Window], place: usize) -> Window {
     let count = 1 + random.below(50) as u64;
     let by = count * random.pick(&[1, 1, MINUTE, DAY, YEAR]);
     (if random.once_in(2) { midp.saturating_add(by) } else { midp.saturating_sub(by) }, radi)
+}
+
+/// A number at which something ends, or any.
+pub fn edge(random: &mut Xorshift, edges: &[u64]) -> u64 {
+    let any = number(random);
+    if random.once_in(4) {
+        any
+    } else {
+        random.pick(edges)
+    }
+}
+
+/// A state that no start led to: one in three of them could have come from one.
+pub fn made_up(random: &mut Xorshift) -> tb_walk {
+    let mut state = unstarted(random);
+    let large = [0, 1, 2, 9, 10, 1 << 32, (1 << 32) + 3, (1 << 63) + 4, u64::MAX];
+    state.count = if random.once_in(5) { edge(random, &large) } else { 3 + random.below(6) as u64 };
+    let end = state.count.wrapping_mul(2);
+    let steps = [end, end.wrapping_add(1), end.wrapping_sub(1), u64::MAX, 1 << 63, 1 << 32];
+    let within = random.next() % end.max(1);
+    state.step = if random.once_in(4) { edge(random, &steps) } else { within };
+    if random.once_in(3) {
+        state.step = end.wrapping_sub(1);
+    }
+    state.last = edge(random, &[0, 1, 100, u64::MAX - 1, u64::MAX]);
+    state.most = edge(random, &[0, 1, 5, u64::MAX - 1, u64::MAX]);
+    if random.once_in(4) {
+        // One key twice, which no start lets pass.
+        state.keys.copy_within(0..32, 32);
+    }
+    state
+}
+
+/// A buffer for the pile of a state: of any bytes, or full of records that are valid and linked, as
+/// far as they are not written over.
+pub fn any_pile(random: &mut Xorshift, state: &tb_walk, chain: &[u8]) -> Vec<u8> {
+    let whole = 2 * state.count.min(9) as usize * RECORD;
+    let any = random.below(whole + 1);
+    let more = whole + random.below(100);
+    let length = random.pick(&[whole, whole, whole, more, whole.saturating_sub(1), any, 0]);
+    if random.once_in(2) {
+        return random.bytes(length);
+    }
+    let mut pile = chain.to_vec();
+    pile.resize(length, 0xee);
+    pile
+}
+
+/// The bytes of a state with others around it, which no call may touch.
+#[repr(C)]
+pub struct Between {
+    before: [u8; 64],
+    pub state: tb_walk,
+    after: [u8; 64],
+}
+
+impl Between {
+    pub fn new(state: tb_walk) -> Self {
+        Between { before: [0xc5; 64], state, after: [0xc5; 64] }
+    }
+
+    pub fn untouched(&self) -> bool {
+        [self.before, self.after] == [[0xc5; 64]; 2]
+    }
 }
