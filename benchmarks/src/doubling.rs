@@ -129,12 +129,11 @@ fn tell(run: &mut Run, table: &Table) {
     let last = |row: &Vec<String>| row[row.len() - 1].parse::<f64>().unwrap_or(0.0);
     let most = table.rows.iter().max_by(|a, b| last(a).total_cmp(&last(b)));
     if let Some(row) = most {
+        let (most, [name, of]) = (last(row), [&row[0], &row[1]]);
         let text = format!(
-            "Nothing grows faster than its bytes: twice as many of them took {:.2} times as long at \
-             the most ({}, {}).",
-            last(row),
-            row[0],
-            row[1]
+            "Twice the bytes took {most:.2} times as long at the most ({name}, {of}); above {} the \
+             run fails, so that nothing grows faster than what it is given.",
+            limits::highest("doubled")
         );
         run.say("grown", &text);
     }

@@ -49,7 +49,7 @@ pub fn part(run: &mut Run) {
     let rustc = rustc.split_whitespace().take(2).collect::<Vec<_>>().join(" ");
     let (system, kind) = (env::consts::OS, env::consts::ARCH);
     let text = format!(
-        "One run of `./bench --write` on {date}: {processor}, {cores} cores, {kind}, {system}, \
+        "A run of `./bench` on {date}: {processor}, {cores} cores, {kind}, {system}, \
          {rustc}, {}. The load of the minute before it was {}.",
         peers(),
         load()
