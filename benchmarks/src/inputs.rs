@@ -87,10 +87,10 @@ pub fn exchanges() -> Vec<Input> {
     let of = |name: &str, link: Link, crowd| Input::new(name, exchange(&link, crowd));
     vec![
         of("32 siblings", link(0, 32), Crowd::None),
-        of("32 tags a message, needed ones last", link(0, 0), Crowd::Four(FIRST)),
-        of("32 tags a message, needed ones first", link(0, 0), Crowd::Four(LAST)),
-        of("32 siblings, 70 more tags, needed ones last", link(0, 32), Crowd::Beside(FIRST)),
-        of("32 siblings, 70 more tags, needed ones first", link(0, 32), Crowd::Beside(LAST)),
+        of("32 tags a message, needed last", link(0, 0), Crowd::Four(FIRST)),
+        of("32 tags a message, needed first", link(0, 0), Crowd::Four(LAST)),
+        of("32 siblings, many tags, needed last", link(0, 32), Crowd::Beside(FIRST)),
+        of("32 siblings, many tags, needed first", link(0, 32), Crowd::Beside(LAST)),
         of("32 siblings, 32 versions twice", versed(), Crowd::None),
     ]
 }
@@ -108,8 +108,8 @@ pub fn requests() -> Vec<Input> {
         Input::new(name, vec![packet::encode(&independent::message::encode(&pairs))])
     };
     vec![
-        crowded("32 tags, needed ones last", FIRST),
-        crowded("32 tags, needed ones first", LAST),
+        crowded("32 tags, needed last", FIRST),
+        crowded("32 tags, needed first", LAST),
         Input::new("32 versions", vec![versed().request(&[])]),
     ]
 }
@@ -154,8 +154,8 @@ pub fn piles() -> Vec<Input> {
     vec![
         of_made("32 siblings, the ends contradict", last_two),
         of_made("32 siblings, all contradict nearly", making::chain(&padded)),
-        of_made("nearly, 70 more tags, needed ones last", crowded(&nearly(), Crowd::Beside(FIRST))),
-        of_made("nearly, 70 more tags, needed ones first", crowded(&nearly(), Crowd::Beside(LAST))),
+        of_made("nearly, many tags, needed last", crowded(&nearly(), Crowd::Beside(FIRST))),
+        of_made("nearly, many tags, needed first", crowded(&nearly(), Crowd::Beside(LAST))),
     ]
 }
 

@@ -3,12 +3,13 @@
 //! Ed25519.
 //!
 //! All sides run in this one process, on the same bytes, in turns, and the best of many turns
-//! counts: whatever else the machine does then hits all of them alike, and the best turn is the one
-//! that it hit least.
+//! counts, by the processor's time that it took: whatever else the machine does then hits all of
+//! them alike, and the best turn is the one that it hit least.
 //!
 //! A ratio is our time by the other's: below 1 ours is the faster. The program fails where a ratio
 //! is above its limit.
 
+mod clock;
 mod counted;
 mod doubling;
 mod hashes;

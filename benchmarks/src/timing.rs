@@ -1,7 +1,8 @@
 //! The best time of each side, taken in turns.
 
+use crate::clock;
 use crate::sides::{Side, Work};
-use std::time::{Duration, Instant};
+use std::time::Duration;
 
 /// How long and how often is timed.
 #[derive(Clone, Copy)]
@@ -69,9 +70,9 @@ impl Pace {
 }
 
 fn time(work: &mut Work, calls: u32) -> Duration {
-    let start = Instant::now();
+    let start = clock::now();
     for _ in 0..calls {
         work();
     }
-    start.elapsed()
+    clock::now().saturating_sub(start)
 }
