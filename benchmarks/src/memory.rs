@@ -1,10 +1,10 @@
 //! Memory: the stack that each operation takes, as hosts/c/stack.c measures it; that none is taken
 //! from the heap, by what the archive leaves undefined; and the archive's size by crate.
 
+use crate::programs::printed;
 use crate::run::Run;
 use crate::table::{count, Table};
 use std::collections::BTreeMap;
-use std::process::Command;
 
 /// The program that ./bench builds of hosts/c/stack.c.
 const STACK: &str = "build/c/stack";
@@ -14,12 +14,6 @@ const ARCHIVE: &str = "build/native/libcapi.a";
 
 /// How many operations stand in a line.
 const COLUMNS: usize = 3;
-
-/// What a program prints, where it is there and ends well.
-fn printed(program: &str, arguments: &[&str]) -> Option<String> {
-    let output = Command::new(program).args(arguments).output().ok()?;
-    output.status.success().then(|| String::from_utf8_lossy(&output.stdout).into_owned())
-}
 
 /// The operations with the most bytes of stack that each was seen to take: a line of the program
 /// has a name, which starts with tb_, and one number or more behind it.

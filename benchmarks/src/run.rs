@@ -2,59 +2,13 @@
 //! are made of.
 
 use crate::limits::{self, Limit, LIMITS};
-use crate::sides::{Bound, Side, Subject, Work};
-use crate::table::{or_none, Columns, Table};
+use crate::measured::Measured;
+use crate::sides::{Side, Subject, Work};
+use crate::table::{or_none, wrapped, Columns, Table};
 use crate::timing::Pace;
 
 /// How often a subject is timed again that is above a limit. The best of all its turns counts.
 const AGAIN: usize = 2;
-
-/// The times of a subject.
-pub struct Measured {
-    pub name: String,
-    pub length: usize,
-    times: Vec<(Side, f64)>,
-}
-
-impl Measured {
-    /// The seconds of one call.
-    pub fn time(&self, side: Side) -> Option<f64> {
-        self.times.iter().find(|(timed, _)| *timed == side).map(|(_, time)| *time)
-    }
-
-    pub fn ours(&self) -> f64 {
-        self.time(Side::Ours).expect("every subject has our side")
-    }
-
-    /// Our time by another side's.
-    pub fn ratio(&self, side: Side) -> Option<f64> {
-        self.time(side).map(|time| self.ours() / time)
-    }
-
-    /// The same as it is shown: with three digits that mean something.
-    pub fn ratio_text(&self, side: Side) -> String {
-        or_none(self.ratio(side).map(|ratio| match ratio {
-            _ if ratio < 10.0 => format!("{ratio:.3}"),
-            _ => format!("{ratio:.1}"),
-        }))
-    }
-
-    /// The ratio that a bound is about.
-    fn bounded(&self, bound: &Bound) -> Option<f64> {
-        self.time(bound.side).map(|time| (self.ours() - bound.free).max(0.0) / time)
-    }
-
-    fn is_above(&self, bound: &Bound) -> bool {
-        self.bounded(bound).map_or(false, |ratio| ratio > bound.highest)
-    }
-
-    /// Takes over what is better in another measurement of the same sides.
-    fn better(&mut self, times: Vec<(Side, f64)>) {
-        for ((_, time), (_, other)) in self.times.iter_mut().zip(times) {
-            *time = time.min(other);
-        }
-    }
-}
 
 /// A ratio that was held to a limit.
 struct Held {
@@ -100,7 +54,7 @@ impl Run {
     /// Times a subject, and once more where it is above a limit.
     pub fn time(&mut self, mut subject: Subject) -> Measured {
         let times = self.pace.best_times(&mut subject.works);
-        let mut measured = Measured { name: subject.name, length: subject.length, times };
+        let mut measured = Measured::new(subject.name, subject.length, times);
         for _ in 0..AGAIN {
             if subject.bounds.iter().any(|bound| measured.is_above(bound)) {
                 measured.better(self.pace.best_times(&mut subject.works));
@@ -184,19 +138,4 @@ impl Run {
             self.say("nearest", &text);
         }
     }
-}
-
-/// A paragraph in lines of at most 100 characters.
-fn wrapped(text: &str) -> String {
-    let mut lines = vec![String::new()];
-    for word in text.split_whitespace() {
-        let last = lines.last_mut().expect("there is one");
-        if !last.is_empty() && last.chars().count() + 1 + word.chars().count() > 100 {
-            lines.push(word.to_string());
-        } else {
-            let space = if last.is_empty() { "" } else { " " };
-            *last += &format!("{space}{word}");
-        }
-    }
-    lines.join("\n") + "\n"
 }

@@ -1,6 +1,6 @@
 //! Tables of what was measured: as they are printed, and as they stand on the page.
 
-use crate::run::Measured;
+use crate::measured::Measured;
 use crate::sides::Side;
 
 /// A table, with the name that its place on the page has.
@@ -110,4 +110,19 @@ fn grouped(digits: &str) -> String {
     let comma = |at: usize| at > 0 && (length - at) % 3 == 0;
     let put = |(at, digit)| if comma(at) { format!(",{digit}") } else { format!("{digit}") };
     digits.chars().enumerate().map(put).collect()
+}
+
+/// A paragraph in lines of at most 100 characters.
+pub fn wrapped(text: &str) -> String {
+    let mut lines = vec![String::new()];
+    for word in text.split_whitespace() {
+        let last = lines.last_mut().expect("there is one");
+        if !last.is_empty() && last.chars().count() + 1 + word.chars().count() > 100 {
+            lines.push(word.to_string());
+        } else {
+            let space = if last.is_empty() { "" } else { " " };
+            *last += &format!("{space}{word}");
+        }
+    }
+    lines.join("\n") + "\n"
 }
