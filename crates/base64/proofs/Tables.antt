@@ -1,16 +1,16 @@
 -- The alphabet as a list: its letters are what the rule says, each is read as its number, and none is a pad. One test
 -- that antt computes.
-use Prim.Native.Nat.{ℕ, _≤_, _<_}
+use Prim.Native.Nat.{ℕ, _+_, _*_, _%_, _≤_, _<_}
 use mathlib.Core.Path.{_≡_, refl, sym, _∙_, ap}
-use mathlib.Core.Bool.{Bool, true, false, not, _||_, true≢false}
+use mathlib.Core.Bool.{Bool, true, false, not, _||_, _&&_, true≢false}
 use mathlib.Core.List.{List, [], _∷_}
 use native.Mathlib.Omega.{arith}
-use borrow.Author.Tests.{ne-eqb, le-ltb, ltb-true, ltb-false}
-use lib.Dec.{T, T-not, eqb, leb, ltb, eqb→eq, leb→le, eqb-refl}
+use borrow.Author.Tests.{ne-eqb, le-ltb, ltb-true, ltb-false, eqb-false, not-true}
+use lib.Dec.{T, T-not, eqb, leb, ltb, eqb→eq, leb→le, ltb→lt, eqb-refl}
 use lib.ListN.{getD, replicate}
 use Rattle.laws.specs.Pick.{pick}
 use Rattle.digits.proofs.Table.{at, both, both-left, both-right}
-use Rattle.base64.specs.Alphabet.{letterOf, sextetOf, pad}
+use Rattle.base64.specs.Alphabet.{letterOf, sextetOf, isLetter, pad}
 
 abbrev pub letters : List ℕ
 letters =
@@ -88,3 +88,78 @@ by-size c false e f = absurd (f (sextet-over c (ltb-false c 256 e)))
 
 pub back-letter : (c : ℕ) → (sextetOf c ≡ 64 → ⊥) → (letterOf (sextetOf c) ≡ c) × (sextetOf c < 64)
 back-letter c f = by-size c (ltb c 256) refl f
+
+-- ---- letters with no branch: the tests of a letter by its range, and its number as a sum
+abbrev ranged : ℕ → Bool
+ranged b = (((eqb b 43 || eqb b 47) || (leb 48 b && ltb b 58)) || (leb 65 b && ltb b 91)) || (leb 97 b && ltb b 123)
+
+abbrev shifted : ℕ → ℕ → ℕ → ℕ → ℕ → ℕ
+shifted b low slash capital small = (b + 4 + 15 * low + 253 * slash + 187 * capital + 250 * small) % 256
+
+abbrev same : Bool → Bool → Bool
+same true b = b
+same false b = not b
+
+same-eq : (a b : Bool) → T (same a b) → a ≡ b
+same-eq true true t = refl
+same-eq true false t = absurd t
+same-eq false true t = absurd t
+same-eq false false t = refl
+
+quick-right : ℕ → ℕ → Bool
+quick-right b x =
+    both (same (ranged b) (isLetter b)) (eqb (sextetOf b) 64
+    || eqb
+    (shifted b (pick (ltb b 48) 1 0) (pick (eqb b 47) 1 0) (pick (leb 65 b) 1 0) (pick (leb 97 b) 1 0)) (sextetOf b))
+
+quick-row : (b : ℕ) → b < 256 → T (quick-right b (getD (replicate 256 0) b 0))
+unfolding quick-right isLetter sextetOf pick
+quick-row b h = at quick-right (replicate 256 0) tt b h
+
+pub ranged-letter : (b : ℕ) → b < 256 → ranged b ≡ isLetter b
+unfolding quick-right
+ranged-letter b h = same-eq _ _ (both-left (same (ranged b) (isLetter b)) _ (quick-row b h))
+
+-- a letter's number is no 64
+pub letter-number : (b : ℕ) → isLetter b ≡ true → eqb (sextetOf b) 64 ≡ false
+unfolding isLetter
+letter-number b e = not-true (eqb (sextetOf b) 64) e
+
+pub letter-small : (b : ℕ) → isLetter b ≡ true → sextetOf b < 64
+letter-small b e = back-letter b (eqb-false (sextetOf b) 64 (letter-number b e)) .1
+
+pub shifted-number : {low slash capital small : ℕ} (b : ℕ) → low ≡ pick (ltb b 48) 1 0 → slash ≡ pick (eqb b 47) 1 0
+    → capital ≡ pick (leb 65 b) 1 0 → small ≡ pick (leb 97 b) 1 0 → b < 256 → isLetter b ≡ true
+    → shifted b low slash capital small ≡ sextetOf b
+unfolding quick-right
+shifted-number b e f g i h l =
+    rw (e, f, g, i) (or-second (eqb (sextetOf b) 64) _ (sextetOf b) (letter-number b l)
+    (both-right (same (ranged b) (isLetter b)) _ (quick-row b h)))
+
+-- ---- a letter lies between `+` and `z`, and is no backslash
+range-right : ℕ → ℕ → Bool
+range-right k x = both (leb 43 (letterOf k)) (both (ltb (letterOf k) 123) (not (eqb (letterOf k) 92)))
+
+range-row : (n : ℕ) → n < 64 → T (range-right n (getD letters n 0))
+unfolding range-right letterOf pick
+range-row n h = at range-right letters tt n h
+
+pub record Ranged (b : ℕ) : Type 0 where
+  pub least : 43 ≤ b
+  pub most : b < 123
+  pub slash : b ≡ 92 → ⊥
+
+pub letter-range : (n : ℕ) → n < 64 → Ranged (letterOf n)
+unfolding range-right
+letter-range n h =
+    let r = range-row n h in
+    let q = both-right (leb 43 (letterOf n)) _ r in record {
+      least = leb→le _ _ (both-left (leb 43 (letterOf n)) _ r);
+      most = ltb→lt _ _ (both-left (ltb (letterOf n) 123) _ q);
+      slash = λ e. T-not (eqb (letterOf n) 92) (both-right (ltb (letterOf n) 123) _ q) (rw e (eqb-refl 92));
+    }
+
+pub letter-ranged : (b : ℕ) → isLetter b ≡ true → Ranged b
+letter-ranged b e =
+    let r = back-letter b (eqb-false (sextetOf b) 64 (letter-number b e)) in
+    rw (r .0) at (letter-range (sextetOf b) (r .1))

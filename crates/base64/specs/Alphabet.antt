@@ -1,5 +1,6 @@
 -- RFC 4648, table 1: 0 to 25 are A to Z, 26 to 51 a to z, 52 to 61 0 to 9, 62 is + and 63 is /.
 use Prim.Native.Nat.{ℕ, _+_, _-_}
+use mathlib.Core.Bool.{Bool, not}
 use lib.Dec.{eqb, ltb}
 use Rattle.laws.specs.Pick.{pick}
 
@@ -14,6 +15,10 @@ sextetOf c =
     (pick (ltb c 48) 64 (pick (ltb c 58) (c + 4)
     (pick (ltb c 65) 64 (pick (ltb c 91) (c - 65)
     (pick (ltb c 97) 64 (pick (ltb c 123) (c - 71) 64)))))))
+
+-- a letter of the alphabet
+unfoldable pub isLetter : ℕ → Bool
+isLetter c = not (eqb (sextetOf c) 64)
 
 -- the pad character
 abbrev pub pad : ℕ

@@ -2,9 +2,12 @@
 mod alphabet;
 mod decoding;
 mod encoding;
+mod letters;
 
 pub use decoding::group_of;
 pub use encoding::encode;
+pub use letters::is_letter;
+pub use letters::three_of;
 
 // What four characters stand for.
 pub enum Group {

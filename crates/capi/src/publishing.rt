@@ -3,7 +3,7 @@ ghost use mathlib.Core.Path.{_≡_};
 ghost use lib.ListN.{length};
 ghost use Rattle.laws.specs.Written.{written};
 ghost use Rattle.intake.specs.Entry.{entriesOf};
-ghost use Rattle.intake.specs.Read.{readOf, recordBytes};
+ghost use Rattle.intake.specs.Read.{readOf, pileBytes};
 ghost use Rattle.signed.specs.Answers.{ownAnswers};
 ghost use Rattle.told.specs.Publishing.{tbRecords};
 ghost use Rattle.forward.specs.Forwarded.{pileOf};
@@ -17,7 +17,7 @@ use told::TbRecords;
 pub extern "C" fn tb_read_report(text: &[u8], out: &mut [u8]) -> TbRecords
     ensures { λ r. ⌜ r ≡ tbRecords (readOf (entriesOf (now (text .entry))) (length (now (out .entry)))) ⌝ }
     ensures { λ r. ⌜ now (out .exit)
-        ≡ written (r .code) (recordBytes (entriesOf (now (text .entry)))) (now (out .entry)) ⌝ }
+        ≡ written (r .code) (pileBytes (entriesOf (now (text .entry)))) (now (out .entry)) ⌝ }
 {
     told::read_told(intake::read_report(text, out))
 }

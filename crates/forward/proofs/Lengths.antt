@@ -14,7 +14,7 @@ use Rattle.laws.specs.Written.{written}
 use Rattle.json.specs.declared.Skip.{Skip}
 use Rattle.json.specs.declared.Skip.the-variants as skip
 use Rattle.intake.specs.Entry.{Entry, these, unread, elementsOf, allOf, entriesAt, listPlace, entriesFrom, entriesOf}
-use Rattle.intake.specs.Read.{anyBig, readOf, readNumber, recordBytes}
+use Rattle.intake.specs.Read.{anyBig, readOf, readNumber, pileBytes}
 use Rattle.intake.specs.Record.{recordsOf}
 use Rattle.intake.specs.declared.Read.{Read}
 use Rattle.intake.specs.declared.Read.the-variants.{Records, Amount, NoReport, Short}
@@ -42,8 +42,8 @@ inverted false false false false m n e = (refl, (refl, cc))
 
 from-text : (s : List ℕ) (v : ℕ) (b : Bool) (room n : ℕ) → allOf s true (elementsOf s 14 v) ≡ b
     → readOf (pick b (these (entriesAt s true (elementsOf s 14 v))) unread) room ≡ Records n
-    → (n ≤ 16) × (length (recordBytes (pick b (these (entriesAt s true (elementsOf s 14 v))) unread)) ≡ n * 4096)
-unfolding pick readOf recordBytes
+    → (n ≤ 16) × (length (pileBytes (pick b (these (entriesAt s true (elementsOf s 14 v))) unread)) ≡ n * 4096)
+unfolding pick readOf pileBytes
 from-text s v true room n a e =
     let i = inverted (eqb (length (entriesAt s true (elementsOf s 14 v))) 0)
     (ltb 16 (length (entriesAt s true (elementsOf s 14 v)))) (anyBig (entriesAt s true (elementsOf s 14 v)))
@@ -57,13 +57,13 @@ from-text s v true room n a e =
 from-text s v false room n a e = let z : _≡_ {A = ℕ} 0 1 = cc in absurd (omega arith)
 
 from-place : (s : List ℕ) (p : Skip) (room n : ℕ) → readOf (entriesFrom s p) room ≡ Records n
-    → (n ≤ 16) × (length (recordBytes (entriesFrom s p)) ≡ n * 4096)
+    → (n ≤ 16) × (length (pileBytes (entriesFrom s p)) ≡ n * 4096)
 unfolding entriesFrom readOf
 from-place s (skip.Past v) room n e = from-text s v (allOf s true (elementsOf s 14 v)) room n refl e
 from-place s skip.Bad room n e = let z : _≡_ {A = ℕ} 0 1 = cc in absurd (omega arith)
 
 module _ {x : Read} {n : ℕ} (text : List ℕ) (e : x ≡ readOf (entriesOf text) 65536) (h : x ≡ Records n) where
-  long : (n ≤ 16) × (length (recordBytes (entriesOf text)) ≡ n * 4096)
+  long : (n ≤ 16) × (length (pileBytes (entriesOf text)) ≡ n * 4096)
   unfolding entriesOf
   long = from-place text (listPlace text) 65536 n (sym e ∙ h)
 
@@ -71,24 +71,24 @@ module _ {x : Read} {n : ℕ} (text : List ℕ) (e : x ≡ readOf (entriesOf tex
   few = long .0
 
   -- what stands at the front of the buffer is the pile
-  pub pile-front : {to : List ℕ} (was : List ℕ) → to ≡ written (readNumber x) (recordBytes (entriesOf text)) was
-      → take (n * 4096) to ≡ recordBytes (entriesOf text)
+  pub pile-front : {to : List ℕ} (was : List ℕ) → to ≡ written (readNumber x) (pileBytes (entriesOf text)) was
+      → take (n * 4096) to ≡ pileBytes (entriesOf text)
   pile-front {to} was w =
-      let k : to ≡ fronted (recordBytes (entriesOf text)) was = rw h at w in
-      ap (take (n * 4096)) k ∙ take-at (recordBytes (entriesOf text)) _ (n * 4096) (long .1)
+      let k : to ≡ fronted (pileBytes (entriesOf text)) was = rw h at w in
+      ap (take (n * 4096)) k ∙ take-at (pileBytes (entriesOf text)) _ (n * 4096) (long .1)
 
-  pub front-count : {to : List ℕ} (was : List ℕ) → to ≡ written (readNumber x) (recordBytes (entriesOf text)) was
+  pub front-count : {to : List ℕ} (was : List ℕ) → to ≡ written (readNumber x) (pileBytes (entriesOf text)) was
       → n * 4096 ≡ length (take (n * 4096) to)
   front-count was w = sym (ap length (pile-front was w) ∙ long .1)
 
   -- the answer on the pile is the answer on the text
-  pub text-cut : {r : Forwarded} {q o : List ℕ} (answers out : List ℕ) → q ≡ recordBytes (entriesOf text)
+  pub text-cut : {r : Forwarded} {q o : List ℕ} (answers out : List ℕ) → q ≡ pileBytes (entriesOf text)
       → CutsText q answers (length out) r × (o ≡ written (forwardedNumber r) (forwardedBytes r q) out)
       → Forwards text answers (length out) r × (o ≡ written (forwardedNumber r) (forwardedBytes r (pileOf text)) out)
   text-cut answers out k p = (rw (sym e ∙ h) (rw k at (p .0)), rw k at (p .1))
 
   -- the same where the answers are the pile's own
-  pub text-cut-own : {r : Forwarded} {q o : List ℕ} (out : List ℕ) → q ≡ recordBytes (entriesOf text)
+  pub text-cut-own : {r : Forwarded} {q o : List ℕ} (out : List ℕ) → q ≡ pileBytes (entriesOf text)
       → CutsText q (ownAnswers q) (length out) r × (o ≡ written (forwardedNumber r) (forwardedBytes r q) out)
       → Forwards text (ownAnswers (pileOf text)) (length out) r
       × (o ≡ written (forwardedNumber r) (forwardedBytes r (pileOf text)) out)

@@ -7,7 +7,7 @@ use mathlib.Core.Path.{_≡_}
 use lib.Dec.{ltb}
 use lib.ListN.{length}
 use Rattle.intake.specs.Entry.{entriesOf}
-use Rattle.intake.specs.Read.{readOf, recordBytes}
+use Rattle.intake.specs.Read.{readOf, pileBytes}
 use Rattle.intake.specs.declared.Read.{Read}
 use Rattle.intake.specs.declared.Read.the-variants as read
 use Rattle.publish.specs.Entries.{textOf}
@@ -38,7 +38,7 @@ pub record CutsText (pile answers : List ℕ) (room : ℕ) (r : Forwarded) : Typ
 
 -- the records of a text
 abbrev pub pileOf : List ℕ → List ℕ
-pileOf text = recordBytes (entriesOf text)
+pileOf text = pileBytes (entriesOf text)
 
 -- the answer, from what the reader says of the text where it has room for 16 records
 abbrev pub ForwardsBy : Read → List ℕ → List ℕ → ℕ → Forwarded → Type 0

@@ -17,13 +17,12 @@ use Rattle.json.specs.declared.Skip.the-variants.{Past, Bad}
 use Rattle.json.specs.Text.{contentAt}
 use Rattle.base64.specs.Decode.{Decoded, bytes, none, decodeOf}
 use Rattle.quoted.specs.Sized.{plain}
-use Rattle.intake.specs.Entry.{textPlace, memberOf, held, entryAt, randName, keyName, requestName, responseName}
-use Rattle.intake.specs.Record.{padded, recordOf}
+use Rattle.intake.specs.Entry.{Entry, textPlace, memberOf, held, entryAt, randName, keyName, requestName}
+use Rattle.intake.specs.Entry.{responseName}
+use Rattle.pile.specs.Recording.{padded, headBytes, recordBytes}
+use Rattle.pile.proofs.Recorded.{length-padded, length-record}
+use Rattle.intake.specs.Record.{recordOf}
 use Rattle.intake.specs.Ready.{Ready}
-
-pub padded-length : (n : ℕ) (x : List ℕ) → length x ≤ n → length (padded n x) ≡ n
-unfolding padded
-padded-length n x h = simp (length-append, length-replicate) (omega arith)
 
 pub part-length : (d : List ℕ) (at n : ℕ) → at + n ≤ length d → length (take (at + n - at) (drop at d)) ≡ n
 part-length d at n h = simp (length-take, length-drop) (omega arith)
@@ -55,9 +54,9 @@ pub two-padded : {m e : List ℕ} (d : List ℕ) (at n u : ℕ) (x y : List ℕ)
     → e ≡ pasted m (at + n) (padded u y) → length x ≤ n → length y ≤ u → at + (n + u) ≤ length d
     → e ≡ pasted d at (padded n x ++ padded u y)
 two-padded d at n u x y f g h i r =
-    pasted-two d (padded n x) (padded u y) at (at + n) f g (omega (arith, padded-length n x h)) (omega (
+    pasted-two d (padded n x) (padded u y) at (at + n) f g (omega (arith, length-padded n x h)) (omega (
       arith,
-      padded-length u y i,
+      length-padded u y i,
     ))
 
 pub two-lengths : {x y m e : List ℕ} (d : List ℕ) (at q a : ℕ) → x ≡ leBytes 4 q → y ≡ leBytes 4 a → m ≡ pasted d at x
@@ -69,11 +68,6 @@ two-lengths d at q a h i f g r =
 lengths-length : (q a : ℕ) → length (leBytes 4 q ++ leBytes 4 a) ≡ 8
 lengths-length q a =
     length-append (leBytes 4 q) (leBytes 4 a) ∙ omega (arith, length-leBytes 4 q, length-leBytes 4 a)
-
-four-length : (K N Z P : List ℕ) → length K ≡ 64 → length N ≡ 8 → length Z ≡ 24 → length P ≡ 4000
-    → length (K ++ N ++ Z ++ P) ≡ 4096
-four-length K N Z P hk hn hz hp =
-    omega (arith, length-append (K ++ N ++ Z) P, length-append (K ++ N) Z, length-append K N)
 
 pub four-pasted : {o₁ o₂ o₃ o₄ : List ℕ} (d K N Z P : List ℕ) (at : ℕ) → length K ≡ 64 → length N ≡ 8 → length Z ≡ 24
     → length P ≡ 4000
@@ -93,6 +87,15 @@ four-pasted {o₁} {o₂} {o₃} {o₄} d K N Z P at hk hn hz hp e₁ e₂ e₃ 
 
     three : o₃ ≡ pasted d at (K ++ N ++ Z)
     three = pasted-two d (K ++ N) Z at (at + 72) two e₃ (omega (arith, mid)) (omega arith)
+
+-- the record of an entry, by the parts that are written one after the other
+pub record-parts : (e : Entry) → recordOf e
+    ≡ (padded 32 (e .key) ++ padded 32 (e .rand))
+    ++ (leBytes 4 (length (e .request)) ++ leBytes 4 (length (e .response)))
+    ++ replicate 24 0
+    ++ (padded 2000 (e .request) ++ padded 2000 (e .response))
+unfolding recordOf recordBytes headBytes
+record-parts e = simp append-assoc
 
 -- ---- The first entry's rand.
 module _ {o : List ℕ} (d : List ℕ) (at : ℕ) (s : List ℕ) (first : Bool) (k : ℕ) where
@@ -143,28 +146,26 @@ module _ {s : List ℕ} {first : Bool} {k : ℕ} (r : Ready s first k) where
   names-length = length-append (padded 32 (entryAt s first k .key)) (padded 32 (entryAt s first k .rand))
       ∙ omega (
         arith,
-        padded-length 32 (entryAt s first k .key) (r .key),
-        padded-length 32 (entryAt s first k .rand) (r .rand),
+        length-padded 32 (entryAt s first k .key) (r .key),
+        length-padded 32 (entryAt s first k .rand) (r .rand),
       )
 
   packets-length : length (padded 2000 (entryAt s first k .request) ++ padded 2000 (entryAt s first k .response)) ≡ 4000
   packets-length = length-append (padded 2000 (entryAt s first k .request)) (padded 2000 (entryAt s first k .response))
       ∙ omega (
         arith,
-        padded-length 2000 (entryAt s first k .request) (r .request),
-        padded-length 2000 (entryAt s first k .response) (r .response),
+        length-padded 2000 (entryAt s first k .request) (r .request),
+        length-padded 2000 (entryAt s first k .response) (r .response),
       )
 
   -- the whole record
   pub record-length : length (recordOf (entryAt s first k)) ≡ 4096
   unfolding recordOf
   record-length =
-      four-length (padded 32 (entryAt s first k .key)
-      ++ padded 32 (entryAt s first k .rand)) (leBytes 4 (length (entryAt s first k .request))
-      ++ leBytes 4 (length (entryAt s first k .response))) (replicate 24 0) (padded 2000 (entryAt s first k .request)
-      ++ padded 2000 (entryAt s first k .response)) names-length
-      (lengths-length (length (entryAt s first k .request)) (length (entryAt s first k .response)))
-      (length-replicate {A = ℕ} 24 0) packets-length
+      length-record (padded 32 (entryAt s first k .key)) (padded 32 (entryAt s first k .rand))
+      (entryAt s first k .request) (entryAt s first k .response)
+      (length-padded 32 (entryAt s first k .key) (r .key)) (length-padded 32 (entryAt s first k .rand) (r .rand))
+      (r .request) (r .response)
 
   pub record-pasted : {o₁ o₂ o₃ o₄ : List ℕ} (q a : ℕ) (d : List ℕ) (at : ℕ)
       → o₁ ≡ pasted d at (padded 32 (entryAt s first k .key) ++ padded 32 (entryAt s first k .rand))
@@ -174,7 +175,8 @@ module _ {s : List ℕ} {first : Bool} {k : ℕ} (r : Ready s first k) where
       → q ≡ length (held (memberOf s k requestName)) → a ≡ length (held (memberOf s k responseName))
       → at + 4096 ≤ length d
       → o₄ ≡ pasted d at (recordOf (entryAt s first k))
-  unfolding recordOf entryAt
+  unfolding entryAt
   record-pasted q a d at e₁ e₂ e₃ e₄ hq ha h =
       four-pasted d _ _ _ _ at names-length (lengths-length _ _) (length-replicate {A = ℕ} 24 0) packets-length e₁
       (rw (hq, ha) at e₂) e₃ e₄ h
+      ∙ ap (pasted d at) (sym (record-parts (entryAt s first k)))

@@ -26,7 +26,7 @@ use Rattle.intake.specs.declared.Read.the-variants.{Records, NoReport, A
 use Rattle.intake.specs.Entry.{memberOf, held, is32, randGood, hasAll, entryAt, elementsOf, allOf, entriesAt}
 use Rattle.intake.specs.Entry.{listOf, listPlace, these, entriesFrom, entriesOf, randName}
 use Rattle.intake.specs.Record.{recordOf, recordsOf}
-use Rattle.intake.specs.Read.{isBig, anyBig, readOf, recordBytes}
+use Rattle.intake.specs.Read.{isBig, anyBig, readOf, pileBytes}
 use Rattle.intake.specs.Ready.{Ready}
 use Rattle.intake.proofs.Elements.{from, both-left, both-right, neither-left, neither-right, elements-none}
 use Rattle.intake.proofs.Elements.{elements-from, from-head, from-more, from-end, from-wrong, all-here}
@@ -155,14 +155,14 @@ entries-length s first (k ∷ ks) = ap suc (entries-length s false ks)
 
 module _ (s out : List ℕ) {x : Skip} (e : x ≡ listPlace s) where
   pub read-none : x ≡ Bad
-      → (NoReport ≡ readOf (entriesOf s) (length out)) × (out ≡ written 24 (recordBytes (entriesOf s)) out)
-  unfolding entriesOf entriesFrom readOf recordBytes
+      → (NoReport ≡ readOf (entriesOf s) (length out)) × (out ≡ written 24 (pileBytes (entriesOf s)) out)
+  unfolding entriesOf entriesFrom readOf pileBytes
   read-none h = rw (sym e ∙ h) (refl, refl)
 
   module _ {v : ℕ} (h : x ≡ Past v) {t : Bool} (a : t ≡ allOf s true (elementsOf s 14 v)) where
     pub read-bad : not t ≡ true
-        → (NoReport ≡ readOf (entriesOf s) (length out)) × (out ≡ written 24 (recordBytes (entriesOf s)) out)
-    unfolding entriesOf entriesFrom readOf recordBytes pick
+        → (NoReport ≡ readOf (entriesOf s) (length out)) × (out ≡ written 24 (pileBytes (entriesOf s)) out)
+    unfolding entriesOf entriesFrom readOf pileBytes pick
     read-bad g = rw (sym e ∙ h) (rw (sym a ∙ not-true t g) (refl, refl))
 
     module _ (g : not t ≡ false) {n : ℕ} (c : n ≡ length (elementsOf s 14 v)) where
@@ -174,14 +174,14 @@ module _ (s out : List ℕ) {x : Skip} (e : x ≡ listPlace s) where
       many = c ∙ sym (entries-length s true (elementsOf s 14 v))
 
       pub read-few : n ≡ 0
-          → (Amount ≡ readOf (entriesOf s) (length out)) × (out ≡ written 25 (recordBytes (entriesOf s)) out)
-      unfolding readOf recordBytes
+          → (Amount ≡ readOf (entriesOf s) (length out)) × (out ≡ written 25 (pileBytes (entriesOf s)) out)
+      unfolding readOf pileBytes
       read-few z = rw are (hit-eq _ many z refl, refl)
 
       module _ (z : n ≡ 0 → ⊥) where
         pub read-many : 16 < n
-            → (Amount ≡ readOf (entriesOf s) (length out)) × (out ≡ written 25 (recordBytes (entriesOf s)) out)
-        unfolding readOf recordBytes
+            → (Amount ≡ readOf (entriesOf s) (length out)) × (out ≡ written 25 (pileBytes (entriesOf s)) out)
+        unfolding readOf pileBytes
         read-many m =
             rw are (
               miss-eq _ many z
@@ -191,8 +191,8 @@ module _ (s out : List ℕ) {x : Skip} (e : x ≡ listPlace s) where
 
         module _ (m : n ≤ 16) {b : Bool} (w : b ≡ anyBig (entriesAt s true (elementsOf s 14 v))) where
           pub read-big : b ≡ true
-              → (Amount ≡ readOf (entriesOf s) (length out)) × (out ≡ written 25 (recordBytes (entriesOf s)) out)
-          unfolding readOf recordBytes
+              → (Amount ≡ readOf (entriesOf s) (length out)) × (out ≡ written 25 (pileBytes (entriesOf s)) out)
+          unfolding readOf pileBytes
           read-big i =
               rw are (
                 miss-eq _ many z
@@ -204,8 +204,8 @@ module _ (s out : List ℕ) {x : Skip} (e : x ≡ listPlace s) where
               )
 
           pub read-short : b ≡ false → length out < n * 4096
-              → (Short ≡ readOf (entriesOf s) (length out)) × (out ≡ written 19 (recordBytes (entriesOf s)) out)
-          unfolding readOf recordBytes
+              → (Short ≡ readOf (entriesOf s) (length out)) × (out ≡ written 19 (pileBytes (entriesOf s)) out)
+          unfolding readOf pileBytes
           read-short i l = rw are (
             miss-eq _ many z (miss _ refl (le-ltb 16 (length (entriesAt s true (elementsOf s 14 v))) (omega (
               arith,
@@ -230,8 +230,8 @@ module _ (s out : List ℕ) {x : Skip} (e : x ≡ listPlace s) where
 
           pub read-done : {to : List ℕ} → b ≡ false → n * 4096 ≤ length out
               → to ≡ fronted (recordsOf (entriesAt s true (elementsOf s 14 v))) out
-              → (Records n ≡ readOf (entriesOf s) (length out)) × (to ≡ written 0 (recordBytes (entriesOf s)) out)
-          unfolding readOf recordBytes
+              → (Records n ≡ readOf (entriesOf s) (length out)) × (to ≡ written 0 (pileBytes (entriesOf s)) out)
+          unfolding readOf pileBytes
           read-done i l q = rw are (
             miss-eq _ many z (miss _ refl (le-ltb 16 (length (entriesAt s true (elementsOf s 14 v))) (omega (
               arith,

@@ -34,6 +34,6 @@ readOf (these es) room =
 readOf unread room = NoReport
 
 -- what is written where nothing is refused
-unfoldable pub recordBytes : Entries → List ℕ
-recordBytes (these es) = recordsOf es
-recordBytes unread = []
+unfoldable pub pileBytes : Entries → List ℕ
+pileBytes (these es) = recordsOf es
+pileBytes unread = []

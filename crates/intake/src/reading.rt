@@ -6,7 +6,7 @@ ghost use lib.ListN.{length};
 ghost use Rattle.laws.specs.Pasted.{fronted};
 ghost use Rattle.intake.specs.Entry.{elementsOf, allOf, entriesAt, entriesOf};
 ghost use Rattle.intake.specs.Record.{recordsOf};
-ghost use Rattle.intake.specs.Read.{anyBig, readOf, readNumber, recordBytes};
+ghost use Rattle.intake.specs.Read.{anyBig, readOf, readNumber, pileBytes};
 ghost use Rattle.laws.specs.Written.{written};
 use super::Read;
 use super::lists::all_of;
@@ -63,7 +63,7 @@ fn put_all(s: &[u8], v: usize, out: &mut [u8])
 pub fn read_report(text: &[u8], out: &mut [u8]) -> Read
     ensures { λ r. ⌜ r ≡ readOf (entriesOf (now (text .entry))) (length (now (out .entry))) ⌝ }
     ensures { λ r. ⌜
-        now (out .exit) ≡ written (readNumber r) (recordBytes (entriesOf (now (text .entry)))) (now (out .entry))
+        now (out .exit) ≡ written (readNumber r) (pileBytes (entriesOf (now (text .entry)))) (now (out .entry))
         ⌝ }
 {
     let Skip::Past(v) = list_place(text) else {

@@ -4,6 +4,7 @@ use mathlib.Core.Path.{_≡_, refl}
 use mathlib.Core.Bool.{Bool, true, false, not}
 use mathlib.Core.List.{List, [], _∷_}
 use lib.Dec.{T}
+use Rattle.laws.specs.Ascii.{ascii}
 use Rattle.laws.specs.Pick.{pick, either, both}
 use Rattle.json.specs.declared.Found.{Found}
 use Rattle.json.specs.declared.Found.the-variants.{At, Nothing, Twice}
@@ -35,41 +36,15 @@ all (r ∷ rs) = andb (same (isText (r .text)) (r .is)) (all rs)
 
 abbrev table : List Row
 table =
-    -- '{"responses":[]}'
-    record {
-      text = 123 ∷ 34 ∷ 114 ∷ 101 ∷ 115 ∷ 112 ∷ 111 ∷ 110 ∷ 115 ∷ 101 ∷ 115 ∷ 34 ∷ 58 ∷ 91 ∷ 93 ∷ 125 ∷ [];
-      is =
-          true;
-    } ∷
-    -- ' [1,-0.5e+3,true,false,null,"a\\u00e9\\n\\/"] '
-    record {
-      text = 32 ∷ 91 ∷ 49 ∷ 44 ∷ 45 ∷ 48 ∷ 46 ∷ 53 ∷ 101 ∷ 43 ∷ 51 ∷ 44 ∷ 116 ∷ 114 ∷ 117 ∷ 101 ∷ 44 ∷ 102 ∷ 97 ∷
-          108 ∷ 115 ∷ 101 ∷ 44 ∷ 110 ∷ 117 ∷ 108 ∷ 108 ∷ 44 ∷ 34 ∷ 97 ∷ 92 ∷ 117 ∷ 48 ∷ 48 ∷ 101 ∷ 57 ∷ 92 ∷ 110 ∷ 92 ∷ 47
-          ∷ 34 ∷ 93 ∷ 32 ∷ [];
-      is = true;
-    } ∷
-    -- '[[[[[[[[[[[[[[[[]]]]]]]]]]]]]]]]'
-    record {
-      text = 91 ∷ 91 ∷ 91 ∷ 91 ∷ 91 ∷ 91 ∷ 91 ∷ 91 ∷ 91 ∷ 91 ∷ 91 ∷ 91 ∷ 91 ∷ 91 ∷ 91 ∷ 91 ∷ 93 ∷ 93 ∷ 93 ∷ 93 ∷
-          93 ∷ 93 ∷ 93 ∷ 93 ∷ 93 ∷ 93 ∷ 93 ∷ 93 ∷ 93 ∷ 93 ∷ 93 ∷ 93 ∷ [];
-      is = true;
-    } ∷
-    -- '[[[[[[[[[[[[[[[[[]]]]]]]]]]]]]]]]]'
-    record {
-      text = 91 ∷ 91 ∷ 91 ∷ 91 ∷ 91 ∷ 91 ∷ 91 ∷ 91 ∷ 91 ∷ 91 ∷ 91 ∷ 91 ∷ 91 ∷ 91 ∷ 91 ∷ 91 ∷ 91 ∷ 93 ∷ 93 ∷ 93 ∷
-          93 ∷ 93 ∷ 93 ∷ 93 ∷ 93 ∷ 93 ∷ 93 ∷ 93 ∷ 93 ∷ 93 ∷ 93 ∷ 93 ∷ 93 ∷ 93 ∷ [];
-      is = false;
-    } ∷
-    -- '[1,]'
-    record { text = 91 ∷ 49 ∷ 44 ∷ 93 ∷ []; is = false } ∷
-    -- '01'
-    record { text = 48 ∷ 49 ∷ []; is = false } ∷
-    -- '-'
-    record { text = 45 ∷ []; is = false } ∷
-    -- '1.'
-    record { text = 49 ∷ 46 ∷ []; is = false } ∷
-    -- '"\\ud800"'
-    record { text = 34 ∷ 92 ∷ 117 ∷ 100 ∷ 56 ∷ 48 ∷ 48 ∷ 34 ∷ []; is = true } ∷
+    record { text = ascii "{\"responses\":[]}"; is = true } ∷
+    record { text = ascii " [1,-0.5e+3,true,false,null,\"a\\u00e9\\n\\/\"] "; is = true } ∷
+    record { text = ascii "[[[[[[[[[[[[[[[[]]]]]]]]]]]]]]]]"; is = true } ∷
+    record { text = ascii "[[[[[[[[[[[[[[[[[]]]]]]]]]]]]]]]]]"; is = false } ∷
+    record { text = ascii "[1,]"; is = false } ∷
+    record { text = ascii "01"; is = false } ∷
+    record { text = ascii "-"; is = false } ∷
+    record { text = ascii "1."; is = false } ∷
+    record { text = ascii "\"\\ud800\""; is = true } ∷
     -- '"\xc3\xa9\xe2\x82\xac\xf0\x9f\x98\x80"'
     record { text = 34 ∷ 195 ∷ 169 ∷ 226 ∷ 130 ∷ 172 ∷ 240 ∷ 159 ∷ 152 ∷ 128 ∷ 34 ∷ []; is = true } ∷
     -- '"\xc3("'
@@ -80,28 +55,18 @@ table =
     record { text = 34 ∷ 237 ∷ 160 ∷ 128 ∷ 34 ∷ []; is = false } ∷
     -- '"\xf4\x90\x80\x80"'
     record { text = 34 ∷ 244 ∷ 144 ∷ 128 ∷ 128 ∷ 34 ∷ []; is = false } ∷
-    -- '{"a":1,"a":{"b":[]}}'
-    record {
-      text = 123 ∷ 34 ∷ 97 ∷ 34 ∷ 58 ∷ 49 ∷ 44 ∷ 34 ∷ 97 ∷ 34 ∷ 58 ∷ 123 ∷ 34 ∷ 98 ∷ 34 ∷ 58 ∷ 91 ∷ 93 ∷ 125 ∷
-          125 ∷ [];
-      is = true;
-    } ∷
+    record { text = ascii "{\"a\":1,\"a\":{\"b\":[]}}"; is = true } ∷
     -- '"\n"'
     record { text = 34 ∷ 10 ∷ 34 ∷ []; is = false } ∷
     -- ''
     record { text = []; is = false } ∷
-    -- '[1] x'
-    record { text = 91 ∷ 49 ∷ 93 ∷ 32 ∷ 120 ∷ []; is = false } ∷
-    -- '"\\x"'
-    record { text = 34 ∷ 92 ∷ 120 ∷ 34 ∷ []; is = false } ∷
-    -- '{"a" 1}'
-    record { text = 123 ∷ 34 ∷ 97 ∷ 34 ∷ 32 ∷ 49 ∷ 125 ∷ []; is = false } ∷
+    record { text = ascii "[1] x"; is = false } ∷
+    record { text = ascii "\"\\x\""; is = false } ∷
+    record { text = ascii "{\"a\" 1}"; is = false } ∷
     -- '\xef\xbb\xbf[]'
     record { text = 239 ∷ 187 ∷ 191 ∷ 91 ∷ 93 ∷ []; is = false } ∷
-    -- 'nul'
-    record { text = 110 ∷ 117 ∷ 108 ∷ []; is = false } ∷
-    -- '"a'
-    record { text = 34 ∷ 97 ∷ []; is = false } ∷
+    record { text = ascii "nul"; is = false } ∷
+    record { text = ascii "\"a"; is = false } ∷
     []
 
 examples : T (all table)
@@ -112,9 +77,7 @@ unfolding pick either both then thenStep pastWhile after pastColon onward walk m
 examples = tt
 
 -- "rand" written with an escape is found; a name that stands twice is Twice
-found-escaped : foundOf
-    (123 ∷ 34 ∷ 92 ∷ 117 ∷ 48 ∷ 48 ∷ 55 ∷ 50 ∷ 97 ∷ 110 ∷ 100 ∷ 34 ∷ 58 ∷ 34 ∷ 120 ∷ 34 ∷ 44 ∷ 34 ∷ 98 ∷ 34 ∷ 58 ∷ 91 ∷
-    49 ∷ 93 ∷ 125 ∷ []) (114 ∷ 97 ∷ 110 ∷ 100 ∷ []) 15 0 ≡ At 13
+found-escaped : foundOf (ascii "{\"\\u0072and\":\"x\",\"b\":[1]}") (ascii "rand") 15 0 ≡ At 13
 unfolding pick either both then thenStep pastWhile after pastColon onward walk moreOf starts someDigits pastMinus
     pastSign wholeAt fractionAt signedAt exponentAt integerAt numberAt escapeOf nibbleOf nibbleAt hexAt escapeAt
     leastSecond mostSecond secondAt tailAt longAt wideAt unitAt unitStep stringAt codesAt contentAt sameList literalAt
@@ -122,9 +85,7 @@ unfolding pick either both then thenStep pastWhile after pastColon onward walk m
     answerOf countOf tally foundOf
 found-escaped = refl
 
-found-twice : foundOf
-    (123 ∷ 34 ∷ 97 ∷ 34 ∷ 58 ∷ 49 ∷ 44 ∷ 34 ∷ 98 ∷ 34 ∷ 58 ∷ 123 ∷ 34 ∷ 97 ∷ 34 ∷ 58 ∷ 50 ∷ 125 ∷ 44 ∷ 34 ∷ 97 ∷ 34 ∷ 58
-    ∷ 91 ∷ 93 ∷ 125 ∷ []) (97 ∷ []) 15 0 ≡ Twice
+found-twice : foundOf (ascii "{\"a\":1,\"b\":{\"a\":2},\"a\":[]}") (ascii "a") 15 0 ≡ Twice
 unfolding pick either both then thenStep pastWhile after pastColon onward walk moreOf starts someDigits pastMinus
     pastSign wholeAt fractionAt signedAt exponentAt integerAt numberAt escapeOf nibbleOf nibbleAt hexAt escapeAt
     leastSecond mostSecond secondAt tailAt longAt wideAt unitAt unitStep stringAt codesAt contentAt sameList literalAt

@@ -7,12 +7,12 @@ use Rattle.laws.specs.Pick.{pick}
 use Rattle.json.specs.declared.Found.{Found}
 use Rattle.json.specs.Members.{named, valuePlace, answerOf, countOf, tally}
 
-module _ (s w : List ℕ) (n v k : ℕ) {yes : Bool} {m p u : ℕ} (a : yes ≡ named s w k) (b : m ≡ countOf yes n)
-    (c : p ≡ valuePlace s k) (d : u ≡ pick yes p v) where
+module _ (s w : List ℕ) (n v k : ℕ) {yes : Bool} {m u : ℕ} (a : yes ≡ named s w k) (b : m ≡ countOf yes n)
+    (c : u ≡ pick yes (valuePlace s k) v) where
   pub tally-more : (rest : List ℕ) {all : List ℕ} → all ≡ k ∷ rest → tally s w m u rest ≡ tally s w n v all
   unfolding tally
-  tally-more rest e = rw (e, sym a, sym c, sym b, sym d) refl
+  tally-more rest e = rw (e, sym a, sym b, sym c) refl
 
   pub tally-last : {all : List ℕ} {r : Found} → all ≡ k ∷ [] → r ≡ answerOf m u → r ≡ tally s w n v all
   unfolding tally
-  tally-last e g = rw (e, sym a, sym c, sym b, sym d) g
+  tally-last e g = rw (e, sym a, sym b, sym c) g

@@ -5,6 +5,8 @@ pub mod Turns
 pub mod Ahead
 pub mod Words
 pub mod Content
+pub mod Counted
+pub mod Runs
 pub mod Finds
 pub mod Stands
 pub mod Written

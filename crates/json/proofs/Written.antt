@@ -113,7 +113,8 @@ find-written {s} d w n v k m (o ∷ ms) t (more a b c) h =
     let r = rest-stands d w m a b u h in
     let e : k + length (m .name) + length (m .value) + 5 + 1 ≡ k + length (m .name) + length (m .value) + 6 =
     omega arith in
-    sym (tally-more s w n v k (sym (named-is d w m a b u h)) refl (sym (place-is d w m a b u h)) refl _
+    sym (tally-more s w n v k (sym (named-is d w m a b u h)) refl
+    (ap (λ p. pick (sameList (m .name) w) p v) (sym (place-is d w m a b u h))) _
     (starts-more (length s) (memberStep s (valueAt s d)) (forth-members s d) k refl
     (member-step d w m a b u h ∙ comma-reads 125 (opens o ms t r) refl (λ z. omega arith) ∙ ap More e)))
     ∙ find-written d w _ _ (k + length (m .name) + length (m .value) + 6) o ms t c (rw e at (stands-next r))

@@ -1,6 +1,7 @@
 -- Tests on bytes, and the small readers that every other is made of (RFC 8259, section 2).
 -- A text is the list of its bytes. `getD s k 0` is the byte at k, 0 past the end; no token has the byte 0.
-use Prim.Native.Nat.{ℕ, zero, suc, _+_}
+use Prim.Native.Nat.{ℕ, zero, suc, _+_, _<_}
+use mathlib.Core.Path.{_≡_}
 use mathlib.Core.Bool.{Bool, true, false}
 use mathlib.Core.List.{List, [], _∷_}
 use lib.Dec.{eqb, leb}
@@ -35,6 +36,10 @@ run p (x ∷ xs) = pick (p x) (suc (run p xs)) 0
 -- the first place from `at` on whose byte does not pass
 unfoldable pub pastWhile : (ℕ → Bool) → List ℕ → ℕ → ℕ
 pastWhile p s at = at + run p (drop at s)
+
+-- For the private functions: each of the n bytes at a place passes.
+abbrev pub Passes : (ℕ → Bool) → List ℕ → ℕ → ℕ → Type 0
+Passes p s at n = (i : ℕ) → i < n → p (getD s (at + i) 0) ≡ true
 
 abbrev pub pastBlanks : List ℕ → ℕ → ℕ
 pastBlanks = pastWhile blank

@@ -1,7 +1,7 @@
 -- string = quotation-mark *char quotation-mark (RFC 8259, section 7). The text is UTF-8 (section 8.1): a byte sequence
 -- that RFC 3629 does not allow is no character.
 use Prim.Native.Nat.{ℕ, zero, suc, _+_, _*_, _-_}
-use mathlib.Core.Bool.{Bool, true, false}
+use mathlib.Core.Bool.{Bool, true, false, not, _&&_}
 use mathlib.Core.List.{List, [], _∷_, _++_}
 use lib.Dec.{eqb, leb, ltb}
 use lib.ListN.{length, getD}
@@ -77,6 +77,10 @@ unitAt s at =
     (pick (eqb (getD s at 0) 92) (escapeAt s (at + 1))
     (pick (ltb (getD s at 0) 32) Ill
     (pick (ltb (getD s at 0) 128) (Code (getD s at 0) (at + 1)) (wideAt s at))))
+
+-- unescaped = %x20-21 / %x23-5B / %x5D-10FFFF, where that is one byte: a character that stands for itself
+unfoldable pub unescaped : ℕ → Bool
+unescaped b = ((not (eqb b 34) && not (eqb b 92)) && not (ltb b 32)) && ltb b 128
 
 abbrev pub stepOf : Unit → Step
 stepOf (Code c k) = More k

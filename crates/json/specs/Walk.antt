@@ -18,8 +18,7 @@ unfoldable pub walk : ℕ → (ℕ → Step) → ℕ → Skip
 walk zero f k = Bad
 walk (suc n) f k = onward (f k) (walk n f)
 
--- as many turns as it takes in a text of n bytes: each turn takes a byte or more (proofs/Turns: `walk-more` and
--- `walk-last`)
+-- as many turns as it takes in a text of n bytes: each turn takes a byte or more (proofs/Turns: `fuel`)
 abbrev pub walked : ℕ → (ℕ → Step) → ℕ → Skip
 walked n f k = walk (suc n) f k
 

@@ -6,6 +6,7 @@ mod members;
 mod numbers;
 mod scan;
 mod strings;
+mod unescaped;
 mod values;
 
 pub use members::find;
@@ -36,7 +37,8 @@ pub enum Found {
     Twice,
 }
 
-// What stands at a place within a string: a character, with the place past it; the closing quote; or what no string may hold.
+// What stands at a place within a string: a character, with the place past it; the closing quote; or what no string may
+// hold.
 pub enum Unit {
     Code(u32, usize),
     // written as bytes above 127

@@ -40,10 +40,11 @@ fn one_more(named: bool, n: usize) -> usize
     if named { if n == 0 { 1 } else { 2 } } else { n }
 }
 
-fn choose(named: bool, a: usize, b: usize) -> usize
-    ensures { λ r. ⌜ r ≡ pick named a b ⌝ }
+// The place of the value of the last member of that name.
+fn latest(s: &[u8], k: usize, named: bool, v: usize) -> usize
+    ensures { λ r. ⌜ r ≡ pick named (valuePlace (now (s .entry)) k) v ⌝ }
 {
-    if named { a } else { b }
+    if named { value_place(s, k) } else { v }
 }
 
 fn answer(n: usize, v: usize) -> Found
@@ -71,7 +72,7 @@ pub fn find(s: &[u8], at: usize, depth: usize, w: &[u8]) -> Found
     loop {
         let yes = is_named(s, k, w);
         n = one_more(yes, n);
-        v = choose(yes, value_place(s, k), v);
+        v = latest(s, k, yes, v);
         match member(s, k, depth) {
             Step::More(j) => {
                 k = j;

@@ -8,6 +8,7 @@ use super::Unit;
 use super::escapes::escape;
 use super::letters::wide;
 use super::scan::byte;
+use super::unescaped::unescaped_run;
 
 // What stands at a place within a string.
 pub fn unit_of(s: &[u8], at: usize) -> Unit
@@ -50,11 +51,11 @@ pub fn string(s: &[u8], at: usize) -> Skip
     if b != 34 {
         return Skip::Bad;
     }
-    let mut k = at + 1;
+    let mut k = unescaped_run(s, at + 1);
     loop {
         match unit_step(s, k) {
             Step::More(n) => {
-                k = n;
+                k = unescaped_run(s, n);
             }
             Step::End(e) => {
                 return Skip::Past(e);

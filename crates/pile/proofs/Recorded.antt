@@ -17,7 +17,7 @@ use Rattle.laws.proofs.Pieces.{part-at, drop-take}
 use Rattle.laws.proofs.Zeros.{zeros-replicate}
 use Rattle.pile.specs.Pile.{recordAt, randIn, requestLength, responseLength, requestArea, responseArea}
 use Rattle.pile.specs.Pile.{requestPacket, responsePacket}
-use Rattle.pile.specs.Recording.{headBytes, areaBytes, recordBytes}
+use Rattle.pile.specs.Recording.{headBytes, padded, areaBytes, recordBytes}
 use Rattle.pile.specs.Valid.{areaBad, recordBad}
 use Rattle.pile.specs.Meaning.{Undamaged}
 use Rattle.pile.proofs.Exactly.{undamaged-exactly}
@@ -29,15 +29,18 @@ pub length-heading : (key rand : List ℕ) (n m : ℕ) → length key ≡ 32 →
 unfolding headBytes
 length-heading key rand n m k r = simp (length-append, k, r, length-leBytes, length-replicate)
 
+pub length-padded : (n : ℕ) (x : List ℕ) → length x ≤ n → length (padded n x) ≡ n
+unfolding padded
+length-padded n x h = simp (length-append, length-replicate) (omega arith)
+
 pub length-area : (p : List ℕ) → length p ≤ 2000 → length (areaBytes p) ≡ 2000
-unfolding areaBytes
-length-area p h = simp (length-append, length-replicate) (omega arith)
+length-area p h = length-padded 2000 p h
 
 -- ---- what stands in it
 
 -- an area that holds a packet and then zeros
 area-good : (p : List ℕ) → length p ≤ 2000 → areaBad (areaBytes p) (length p) ≡ false
-unfolding areaBad areaBytes
+unfolding areaBad padded
 area-good p h =
     any-not _ (le-ltb 2000 (length p) h)
     (any-not _
@@ -45,7 +48,7 @@ area-good p h =
     any-none)
 
 area-front : (p : List ℕ) → take (length p) (areaBytes p) ≡ p
-unfolding areaBytes
+unfolding padded
 area-front p = take-at p (replicate (2000 - length p) 0) (length p) refl
 
 module _
@@ -108,7 +111,7 @@ module _
   response-area =
       part-at (key ++ (rand ++ (q-length ++ (x-length ++ (gap ++ areaBytes q))))) (areaBytes x) [] 2096 4096
       (flat ∙ simp (append-assoc, append-nil))
-      (simp (length-append, k32, r32, length-leBytes, length-replicate, length-area q q-fits))
+      (simp (length-append, k32, r32, length-leBytes, length-area q q-fits))
       (simp (length-area x x-fits))
 
   pub request-reads : requestPacket (recordBytes key rand q x) ≡ q

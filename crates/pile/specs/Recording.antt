@@ -9,9 +9,13 @@ use Rattle.laws.specs.Numbers.{leBytes}
 unfoldable pub headBytes : List ℕ → List ℕ → ℕ → ℕ → List ℕ
 headBytes key rand n m = key ++ rand ++ leBytes 4 n ++ leBytes 4 m ++ replicate 24 0
 
--- an area of 2,000 bytes: its packet, and zeros behind it
-unfoldable pub areaBytes : List ℕ → List ℕ
-areaBytes packet = packet ++ replicate (2000 - length packet) 0
+-- bytes in an area of n, and zeros behind them
+unfoldable pub padded : ℕ → List ℕ → List ℕ
+padded n x = x ++ replicate (n - length x) 0
+
+-- the area of a packet, of 2,000 bytes
+abbrev pub areaBytes : List ℕ → List ℕ
+areaBytes packet = padded 2000 packet
 
 -- request area 96-2,095, response area 2,096-4,095
 unfoldable pub recordBytes : List ℕ → List ℕ → List ℕ → List ℕ → List ℕ

@@ -8,8 +8,9 @@ use lib.ListN.{length, getD, replicate}
 use Rattle.laws.specs.Bytes.{Bytes}
 use Rattle.laws.specs.Numbers.{leBytes}
 use Rattle.intake.specs.Entry.{Entry, Entries, these, unread, entriesOf}
-use Rattle.intake.specs.Read.{recordBytes}
-use Rattle.intake.specs.Record.{padded, recordOf, recordsOf}
+use Rattle.intake.specs.Read.{pileBytes}
+use Rattle.intake.specs.Record.{recordOf, recordsOf}
+use Rattle.pile.specs.Recording.{padded, headBytes, recordBytes}
 use Rattle.publish.proofs.Again.{text-fine}
 use Rattle.publish.proofs.Round.{Whole, Fine, one-entry, entry-then}
 
@@ -51,25 +52,29 @@ unfolding padded
 padded-bytes n x b = joined {s = x} (record { are = b }) (zeros (n - length x))
 
 record-bytes : {first : Bool} (e : Entry) → Whole first e → AreBytes (recordOf e)
-unfolding recordOf
+unfolding recordOf recordBytes headBytes
 record-bytes e w =
     joined
     (joined
+    (joined
+    (joined
     (joined (joined (padded-bytes 32 (e .key) (w .key)) (padded-bytes 32 (e .rand) (w .rand)))
-    (joined (number 4 (length (e .request))) (number 4 (length (e .response)))))
+    (number 4 (length (e .request))))
+    (number 4 (length (e .response))))
     (zeros 24))
-    (joined (padded-bytes 2000 (e .request) (w .request)) (padded-bytes 2000 (e .response) (w .response)))
+    (padded-bytes 2000 (e .request) (w .request)))
+    (padded-bytes 2000 (e .response) (w .response))
 
 records-bytes : {first : Bool} (e : Entry) (es : List Entry) → Fine first e es → AreBytes (recordsOf (e ∷ es))
 unfolding recordsOf
 records-bytes e [] (one-entry w) = joined (record-bytes e w) (record { are = none-bytes })
 records-bytes e (f ∷ es) (entry-then w v) = joined (record-bytes e w) (records-bytes f es v)
 
-pub text-bytes : (s : List ℕ) → Bytes (recordBytes (entriesOf s))
-unfolding recordBytes recordsOf
+pub text-bytes : (s : List ℕ) → Bytes (pileBytes (entriesOf s))
+unfolding pileBytes recordsOf
 text-bytes s = by (entriesOf s) refl
   where
-    by : (x : Entries) → entriesOf s ≡ x → Bytes (recordBytes x)
+    by : (x : Entries) → entriesOf s ≡ x → Bytes (pileBytes x)
     by (these []) h = none-bytes
     by (these (e ∷ es)) h = records-bytes e es (text-fine s e es h) .are
     by unread h = none-bytes

@@ -34,7 +34,7 @@ zeroed-bytes l b =
     append-bytes (take 32 l) (replicate 32 0 ++ drop 64 l) (bytes-take l b 32)
     (append-bytes (replicate 32 0) (drop 64 l) (zero-bytes 32) (bytes-drop l b 64))
 
-run-bytes : (i j : ℕ) (pile : List ℕ) → Bytes pile → Bytes (runBytes i j pile)
+pub run-bytes : (i j : ℕ) (pile : List ℕ) → Bytes pile → Bytes (runBytes i j pile)
 unfolding runBytes
 run-bytes i j pile b =
     zeroed-bytes (part (4096 * i) (4096 * j + 4096) pile)

@@ -1,30 +1,27 @@
 -- Records and entries are each other's: a whole record is what its entry is written as, and an entry what is read of
--- its
--- record, by the pile's own definitions.
-use Prim.Native.Nat.{ℕ, zero, suc, _+_, _*_, _-_, _^_, _≤_, _<_}
+-- its record, by the pile's own definitions.
+use Prim.Native.Nat.{ℕ, zero, suc, _+_, _*_, _-_, _≤_, _<_}
 use mathlib.Core.Path.{_≡_, refl, sym, _∙_, ap, ap₂}
-use mathlib.Core.Bool.{Bool, true, false}
+use mathlib.Core.Bool.{false}
 use mathlib.Core.List.{List, [], _∷_, _++_, append-assoc, append-nil}
 use native.Mathlib.Omega.{arith}
-use borrow.Author.Tests.{le-ltb}
-use lib.ListN.{length, take, drop, getD, replicate, length-append, length-take, length-drop, length-replicate}
-use lib.ListN.{take-append-drop}
-use lib.Seq.{take-add, take-all, take-at, drop-at, take-take, drop-drop, getD-take, getD-drop}
+use lib.ListN.{length, take, drop, getD, replicate, length-take, length-drop, take-append-drop}
+use lib.Seq.{take-add, take-all, drop-drop, getD-take, getD-drop}
 use Rattle.laws.specs.Bytes.{Bytes}
-use Rattle.laws.specs.Numbers.{le, leBytes}
-use Rattle.laws.specs.Any.{any}
+use Rattle.laws.specs.Numbers.{leBytes}
 use Rattle.laws.specs.Pasted.{part}
-use Rattle.laws.specs.Zeros.{zeros}
-use Rattle.laws.proofs.Numbers.{leBytes-le, length-leBytes, le-behind, le-leBytes}
+use Rattle.laws.proofs.Numbers.{leBytes-le}
 use Rattle.laws.proofs.Pasted.{length-part}
 use Rattle.laws.proofs.Bytes.{bytes-take, bytes-drop}
-use Rattle.intake.proofs.Areas.{padded-length}
+use Rattle.intake.proofs.Areas.{record-parts}
 use Rattle.intake.specs.Entry.{Entry}
-use Rattle.intake.specs.Record.{padded, recordOf, recordsOf}
-use Rattle.pile.specs.Pile.{recordsIn, recordAt, keyIn, randIn, requestLength, responseLength, requestArea}
-use Rattle.pile.specs.Pile.{responseArea, requestPacket, responsePacket}
+use Rattle.intake.specs.Record.{recordOf, recordsOf}
+use Rattle.pile.specs.Recording.{padded, recordBytes}
+use Rattle.pile.proofs.Recorded.{length-record, key-reads, rand-reads, request-reads, response-reads, reads-whole}
+use Rattle.pile.specs.Pile.{recordsIn, recordAt, keyIn, randIn, requestLength, responseLength}
+use Rattle.pile.specs.Pile.{requestPacket, responsePacket}
 use Rattle.pile.specs.Meaning.{Undamaged}
-use Rattle.pile.specs.Valid.{areaBad, recordBad}
+use Rattle.pile.specs.Valid.{recordBad}
 use Rattle.publish.specs.Entries.{entryOf, entriesIn}
 
 -- ---- from a record to its entry and back
@@ -71,7 +68,7 @@ packet-length r a e n h k m = length-take n (part a e r) ∙ omega (arith, lengt
 
 -- a whole record is the record of its entry
 pub record-entry : (r : List ℕ) → Bytes r → length r ≡ 4096 → Undamaged r → recordOf (entryOf r) ≡ r
-unfolding recordOf entryOf requestPacket responsePacket
+unfolding entryOf requestPacket responsePacket
 record-entry r b l u =
     let k : padded 32 (part 0 32 r) ≡ take 32 r =
     full 32 (part 0 32 r) (length-part r 0 32 (omega arith) (omega arith)) in
@@ -86,7 +83,7 @@ record-entry r b l u =
     let z : replicate 24 0 ≡ part 72 96 r = sym (part-zero r 72 96 (omega arith) (omega arith) (u .gap)) in
     let q = area r 96 2096 (requestLength r) refl (omega arith) (u .request-fits) (u .request-rest) in
     let p = area r 2096 4096 (responseLength r) refl (omega arith) (u .response-fits) (u .response-rest) in
-    rw (k, a, qn, an, z, q, p) (joined r l)
+    record-parts _ ∙ rw (k, a, qn, an, z, q, p) (joined r l)
   where
     joined : (r : List ℕ) → length r ≡ 4096
         → (take 32 r ++ part 32 64 r) ++ (part 64 68 r ++ part 68 72 r) ++ part 72 96 r
@@ -131,148 +128,30 @@ records-pile pile b l f =
     ∙ take-all (4096 * recordsIn pile) pile (omega arith)
 
 -- ---- from an entry to its record and back
-zeros-of : (n : ℕ) → zeros (replicate n 0) ≡ true
-unfolding zeros
-zeros-of zero = refl
-zeros-of (suc n) = zeros-of n
-
-zero-rest : (x : List ℕ) → zeros (drop (length x) (padded 2000 x)) ≡ true
-unfolding padded
-zero-rest x = ap zeros (drop-at x (replicate (2000 - length x) 0) (length x) refl) ∙ zeros-of (2000 - length x)
 
 -- what the pile's definitions read of the record of an entry
 module _ (e : Entry) (hk : length (e .key) ≡ 32) (hr : length (e .rand) ≡ 32) (hq : length (e .request) ≤ 2000)
     (ha : length (e .response) ≤ 2000) where
-  q4 : List ℕ
-  q4 = leBytes 4 (length (e .request))
-
-  a4 : List ℕ
-  a4 = leBytes 4 (length (e .response))
-
-  -- the record, bracketed from its end
-  right : recordOf e
-      ≡ e .key
-      ++ (e .rand ++ (q4 ++ (a4 ++ (replicate 24 0 ++ (padded 2000 (e .request) ++ padded 2000 (e .response))))))
-  unfolding recordOf q4 a4
-  right =
-      rw (full 32 (e .key) hk, full 32 (e .rand) hr)
-      (append-assoc ((e .key ++ e .rand)
-      ++ (leBytes 4 (length (e .request))
-      ++ leBytes 4 (length (e .response)))) (replicate 24 0) (padded 2000 (e .request) ++ padded 2000 (e .response))
-      ∙ append-assoc (e .key ++ e .rand) (leBytes 4 (length (e .request))
-      ++ leBytes 4 (length (e .response))) (replicate 24 0 ++ (padded 2000 (e .request) ++ padded 2000 (e .response)))
-      ∙ append-assoc (e .key) (e .rand) ((leBytes 4 (length (e .request)) ++ leBytes 4 (length (e .response)))
-      ++ (replicate 24 0 ++ (padded 2000 (e .request) ++ padded 2000 (e .response))))
-      ∙ ap (λ (x : List ℕ). e .key
-      ++ (e .rand
-      ++ x)) (append-assoc (leBytes 4 (length (e .request))) (leBytes 4 (length (e .response))) (replicate 24 0
-      ++ (padded 2000 (e .request) ++ padded 2000 (e .response)))))
-
-  areas : List ℕ
-  areas = padded 2000 (e .request) ++ padded 2000 (e .response)
-
-  -- drops of it
-  from32 : drop 32 (recordOf e) ≡ e .rand
-      ++ (q4 ++ (a4 ++ (replicate 24 0 ++ (padded 2000 (e .request) ++ padded 2000 (e .response)))))
-  from32 = ap (drop 32) right ∙ drop-at (e .key) _ 32 hk
-
-  from64 : drop 64 (recordOf e) ≡ q4
-      ++ (a4 ++ (replicate 24 0 ++ (padded 2000 (e .request) ++ padded 2000 (e .response))))
-  from64 = sym (drop-drop 32 32 (recordOf e)) ∙ ap (drop 32) from32 ∙ drop-at (e .rand) _ 32 hr
-
-  from68 : drop 68 (recordOf e) ≡ a4 ++ (replicate 24 0 ++ (padded 2000 (e .request) ++ padded 2000 (e .response)))
-  unfolding q4
-  from68 = sym (drop-drop 4 64 (recordOf e)) ∙ ap (drop 4) from64
-      ∙ drop-at (leBytes 4 (length (e .request))) _ 4 (length-leBytes 4 (length (e .request)))
-
-  from72 : drop 72 (recordOf e) ≡ replicate 24 0 ++ (padded 2000 (e .request) ++ padded 2000 (e .response))
-  unfolding a4
-  from72 = sym (drop-drop 4 68 (recordOf e)) ∙ ap (drop 4) from68
-      ∙ drop-at (leBytes 4 (length (e .response))) _ 4 (length-leBytes 4 (length (e .response)))
-
-  from96 : drop 96 (recordOf e) ≡ padded 2000 (e .request) ++ padded 2000 (e .response)
-  from96 = sym (drop-drop 24 72 (recordOf e)) ∙ ap (drop 24) from72
-      ∙ drop-at (replicate 24 0) _ 24 (length-replicate {A = ℕ} 24 0)
-
-  from2096 : drop 2096 (recordOf e) ≡ padded 2000 (e .response)
-  from2096 = sym (drop-drop 2000 96 (recordOf e)) ∙ ap (drop 2000) from96
-      ∙ drop-at (padded 2000 (e .request)) _ 2000 (padded-length 2000 (e .request) hq)
-
-  number : (k n : ℕ) (r s : List ℕ) → n < 256 ^ k → (at : ℕ) → drop at r ≡ leBytes k n ++ s → at ≤ length r
-      → le k r at ≡ n
-  number k n r s h at d l =
-      let t : length (take at r) + 0 ≡ at = omega (arith, length-take at r) in
-      ap (λ (x : List ℕ). le k x at) (sym (take-append-drop at r))
-      ∙ ap (λ (x : ℕ). le k (take at r ++ drop at r) x) (sym t)
-      ∙ le-behind k (take at r) (drop at r) 0 ∙ ap (λ (x : List ℕ). le k x 0) d ∙ le-leBytes k n s h
-
-  long : length (recordOf e) ≡ 4096
-  unfolding q4 a4
-  long =
-      ap length right
-      ∙ omega (
-        arith,
-        hk,
-        hr,
-        length-leBytes 4 (length (e .request)),
-        length-leBytes 4 (length (e .response)),
-        length-replicate {A = ℕ} 24 0,
-        padded-length 2000 (e .request) hq,
-        padded-length 2000 (e .response) ha,
-        length-append (padded 2000 (e .request)) (padded 2000 (e .response)),
-        length-append (replicate 24 0) (padded 2000 (e .request) ++ padded 2000 (e .response)),
-        length-append (leBytes 4 (length (e .response))) (replicate 24 0
-            ++ (padded 2000 (e .request) ++ padded 2000 (e .response))),
-        length-append (leBytes 4 (length (e .request))) (leBytes 4 (length (e .response))
-            ++ (replicate 24 0 ++ (padded 2000 (e .request) ++ padded 2000 (e .response)))),
-        length-append (e .rand) (leBytes 4 (length (e .request))
-            ++ (leBytes 4 (length (e .response))
-            ++ (replicate 24 0 ++ (padded 2000 (e .request) ++ padded 2000 (e .response))))),
-        length-append (e .key) (e .rand
-            ++ (leBytes 4 (length (e .request))
-            ++ (leBytes 4 (length (e .response))
-            ++ (replicate 24 0 ++ (padded 2000 (e .request) ++ padded 2000 (e .response)))))),
-      )
+  -- nothing is missing from its key and its rand
+  laid : recordOf e ≡ recordBytes (e .key) (e .rand) (e .request) (e .response)
+  unfolding recordOf
+  laid =
+      ap₂ (λ (k r : List ℕ). recordBytes k r (e .request) (e .response)) (full 32 (e .key) hk) (full 32 (e .rand) hr)
 
   pub record-long : length (recordOf e) ≡ 4096
-  record-long = long
+  record-long = ap length laid ∙ length-record (e .key) (e .rand) (e .request) (e .response) hk hr hq ha
 
   pub record-key : keyIn (recordOf e) ≡ e .key
-  record-key = ap (take 32) right ∙ take-at (e .key) _ 32 hk
+  record-key = ap keyIn laid ∙ key-reads (e .key) (e .rand) (e .request) (e .response) hk hr hq ha
 
   pub record-rand : randIn (recordOf e) ≡ e .rand
-  record-rand = ap (take 32) from32 ∙ take-at (e .rand) _ 32 hr
-
-  request-number : requestLength (recordOf e) ≡ length (e .request)
-  unfolding q4
-  request-number = number 4 (length (e .request)) (recordOf e) _ (omega arith) 64 from64 (omega (arith, long))
-
-  response-number : responseLength (recordOf e) ≡ length (e .response)
-  unfolding a4
-  response-number = number 4 (length (e .response)) (recordOf e) _ (omega arith) 68 from68 (omega (arith, long))
-
-  front : (x : List ℕ) → length x ≤ 2000 → take (length x) (padded 2000 x) ≡ x
-  unfolding padded
-  front x h = take-at x (replicate (2000 - length x) 0) (length x) refl
+  record-rand = ap randIn laid ∙ rand-reads (e .key) (e .rand) (e .request) (e .response) hk hr hq ha
 
   pub record-request : requestPacket (recordOf e) ≡ e .request
-  unfolding requestPacket
-  record-request =
-      rw request-number
-      (ap (λ (x : List ℕ). take (length (e .request)) (take 2000 x)) from96
-      ∙ ap (take (length (e .request))) (take-at (padded 2000 (e .request)) _ 2000 (padded-length 2000 (e .request) hq))
-      ∙ front (e .request) hq)
+  record-request = ap requestPacket laid ∙ request-reads (e .key) (e .rand) (e .request) (e .response) hk hr hq ha
 
   pub record-response : responsePacket (recordOf e) ≡ e .response
-  unfolding responsePacket
-  record-response =
-      rw response-number
-      (ap (λ (x : List ℕ). take (length (e .response)) (take 2000 x)) from2096
-      ∙ ap (take (length (e .response))) (take-all 2000 (padded 2000 (e .response)) (omega (
-        arith,
-        padded-length 2000 (e .response) ha,
-      )))
-      ∙ front (e .response) ha)
+  record-response = ap responsePacket laid ∙ response-reads (e .key) (e .rand) (e .request) (e .response) hk hr hq ha
 
   pub entry-record : entryOf (recordOf e) ≡ e
   unfolding entryOf
@@ -280,28 +159,4 @@ module _ (e : Entry) (hk : length (e .key) ≡ 32) (hr : length (e .rand) ≡ 32
 
   -- and no byte of the record is damaged
   pub record-good : recordBad (recordOf e) ≡ false
-  unfolding recordBad areaBad any
-  record-good =
-      let q : requestArea (recordOf e) ≡ padded 2000 (e .request)
-      = ap (take 2000) from96
-      ∙ take-at (padded 2000 (e .request)) (padded 2000 (e .response)) 2000 (padded-length 2000 (e .request) hq) in
-      let a : responseArea (recordOf e) ≡ padded 2000 (e .response)
-      = ap (take 2000) from2096
-      ∙ take-all 2000 (padded 2000 (e .response)) (omega (arith, padded-length 2000 (e .response) ha)) in
-      let g : part 72 96 (recordOf e) ≡ replicate 24 0
-      = ap (take 24) from72
-      ∙ take-at (replicate 24 0) (padded 2000 (e .request)
-      ++ padded 2000 (e .response)) 24 (length-replicate {A = ℕ} 24 0) in
-      rw (
-        request-number,
-        response-number,
-        q,
-        a,
-        g,
-        le-ltb 2000 (length (e .request)) hq,
-        le-ltb 2000 (length (e .response)) ha,
-        zero-rest (e .request),
-        zero-rest (e .response),
-        zeros-of 24,
-      )
-      refl
+  record-good = ap recordBad laid ∙ reads-whole (e .key) (e .rand) (e .request) (e .response) hk hr hq ha

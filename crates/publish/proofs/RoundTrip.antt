@@ -17,7 +17,7 @@ use Rattle.laws.specs.Pick.{pick, either}
 use Rattle.laws.proofs.Bytes.{bytes-take, bytes-drop}
 use Rattle.laws.proofs.Pasted.{length-part}
 use Rattle.intake.specs.Entry.{Entry, Entries, these, entriesOf}
-use Rattle.intake.specs.Read.{isBig, anyBig, readOf, recordBytes}
+use Rattle.intake.specs.Read.{isBig, anyBig, readOf, pileBytes}
 use Rattle.intake.specs.Record.{recordOf, recordsOf}
 use Rattle.intake.specs.declared.Read.the-variants.{Records}
 use Rattle.intake.proofs.Elements.{neither-left, neither-right}
@@ -137,8 +137,8 @@ module _ (pile : List ℕ) (s : Sound pile) where
       )
       (none-big n (k + 1) (omega arith))
 
-  bytes-back : recordBytes (entriesOf (textOf pile)) ≡ pile
-  unfolding recordBytes
+  bytes-back : pileBytes (entriesOf (textOf pile)) ≡ pile
+  unfolding pileBytes
   bytes-back = rw entries-back (records-pile pile (s .are) (omega (arith, s .whole .exact)) (λ k h. s .undamaged k h))
 
   count-back : (room : ℕ) → length pile ≤ room → readOf (entriesOf (textOf pile)) room ≡ Records (recordsIn pile)
@@ -161,7 +161,7 @@ module _ (pile : List ℕ) (s : Sound pile) where
 pub report-back : (pile answers : List ℕ) (i j room : ℕ) → Bytes pile → Reports pile answers (Pair i j)
     → length pile ≤ room
     → (readOf (entriesOf (textOf pile)) room ≡ Records (recordsIn pile)) ×
-    (recordBytes (entriesOf (textOf pile)) ≡ pile)
+    (pileBytes (entriesOf (textOf pile)) ≡ pile)
 report-back pile answers i j room b r h =
     let s = sound pile answers i j b r in (count-back pile s room h, bytes-back pile s)
 

@@ -1,10 +1,12 @@
 -- What a string of base64 stands for, and how many bytes that is. A reader must believe `sizeOf`, `good` and `plain`.
-use Prim.Native.Nat.{ℕ, _+_, _-_, _≤_, _<_}
+use Prim.Native.Nat.{ℕ, _+_, _*_, _-_, _≤_, _<_}
 use mathlib.Core.Path.{_≡_}
 use mathlib.Core.Bool.{Bool, true, false}
 use mathlib.Core.List.{List, [], _∷_}
 use lib.ListN.{length}
+use Rattle.json.specs.Scan.{Passes}
 use Rattle.json.specs.Text.{contentAt}
+use Rattle.base64.specs.Alphabet.{isLetter}
 use Rattle.base64.specs.declared.Group.{Group}
 use Rattle.base64.specs.Decode.{Decoded, bytes, none, groupOf, decodeOf}
 use Rattle.quoted.specs.declared.Size.{Size}
@@ -32,7 +34,12 @@ abbrev pub plain : Decoded → List ℕ
 plain (bytes x) = x
 plain none = []
 
--- ---- For the private functions: a character, and a group of four, with what follows.
+-- ---- For the private functions: letters that are not escaped; a character, and a group of four, with what follows.
+
+-- so many groups of four letters
+pub record Lettered (s : List ℕ) (at groups : ℕ) : Type 0 where
+  pub inside : 4 * groups ≤ length s - at
+  pub letters : Passes isLetter s at (4 * groups)
 
 pub record Reads (s : List ℕ) (k c j : ℕ) : Type 0 where
   pub text : contentAt s k ≡ c ∷ contentAt s j

@@ -2,9 +2,10 @@
 ghost use mathlib.Core.Path.{_≡_};
 ghost use mathlib.Core.Bool.{true};
 ghost use Rattle.json.specs.Text.{contentAt};
-ghost use Rattle.quoted.specs.Sized.{CharOf, QuadOf, empty};
+ghost use Rattle.quoted.specs.Sized.{CharOf, QuadOf, Lettered, empty};
 use super::Letter;
 use super::Quad;
+use super::stretches::four;
 use json::Unit;
 
 // Whether the string ends at a place.
@@ -31,8 +32,8 @@ fn letter_at(s: &[u8], k: usize) -> Letter
     }
 }
 
-// The four characters at a place.
-pub fn quad_of(s: &[u8], k: usize) -> Quad
+// The four characters at a place, one by one.
+fn quad_singly(s: &[u8], k: usize) -> Quad
     ensures { λ r. ⌜ QuadOf (now (s .entry)) k r ⌝ }
 {
     let Letter::Is(a, i) = letter_at(s, k) else {
@@ -48,4 +49,23 @@ pub fn quad_of(s: &[u8], k: usize) -> Quad
         return Quad::Fewer;
     };
     Quad::Four(base64::group_of(a, b, c, d), n)
+}
+
+// The four letters at a place.
+fn quad_together(s: &[u8], k: usize) -> Quad
+    requires { ⌜ Lettered (now s) k 1 ⌝ }
+    ensures { λ r. ⌜ QuadOf (now (s .entry)) k r ⌝ }
+{
+    Quad::Four(base64::three_of(s[k], s[k + 1], s[k + 2], s[k + 3]), k + 4)
+}
+
+// The four characters at a place.
+pub fn quad_of(s: &[u8], k: usize) -> Quad
+    ensures { λ r. ⌜ QuadOf (now (s .entry)) k r ⌝ }
+{
+    if four(s, k) {
+        quad_together(s, k)
+    } else {
+        quad_singly(s, k)
+    }
 }

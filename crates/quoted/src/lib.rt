@@ -1,8 +1,9 @@
 // Base64 in the strings of a JSON text, read where it lies: after unescaping, character by character, since a writer of
-// JSON may escape any letter, and some escape each `/`.
+// JSON may escape any letter, and some escape each `/`. Letters that stand unescaped, as most do, are read together.
 mod decoding;
 mod groups;
 mod sizing;
+mod stretches;
 
 use base64::Group;
 pub use decoding::decode;

@@ -8,14 +8,16 @@ use super::Quad;
 use super::Size;
 use super::groups::at_end;
 use super::groups::quad_of;
+use super::stretches::groups;
 use base64::Group;
 
 // How many bytes the string whose characters start at a place stands for.
 pub fn size_of(s: &[u8], at: usize) -> Size
     ensures { λ r. ⌜ r ≡ sizeOf 0 (decodeOf (contentAt (now (s .entry)) at)) ⌝ }
 {
-    let mut k = at;
-    let mut n = 0;
+    let quick = groups(s, at);
+    let mut k = at + 4 * quick;
+    let mut n = 3 * quick;
     loop {
         match quad_of(s, k) {
             Quad::End => {

@@ -2,7 +2,7 @@
 use mathlib.Core.Path.{_≡_, refl, sym, subst, _∙_, ap}
 use mathlib.Core.Bool.{Bool, true, false, not}
 use mathlib.Core.List.{List}
-use Prim.Native.Nat.{ℕ}
+use Prim.Native.Nat.{ℕ, _<_}
 use native.Mathlib.Omega.{arith}
 use lib.Dec.{T}
 use Rattle.verdict.specs.declared.Verdict.{Verdict}
@@ -42,11 +42,12 @@ module _ (v : ℕ → Verdict) (l : ℕ → Bool) (n : ℕ) where
       go (Valid w) q = absurd (subst (λ (y : Verdict). T (not (valid y))) q (f .holds))
       go (Refused x) q = subst (λ (y : Report). Says v l n y) (sym (e ∙ ap (λ (y : Verdict). recordOf y k) q)) (f, q)
 
-  -- where no record is refused and no flag is missing, the ends of the run are the pair
-  pub span-says : Never (refused v) n → Never (loose l) n → (s : Span) → Answers (Convicts v l n) s
-      → Says v l n (spanReport s)
-  span-says f g s a =
-      go s (pair-of-run v l n (λ k u. not-not (valid (v k)) (f k u)) (λ k z u. not-not (l k) (g k u)) s a)
+  -- where no record is refused and no flag is missing, the ends of the run are the pair. It may be sought with any flags
+  -- that are all set
+  pub span-says : Never (refused v) n → Never (loose l) n → (set : ℕ → Bool) → ((k : ℕ) → k < n → T (set k))
+      → (s : Span) → Answers (Convicts v set n) s → Says v l n (spanReport s)
+  span-says f g set all s a =
+      go s (pair-of-run v set n (λ k u. not-not (valid (v k)) (f k u)) (λ k z u. all k u) s a)
     where
       go : (s : Span) → Answers (Contradiction v n) s → Says v l n (spanReport s)
       go (Places i j) m = (f, g, m)

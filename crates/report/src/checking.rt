@@ -2,13 +2,12 @@
 // that contradicts.
 ghost use mathlib.Core.Path.{_≡_};
 ghost use Prim.Native.Nat.{_≤_};
-ghost use Rattle.runs.specs.Convict.{verdictIn, flagIn};
-ghost use Rattle.report.specs.Report.{Says, Reports, reportNumber, ReportNumbered};
+ghost use Rattle.runs.specs.Convict.{verdictIn};
+ghost use Rattle.report.specs.Report.{joined, Says, Reports, reportNumber, ReportNumbered};
 use super::Found;
 use super::Report;
-use super::gathering::flags_of;
-use super::gathering::verdicts_of;
-use super::scanning::first_loose;
+use super::gathering::verdicts_until;
+use super::linking::first_loose;
 use super::scanning::first_refused;
 use super::scanning::of_record;
 use pile::RECORD;
@@ -17,7 +16,7 @@ use runs::Span;
 use runs::shortest_run;
 use verdict::Verdict;
 
-// Whether the pile is a report, and the pair that it names.
+// Whether the pile is a report, and the pair that it names. Behind a record that is refused nothing is looked at.
 pub fn check_report<'a>(pile: &'a [u8], answers: &'a [u8]) -> Report
     ensures { λ r. ⌜ ReportNumbered (now (pile .entry)) (now (answers .entry)) (reportNumber r) ⌝ }
     ensures { λ r. ⌜ Reports (now (pile .entry)) (now (answers .entry)) r ⌝ }
@@ -26,25 +25,24 @@ pub fn check_report<'a>(pile: &'a [u8], answers: &'a [u8]) -> Report
         return Report::Bad;
     }
     let n = pile.len() / RECORD;
-    let verdicts = verdicts_of(pile, answers);
-    let flags = flags_of(pile);
-    said_of(verdicts, flags, n)
+    let verdicts = verdicts_until(pile, answers);
+    said_of(pile, verdicts, n)
 }
 
-// The same of n records of which the verdicts and flags are known. Where no record is refused and no flag is missing,
-// the two ends of the shortest run are the pair.
-pub fn said_of(verdicts: [Verdict; 16], flags: [bool; 16], n: usize) -> Report
+// The same of the first n records, of which the verdicts are known. Links are hashed only where no record is refused.
+// Where all are linked, too, the two ends of the shortest run are the pair.
+pub fn said_of(pile: &[u8], verdicts: [Verdict; 16], n: usize) -> Report
     requires { ⌜ n ≤ 16 ⌝ }
-    ensures { λ r. ⌜ Says (verdictIn verdicts) (flagIn flags) n r ⌝ }
+    ensures { λ r. ⌜ Says (verdictIn verdicts) (joined (now (pile .entry))) n r ⌝ }
 {
     match first_refused(verdicts, n) {
         Found::At(k) => {
             let v = verdicts[k];
             of_record(v, k)
         }
-        Found::Nothing => match first_loose(flags, n) {
+        Found::Nothing => match first_loose(pile, n) {
             Found::At(k) => Report::Unlinked(k),
-            Found::Nothing => match shortest_run(verdicts, flags, n) {
+            Found::Nothing => match shortest_run(verdicts, [true; 16], n) {
                 Span::Places(i, j) => Report::Pair(i, j),
                 Span::Nothing => Report::Clear,
             },

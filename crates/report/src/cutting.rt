@@ -7,8 +7,8 @@ ghost use Rattle.runs.specs.Spans.{Answers};
 ghost use Rattle.laws.specs.Written.{written, Puts};
 ghost use Rattle.report.specs.Taking.{ConvictsIn, Takes, runBytes, takenNumber, takenBytes};
 use super::Taken;
-use super::gathering::flags_of;
 use super::gathering::verdicts_of;
+use super::linking::links_of;
 use octets::put;
 use octets::zero;
 use pile::RECORD;
@@ -40,15 +40,15 @@ pub fn cut_run<'a>(pile: &'a [u8], answers: &'a [u8], out: &mut [u8]) -> Taken
     }
 }
 
-// The shortest run. The first flag, which is about the first rand, plays no part in it.
+// The shortest run. That the pile is good was asked by the caller.
 pub fn run_in<'a>(pile: &'a [u8], answers: &'a [u8]) -> Span
     requires { ⌜ GoodPile (now pile) (now answers) ⌝ }
     ensures { λ r. ⌜ Answers (ConvictsIn (now (pile .entry)) (now (answers .entry))) r ⌝ }
 {
     let n = pile.len() / RECORD;
     let verdicts = verdicts_of(pile, answers);
-    let flags = flags_of(pile);
-    shortest_run(verdicts, flags, n)
+    let links = links_of(pile, verdicts);
+    shortest_run(verdicts, links, n)
 }
 
 // Records i to j at the front of out, the first one's rand set to zero.

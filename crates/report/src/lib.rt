@@ -4,6 +4,7 @@
 mod checking;
 mod cutting;
 mod gathering;
+mod linking;
 mod scanning;
 
 pub use checking::check_report;
@@ -11,8 +12,8 @@ pub use checking::said_of;
 pub use cutting::cut_run;
 pub use cutting::put_run;
 pub use cutting::run_in;
-pub use gathering::flags_of;
 pub use gathering::verdicts_of;
+pub use linking::links_of;
 use refusal::Refusal;
 
 // What is said of a pile: the two records that contradict, where it is a report, or why it is none. A refused record

@@ -1,9 +1,9 @@
-// The first record that is refused, and the first whose flag is not set.
+// The first record that is refused, and what is said of it.
 ghost use mathlib.Core.Path.{_≡_};
 ghost use Prim.Native.Nat.{_≤_};
-ghost use Rattle.runs.specs.Convict.{verdictIn, flagIn};
+ghost use Rattle.runs.specs.Convict.{verdictIn};
 ghost use Rattle.report.specs.Promises.{FirstAt, recordOf};
-ghost use Rattle.report.specs.Report.{refused, loose};
+ghost use Rattle.report.specs.Report.{refused};
 use super::Found;
 use super::Report;
 use verdict::Verdict;
@@ -20,19 +20,6 @@ pub fn first_refused(verdicts: [Verdict; 16], n: usize) -> Found
                 return Found::At(k);
             }
             Verdict::Valid(_) => {}
-        }
-    }
-    Found::Nothing
-}
-
-// The first of n records whose flag is not set.
-pub fn first_loose(flags: [bool; 16], n: usize) -> Found
-    requires { ⌜ n ≤ 16 ⌝ }
-    ensures { λ r. ⌜ FirstAt (loose (flagIn flags)) n r ⌝ }
-{
-    for k in 0..n {
-        if !flags[k] {
-            return Found::At(k);
         }
     }
     Found::Nothing

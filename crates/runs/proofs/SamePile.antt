@@ -3,7 +3,7 @@
 use mathlib.Core.Path.{_≡_, refl, sym, subst, ap, _∙_}
 use mathlib.Core.Bool.{Bool}
 use mathlib.Core.Logic.{_↔_}
-use Prim.Native.Nat.{ℕ, _<_}
+use Prim.Native.Nat.{ℕ, _-_, _<_}
 use native.Mathlib.Omega.{arith}
 use lib.Dec.{T}
 use Rattle.laws.specs.Pairs.{IsLeast}
@@ -113,6 +113,39 @@ alike-answer v w l k n e f =
 pub same-answer : (v w : ℕ → Verdict) (l k : ℕ → Bool) (n : ℕ) → ((i : ℕ) → i < n → v i ≡ w i)
     → ((i : ℕ) → 0 < i → i < n → l i ≡ k i) → (r : Span) → Answers (Convicts v l n) r → Answers (Convicts w k n) r
 same-answer v w l k n e f = alike-answer v w l k n (λ i u. alike-same (e i u)) f
+
+-- No run asks whether a record is linked where that record or the one before it is refused: flags that agree on the
+-- others give the same runs,
+still-linked : (v : ℕ → Verdict) (l k : ℕ → Bool) (n : ℕ)
+    → ((i : ℕ) → 0 < i → i < n → T (valid (v (i - 1))) → T (valid (v i)) → l i ≡ k i) → (a b : ℕ)
+    → Convicts v l n a b → Convicts v k n a b
+still-linked v l k n f a b c =
+    let valid-at = c .clean .all-valid in
+    record {
+      inside = c .inside;
+      clean = record {
+        all-valid = valid-at;
+        all-linked = λ i p q.
+            subst T
+            (f i (omega arith) (omega (arith, c .inside)) (valid-at (i - 1) (omega arith) (omega arith))
+            (valid-at i (omega arith) q))
+            (c .clean .all-linked i p q);
+      };
+      i = c .i;
+      j = c .j;
+      from = c .from;
+      order = c .order;
+      to = c .to;
+      clash = c .clash;
+    }
+
+-- and the same answer
+pub linked-answer : (v : ℕ → Verdict) (l k : ℕ → Bool) (n : ℕ)
+    → ((i : ℕ) → 0 < i → i < n → T (valid (v (i - 1))) → T (valid (v i)) → l i ≡ k i) → (r : Span)
+    → Answers (Convicts v l n) r → Answers (Convicts v k n) r
+linked-answer v l k n f =
+    same-span (Convicts v l n) (Convicts v k n)
+    (λ a b. (still-linked v l k n f a b, still-linked v k l n (λ i z u p q. sym (f i z u p q)) a b))
 
 -- Demand 3 does not read MINT and MAXT (request P9): of two piles of which the verdicts differ in these at the most,
 -- and the links in nothing, the run is the same. The key stands in no verdict.

@@ -7,17 +7,18 @@ use super::compare::both_contradict;
 use super::compare::is_valid;
 use verdict::Verdict;
 
-// Whether the run from a to b is clean, and its first and last record contradict.
+// Whether the run from a to b is clean, and its first and last record contradict. These two are compared first, since
+// that is little work and rules most runs out.
 pub fn exposes(verdicts: [Verdict; 16], linked: [bool; 16], a: usize, b: usize) -> bool
     requires { ⌜ (a ≤ b) × (b < 16) ⌝ }
     ensures { λ r. ⌜ Tells r (Exposes (verdictIn verdicts) (flagIn linked) a b) ⌝ }
 {
-    if !is_clean(verdicts, linked, a, b) {
-        return false;
-    }
     let v = verdicts[a];
     let w = verdicts[b];
-    both_contradict(v, w)
+    if !both_contradict(v, w) {
+        return false;
+    }
+    is_clean(verdicts, linked, a, b)
 }
 
 // Whether each record from a to b is valid, and each after a linked.

@@ -5,6 +5,7 @@ mod inspect;
 mod search;
 
 pub use compare::contradicts;
+pub use compare::is_valid;
 pub use search::capped;
 pub use search::shortest_run;
 

@@ -2,7 +2,6 @@
 -- and of Own in `own-bad-exactly`.
 pub mod Verdicts
 pub mod Own
-pub mod Stopping
 pub mod Fed
 pub mod Passing
 pub mod Alone

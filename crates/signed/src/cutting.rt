@@ -10,7 +10,7 @@ use super::gathering::signed_verdicts;
 use pile::RECORD;
 use pile::length_bad;
 use report::Taken;
-use report::flags_of;
+use report::links_of;
 use report::put_run;
 use runs::Span;
 use runs::shortest_run;
@@ -45,6 +45,6 @@ pub fn signed_run(pile: &[u8]) -> Span
 {
     let n = pile.len() / RECORD;
     let verdicts = signed_verdicts(pile);
-    let flags = flags_of(pile);
-    shortest_run(verdicts, flags, n)
+    let links = links_of(pile, verdicts);
+    shortest_run(verdicts, links, n)
 }

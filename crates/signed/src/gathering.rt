@@ -1,17 +1,16 @@
 // The verdicts on the records of a pile, each judged once.
 ghost use mathlib.Core.Path.{_≡_};
-ghost use mathlib.Core.Bool.{not};
 ghost use Prim.Native.Nat.{ℕ, _<_};
 ghost use Rattle.pile.specs.Meaning.{WholePile};
 ghost use Rattle.pile.specs.Pile.{recordsIn};
+ghost use Rattle.report.specs.Promises.{UpToRefused};
 ghost use Rattle.report.specs.Report.{judged};
-ghost use Rattle.runs.specs.Clash.{valid};
 ghost use Rattle.runs.specs.Convict.{verdictIn};
 ghost use Rattle.signed.specs.Answers.{ownAnswers};
-ghost use Rattle.signed.specs.Facts.{UpToRefused};
 use super::judging::checked_at;
 use pile::RECORD;
 use refusal::PASSED;
+use runs::is_valid;
 use verdict::Verdict;
 
 // The verdicts on all records.
@@ -49,20 +48,10 @@ pub fn verdicts_until(pile: &[u8]) -> [Verdict; 16]
         let c = checked_at(pile, k);
         let v = c.verdict;
         verdicts[k] = v;
-        if is_refusal(v) {
+        if !is_valid(v) {
             return verdicts;
         }
         k += 1;
     }
     verdicts
-}
-
-// The verdict is a refusal.
-fn is_refusal(v: Verdict) -> bool
-    ensures { λ r. ⌜ r ≡ not (valid v) ⌝ }
-{
-    match v {
-        Verdict::Valid(_) => false,
-        Verdict::Refused(_) => true,
-    }
 }

@@ -5,7 +5,6 @@ use super::gathering::verdicts_until;
 use pile::RECORD;
 use pile::length_bad;
 use report::Report;
-use report::flags_of;
 use report::said_of;
 
 // Whether the pile is a report, and the pair that it names. Behind a record that is refused nothing is verified.
@@ -18,6 +17,5 @@ pub fn check_signed_report(pile: &[u8]) -> Report
     }
     let n = pile.len() / RECORD;
     let verdicts = verdicts_until(pile);
-    let flags = flags_of(pile);
-    said_of(verdicts, flags, n)
+    said_of(pile, verdicts, n)
 }

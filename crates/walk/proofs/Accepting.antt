@@ -14,7 +14,7 @@ use Rattle.verdict.specs.Check.{checkCode}
 use Rattle.wire.specs.Response.{responseCode}
 use Rattle.wire.proofs.Packets.{packet-0}
 use Rattle.walk.specs.State.{overOf, Going, requestNow}
-use Rattle.walk.specs.Starting.{serversIn, keysBad, startCode}
+use Rattle.walk.specs.Starting.{serversIn, twice, keysBad, startCode}
 use Rattle.walk.specs.Asking.{askCode}
 use Rattle.walk.specs.Taking.{clockWrong, responseCodeNow, takeCode}
 use Rattle.walk.specs.declared.Walk.{Walk}
@@ -82,6 +82,7 @@ pub record Begun (keys : List ℕ) (room : ℕ) : Type 0 where
   pub from : 3 ≤ serversIn keys
   pub to : serversIn keys ≤ 8
   pub whole : length keys ≡ 32 * serversIn keys
+  pub differ : twice keys (serversIn keys) ≡ false
   pub fits : 8192 * serversIn keys ≤ room
 
 pub begun : (keys : List ℕ) (room : ℕ) {x : Refusal} → x ≡ startCode keys room → x .code ≡ 0 → Begun keys room
@@ -96,6 +97,7 @@ begun keys room e z =
       from = ltb-false _ _ (q .0);
       to = ltb-false _ _ (r .0);
       whole = omega arith;
+      differ = any-parts _ _ (r .1) .0;
       fits = ltb-false _ _ (test-quiet refusals _ _ tt (row-quiet refusals _ _ (a .1) .0));
     }
 

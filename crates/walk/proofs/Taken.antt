@@ -1,14 +1,27 @@
 -- What is said of an accepted response, from what the steps of the call did.
-use Prim.Native.Nat.{ℕ}
+use Prim.Native.Nat.{ℕ, _+_, _*_, _≤_}
 use mathlib.Core.Path.{_≡_, refl, sym, subst, ap}
 use mathlib.Core.List.{List}
-use lib.ListN.{length}
+use lib.ListN.{length, take, replicate}
+use native.Mathlib.Omega.{arith}
+use Rattle.laws.proofs.Pasted.{take-replicate}
 use Rattle.refusal.specs.declared.Refusal.{Refusal}
+use Rattle.report.specs.Report.{Reports}
+use Rattle.report.specs.declared.Report.{Report}
+use Rattle.walk.specs.State.{Going}
 use Rattle.walk.specs.Taking.{takeCode, recorded, movedOn, SaidOf, Takes, saidNumber, walkAfter, pileAfter}
+use Rattle.walk.specs.Taking.{pileOf, allYes}
 use Rattle.walk.specs.declared.Walk.{Walk}
 use Rattle.walk.specs.declared.Heard.{Heard}
 use Rattle.walk.specs.declared.Said.{Said}
 use Rattle.walk.specs.declared.Said.the-variants.{Next, Ended, Refused}
+
+-- the last record ends the walk, with what the check says of the n at the front: two a server
+pub ends : (w : Walk) (buffer : List ℕ) (n : ℕ) (r : Report) → Going w → 2 * w .count ≤ w .step + 1 → n ≡ 2 * w .count
+    → Reports (pileOf n buffer) (take (2 * n) (replicate 32 1)) r → SaidOf w buffer (Ended r)
+ends w buffer n r g l e p =
+    let y = take-replicate 32 (2 * n) 1 (omega (arith, g .to)) in
+    (l, subst (λ (m : ℕ). Reports (pileOf m buffer) (allYes m) r) e (rw y at p))
 
 module _ (w : Walk) (h : Heard) (response buffer : List ℕ) where
   -- the four clauses of the contract: what is said, with the state v and the buffer b afterwards

@@ -1,7 +1,7 @@
 -- `capi::publishing::tb_read_report` meets its contract.
 use mathlib.Core.Path.{ap, _∙_}
 use Rattle.intake.specs.Entry.{entriesOf}
-use Rattle.intake.specs.Read.{recordBytes}
+use Rattle.intake.specs.Read.{pileBytes}
 use Rattle.told.specs.Publishing.{tbRecords}
 use Rattle.capi.proofs.ReadNumbers.{read-left}
 use borrow.Author.Needs.{needs}
@@ -14,7 +14,7 @@ returns c =
     let e = read .ensures in
     let a = c .before .before .before .before .before .before .before .args in
     let is = c .read-told .ensures in
-    (is ∙ ap tbRecords (e .0), read-left (read .result) (recordBytes (entriesOf (a .text .now))) (a .out .now) is (e .1))
+    (is ∙ ap tbRecords (e .0), read-left (read .result) (pileBytes (entriesOf (a .text .now))) (a .out .now) is (e .1))
 
 pub tb-read-report-spec : {M : Type 1} → statement M
 tb-read-report-spec =

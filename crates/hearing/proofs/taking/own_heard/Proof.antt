@@ -7,9 +7,4 @@ returns : tie.Need-returns
 returns c = rw (c .answers .ensures, c .before .key-of .ensures)
 
 pub own-heard-spec : {M : Type 1} → statement M
-own-heard-spec =
-    tie.close
-    (tie.spec
-    (λ c κs. search needs)
-    (λ c κs. search needs)
-    returns)
+own-heard-spec = tie.close (tie.spec (λ c κs. search needs) (λ c κs. search needs) returns)

@@ -5,8 +5,9 @@ use mathlib.Core.Path.{_∙_, ap}
 use native.Mathlib.Omega.{arith}
 use Rattle.laws.proofs.Pasted.{part-back}
 use Rattle.intake.specs.Entry.{memberOf, held}
-use Rattle.intake.specs.Record.{padded}
-use Rattle.intake.proofs.Areas.{padded-length, part-length}
+use Rattle.pile.specs.Recording.{padded}
+use Rattle.pile.proofs.Recorded.{length-padded}
+use Rattle.intake.proofs.Areas.{part-length}
 use Rattle.intake.proofs.records.put_member.Statement.{statement}
 use Rattle.intake.proofs.records.put_member.Tie as tie
 
@@ -22,7 +23,7 @@ returns c =
     let l = part-length (a .out .now) (a .at) (a .n) (p .1 .1) in
     let x = held (memberOf (a .s .now) (a .k) (a .w .now)) in
     part-back (a .out .now) (a .at) (a .at + a .n - a .at)
-    (c .before .before .fill-member .ensures ∙ ap (λ (n : ℕ). padded n x) l) (padded-length (a .n) x (p .1 .0)
+    (c .before .before .fill-member .ensures ∙ ap (λ (n : ℕ). padded n x) l) (length-padded (a .n) x (p .1 .0)
     ∙ omega arith)
 
 pub put-member-spec : {M : Type 1} → statement M

@@ -2,7 +2,6 @@ use borrow.Author.Needs.{needs}
 use Prim.Native.Nat.{suc, _-_}
 use mathlib.Core.Path.{_≡_, refl, sym, _∙_, ap}
 use lib.ListN.{length}
-use denote.Ref.{now}
 use Rattle.json.specs.Members.{membersOf, answerOf, tally, foundOf}
 use Rattle.json.specs.Value.{memberStep, valueAt}
 use Rattle.json.specs.Walk.{starts}
@@ -31,81 +30,49 @@ loop-holds c = ap (tally _ _ 0 0) (rw (sym (c .before .before .blanks .ensures))
 
 loop-less : tie.Need-loop-less Inv-loop μ-loop
 loop-less c =
-    turn-falls _
-    (memberStep
-    (now (c .before .before .before .before .before .before .before .before .before .before .before .before .before
-    .before .args .s))
-    (valueAt
-    (now (c .before .before .before .before .before .before .before .before .before .before .before .before .before
-    .before .args .s))
-    (c .before .before .before .before .before .before .before .before .before .before .before .before .before .before
-    .args .depth)))
-    (forth-members
-    (now (c .before .before .before .before .before .before .before .before .before .before .before .before .before
-    .before .args .s))
-    (c .before .before .before .before .before .before .before .before .before .before .before .before .before .before
-    .args .depth)) _ (c .before .before .before .member .ensures) (c .before .j .given .1)
+    let a =
+    c .before .before .before .before .before .before .before .before .before .before .before .before .before .args in
+    let s = a .s .now in
+    turn-falls _ (memberStep s (valueAt s (a .depth))) (forth-members s (a .depth)) _
+    (c .before .before .before .member .ensures) (c .before .j .given .1)
 
 loop-again : tie.Need-loop-again Inv-loop μ-loop
 loop-again c =
-    tally-more
-    (now (c .before .before .before .before .before .before .before .before .before .before .before .before .before
-    .before .args .s))
-    (now (c .before .before .before .before .before .before .before .before .before .before .before .before .before
-    .before .args .w)) (c .before .before .before .before .before .before .before .before .loop .n)
-    (c .before .before .before .before .before .before .before .before .loop .v)
-    (c .before .before .before .before .before .before .before .before .loop .k)
-    (c .before .before .before .before .before .before .before .is-named .ensures)
-    (c .before .before .before .before .before .before .one-more .ensures)
-    (c .before .before .before .before .before .value-place .ensures)
-    (c .before .before .before .before .choose .ensures) _
-    (starts-more _
-    (memberStep
-    (now (c .before .before .before .before .before .before .before .before .before .before .before .before .before
-    .before .args .s))
-    (valueAt
-    (now (c .before .before .before .before .before .before .before .before .before .before .before .before .before
-    .before .args .s))
-    (c .before .before .before .before .before .before .before .before .before .before .before .before .before .before
-    .args .depth)))
-    (forth-members
-    (now (c .before .before .before .before .before .before .before .before .before .before .before .before .before
-    .before .args .s))
-    (c .before .before .before .before .before .before .before .before .before .before .before .before .before .before
-    .args .depth)) _ (c .before .before .before .member .ensures) (c .before .j .given .1))
-    ∙ c .before .before .before .before .before .before .before .before .loop .inv
+    let a =
+    c .before .before .before .before .before .before .before .before .before .before .before .before .before .args in
+    let s = a .s .now in
+    let l = c .before .before .before .before .before .before .before .loop in
+    tally-more s (a .w .now) (l .n) (l .v) (l .k)
+    (c .before .before .before .before .before .before .is-named .ensures)
+    (c .before .before .before .before .before .one-more .ensures)
+    (c .before .before .before .before .latest .ensures) _
+    (starts-more _ (memberStep s (valueAt s (a .depth))) (forth-members s (a .depth)) _
+    (c .before .before .before .member .ensures) (c .before .j .given .1))
+    ∙ l .inv
 
 returns-2 : tie.Need-returns-2 Inv-loop μ-loop
 returns-2 c =
-    tally-last
-    (now (c .before .before .before .before .before .before .before .before .before .before .before .before .before
-    .before .args .s))
-    (now (c .before .before .before .before .before .before .before .before .before .before .before .before .before
-    .before .args .w)) (c .before .before .before .before .before .before .before .before .loop .n)
-    (c .before .before .before .before .before .before .before .before .loop .v)
-    (c .before .before .before .before .before .before .before .before .loop .k)
-    (c .before .before .before .before .before .before .before .is-named .ensures)
-    (c .before .before .before .before .before .before .one-more .ensures)
-    (c .before .before .before .before .before .value-place .ensures)
-    (c .before .before .before .before .choose .ensures)
+    let a =
+    c .before .before .before .before .before .before .before .before .before .before .before .before .before .args in
+    let l = c .before .before .before .before .before .before .before .loop in
+    tally-last (a .s .now) (a .w .now) (l .n) (l .v) (l .k)
+    (c .before .before .before .before .before .before .is-named .ensures)
+    (c .before .before .before .before .before .one-more .ensures)
+    (c .before .before .before .before .latest .ensures)
     (starts-end _ _ _ (c .before .before .before .member .ensures) (c .before .enum-told .given .1))
-    (c .answer .ensures) ∙ c .before .before .before .before .before .before .before .before .loop .inv
+    (c .answer .ensures) ∙ l .inv
 
 returns-3 : tie.Need-returns-3 Inv-loop μ-loop
 returns-3 c =
-    tally-last
-    (now (c .before .before .before .before .before .before .before .before .before .before .before .before .before
-    .before .args .s))
-    (now (c .before .before .before .before .before .before .before .before .before .before .before .before .before
-    .before .args .w)) (c .before .before .before .before .before .before .before .before .loop .n)
-    (c .before .before .before .before .before .before .before .before .loop .v)
-    (c .before .before .before .before .before .before .before .before .loop .k)
-    (c .before .before .before .before .before .before .before .is-named .ensures)
-    (c .before .before .before .before .before .before .one-more .ensures)
-    (c .before .before .before .before .before .value-place .ensures)
-    (c .before .before .before .before .choose .ensures)
+    let a =
+    c .before .before .before .before .before .before .before .before .before .before .before .before .before .args in
+    let l = c .before .before .before .before .before .before .before .loop in
+    tally-last (a .s .now) (a .w .now) (l .n) (l .v) (l .k)
+    (c .before .before .before .before .before .before .is-named .ensures)
+    (c .before .before .before .before .before .one-more .ensures)
+    (c .before .before .before .before .latest .ensures)
     (starts-wrong _ _ _ (c .before .before .before .member .ensures) (c .before .enum-told2 .given .1))
-    (c .answer2 .ensures) ∙ c .before .before .before .before .before .before .before .before .loop .inv
+    (c .answer2 .ensures) ∙ l .inv
 
 pub find-spec : {M : Type 1} → statement M
 find-spec =
@@ -118,7 +85,6 @@ find-spec =
     (λ c κs. search needs)
     returns
     loop-holds
-    (λ c κs. search needs)
     (λ c κs. search needs)
     (λ c κs. search needs)
     (λ c κs. search needs)

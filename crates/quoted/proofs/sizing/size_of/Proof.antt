@@ -9,18 +9,23 @@ use Rattle.base64.specs.Decode.{decodeOf}
 use Rattle.quoted.specs.Sized.{sizeOf, Grouped}
 use Rattle.quoted.proofs.Quads.{size-three, size-two, size-two-more, size-one, size-one-more, size-bad, size-end}
 use Rattle.quoted.proofs.Quads.{size-fewer}
+use Rattle.quoted.proofs.Lettered.{size-letters}
 use Rattle.quoted.proofs.sizing.size_of.Statement.{statement}
 use Rattle.quoted.proofs.sizing.size_of.Tie as tie
 
 abbrev Inv-loop : tie.InvT-loop
-Inv-loop s at k₀ n₀ k n =
+Inv-loop s at quick k₀ n₀ k n =
     (n + (length s - k) ≤ length s) × (sizeOf n (decodeOf (contentAt s k)) ≡ sizeOf 0 (decodeOf (contentAt s at)))
 
 abbrev μ-loop : tie.MeasureT-loop
-μ-loop s at k₀ n₀ k n = length s - k
+μ-loop s at quick k₀ n₀ k n = length s - k
+
+add-k : tie.Need-add-k Inv-loop μ-loop
+add-k c = let l = c .groups .ensures .inside in search needs
 
 loop-holds : tie.Need-loop-holds Inv-loop μ-loop
-loop-holds c = (omega arith, refl)
+loop-holds c =
+    (omega arith, size-letters (c .groups .result) (c .groups .ensures))
 
 returns : tie.Need-returns Inv-loop μ-loop
 returns c = size-end _ _ _ (rw (c .enum-told .given .1) at (c .before .before .quad-of .ensures))
@@ -33,21 +38,21 @@ returns-2 c =
 
 add-n : tie.Need-add-n Inv-loop μ-loop
 add-n c =
-    let q : Grouped (now (c .before .before .before .before .before .before .before .before .args .s))
+    let q : Grouped (now (c .before .before .before .before .before .before .before .before .before .args .s))
     (c .before .before .before .before .before .before .loop .k) _ _ =
     (rw (c .before .before .before .g .given .1) at (c .before .before .before .before .before .quad-of .ensures)) in
     search needs
 
 loop-less : tie.Need-loop-less Inv-loop μ-loop
 loop-less c =
-    let q : Grouped (now (c .before .before .before .before .before .before .before .before .args .s))
+    let q : Grouped (now (c .before .before .before .before .before .before .before .before .before .args .s))
     (c .before .before .before .before .before .before .loop .k) _ _ =
     (rw (c .before .before .before .g .given .1) at (c .before .before .before .before .before .quad-of .ensures)) in
     omega arith
 
 loop-again : tie.Need-loop-again Inv-loop μ-loop
 loop-again c =
-    let q : Grouped (now (c .before .before .before .before .before .before .before .before .args .s))
+    let q : Grouped (now (c .before .before .before .before .before .before .before .before .before .args .s))
     (c .before .before .before .before .before .before .loop .k) _ _ =
     (rw (c .before .before .before .g .given .1) at (c .before .before .before .before .before .quad-of .ensures)) in (
       omega arith,
@@ -55,9 +60,10 @@ loop-again c =
           ∙ c .before .before .before .before .before .before .loop .inv .1,
     )
 
-add-t9 : tie.Need-add-t9 Inv-loop μ-loop
-add-t9 c =
-    let q : Grouped (now (c .before .before .before .before .before .before .before .before .before .before .args .s))
+add-t11 : tie.Need-add-t11 Inv-loop μ-loop
+add-t11 c =
+    let q : Grouped
+    (now (c .before .before .before .before .before .before .before .before .before .before .before .args .s))
     (c .before .before .before .before .before .before .before .before .loop .k) _ _ =
     (rw (c .before .before .before .before .before .g .given .1) at
     (c .before .before .before .before .before .before .before .quad-of .ensures)) in search needs
@@ -78,9 +84,10 @@ returns-4 c =
     (c .before .before .enum-told4 .given .1) (c .before .at-end .ensures) (c .if1 .left)
     ∙ c .before .before .before .before .before .before .before .before .loop .inv .1
 
-add-t11 : tie.Need-add-t11 Inv-loop μ-loop
-add-t11 c =
-    let q : Grouped (now (c .before .before .before .before .before .before .before .before .before .before .args .s))
+add-t13 : tie.Need-add-t13 Inv-loop μ-loop
+add-t13 c =
+    let q : Grouped
+    (now (c .before .before .before .before .before .before .before .before .before .before .before .args .s))
     (c .before .before .before .before .before .before .before .before .loop .k) _ _ =
     (rw (c .before .before .before .before .before .g .given .1) at
     (c .before .before .before .before .before .before .before .quad-of .ensures)) in search needs
@@ -113,6 +120,10 @@ size-of-spec =
     (tie.spec
     Inv-loop
     μ-loop
+    (λ c κs. search needs)
+    (λ c. search needs)
+    add-k
+    (λ c. search needs)
     loop-holds
     (λ c κs. search needs)
     (λ c. search needs)
@@ -126,12 +137,12 @@ size-of-spec =
     loop-again
     (λ c. search needs)
     (λ c κs. search needs)
-    add-t9
+    add-t11
     returns-3
     returns-4
     (λ c. search needs)
     (λ c κs. search needs)
-    add-t11
+    add-t13
     returns-5
     returns-6
     (λ c. search needs)

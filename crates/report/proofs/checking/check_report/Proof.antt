@@ -1,17 +1,16 @@
 -- `report::checking::check_report` meets its contract. What is said of the arrays is said of the pile.
 use mathlib.Core.Path.{sym}
-use native.Mathlib.Omega.{arith}
 use Rattle.laws.proofs.First.{quiet-of}
 use Rattle.refusal.specs.Refusal.{refusals}
 use Rattle.pile.specs.Meaning.{GoodPile}
 use Rattle.pile.specs.Pile.{recordsIn}
 use Rattle.pile.proofs.Exactly.{pile-exactly}
-use Rattle.runs.specs.Convict.{verdictIn, flagIn}
+use Rattle.runs.specs.Convict.{verdictIn}
 use Rattle.report.specs.Report.{judged, joined}
-use Rattle.report.proofs.SameArrays.{says-moved}
 use Rattle.report.specs.declared.Report.the-variants.{Bad}
 use Rattle.report.proofs.Says.{good-says}
 use Rattle.report.proofs.ReportNumbers.{both-clauses}
+use Rattle.report.proofs.Stopping.{says-until}
 use borrow.Author.Needs.{needs}
 use Rattle.report.proofs.checking.check_report.Statement.{statement}
 use Rattle.report.proofs.checking.check_report.Tie as tie
@@ -33,24 +32,21 @@ returns c =
     both-clauses p a Bad
     (λ g. c .if1 .taken (quiet-of refusals (sym (c .before .before .pile-code .ensures)) (pile-exactly p a .1 g)))
 
-verdicts-of-requires : tie.Need-verdicts-of-requires
-verdicts-of-requires c κs = good-of c
+verdicts-until-requires : tie.Need-verdicts-until-requires
+verdicts-until-requires c κs = good-of c
 
 said-of-requires : tie.Need-said-of-requires
-said-of-requires c κs = good-of (c .before .before) .pile-whole .to
+said-of-requires c κs = good-of (c .before) .pile-whole .to
 
 returns-2 : tie.Need-returns-2
 returns-2 c =
-    let flags = c .before .flags-of in
-    let verdicts = c .before .before .verdicts-of in
-    let passed = c .before .before .before in
+    let verdicts = c .before .verdicts-until in
+    let passed = c .before .before in
     let start = passed .before .before .before .before .before in
     let p = start .args .pile .now in
     let a = start .args .answers .now in
-    let g = good-of passed in
-    both-clauses p a (c .said-of .result) (good-says p a g (c .said-of .result)
-    (says-moved (verdictIn (verdicts .result)) (judged p a) (flagIn (flags .result)) (joined p) (recordsIn p)
-    (λ i l. verdicts .ensures i l) (λ i l. flags .ensures i (omega (arith, g .pile-whole .to)))
+    both-clauses p a (c .said-of .result) (good-says p a (good-of passed) (c .said-of .result)
+    (says-until (verdictIn (verdicts .result)) (judged p a) (joined p) (recordsIn p) (verdicts .ensures)
     (c .said-of .result) (c .said-of .ensures)))
 
 pub check-report-spec : {M : Type 1} → statement M
@@ -59,7 +55,6 @@ check-report-spec =
     (tie.spec
     (λ c κs. search needs)
     returns
-    verdicts-of-requires
-    (λ c κs. search needs)
+    verdicts-until-requires
     said-of-requires
     returns-2)

@@ -1,13 +1,16 @@
 -- `report::checking::said_of` meets its contract. Each arm hands on what the calls before it ensure.
-use mathlib.Core.Path.{_≡_, subst}
+use mathlib.Core.Path.{_≡_, sym, subst}
+use mathlib.Core.Bool.{true, false}
 use Prim.Native.Nat.{ℕ, min}
 use native.Mathlib.Omega.{arith}
+use lib.Dec.{T}
+use lib.ListN.{replicate, getD-replicate}
 use Rattle.runs.specs.Spans.{Answers}
 use Rattle.runs.specs.Convict.{verdictIn, flagIn, Convicts}
 use Rattle.runs.specs.declared.Span.{Span}
 use Rattle.runs.specs.declared.Span.the-variants.{Places, Nothing}
 use Rattle.laws.specs.Least.{IsFirst}
-use Rattle.report.specs.Report.{refused, Says}
+use Rattle.report.specs.Report.{joined, refused, Says}
 use Rattle.report.proofs.Says.{record-says, span-says, spanReport}
 use borrow.Author.Needs.{needs}
 use Rattle.report.proofs.checking.said_of.Statement.{statement}
@@ -15,8 +18,8 @@ use Rattle.report.proofs.checking.said_of.Tie as tie
 
 -- where a record is refused: the first such
 first-of : (c : tie.After-k)
-    → let start = c .before .before .before in
-    IsFirst (refused (verdictIn (start .args .t1))) (start .args .n) (c .k .given .0 .0)
+    → let start = c .before .before .before .before in
+    IsFirst (refused (verdictIn (start .args .t2))) (start .args .n) (c .k .given .0 .0)
 first-of c = rw (c .k .given .1) at (c .before .before .first-refused .ensures)
 
 mul-v : tie.Need-mul-v
@@ -25,28 +28,29 @@ mul-v c = omega (arith, (first-of (c .before)) .inside)
 array-copy-out-v : tie.Need-array-copy-out-v
 array-copy-out-v c = omega (arith, (first-of (c .before)) .inside)
 
--- where the run is sought: what its answer comes to
+-- where the run is sought, with all flags set: what its answer comes to
 run-says : (c : tie.After-shortest-run) (s : Span) → c .shortest-run .result ≡ s
-    → let start = c .before .before .before .before .before .before .before in
-    Says (verdictIn (start .args .t1)) (flagIn (start .args .flags)) (start .args .n) (spanReport s)
+    → let start = c .before .before .before .before .before .before .before .before in
+    Says (verdictIn (start .args .t2)) (joined (start .args .pile .now)) (start .args .n) (spanReport s)
 run-says c s e =
     let told = c .before in
     let earlier = told .before .before .before in
-    let start = earlier .before .before .before in
-    let v = verdictIn (start .args .t1) in
-    let l = flagIn (start .args .flags) in
+    let start = earlier .before .before .before .before in
+    let v = verdictIn (start .args .t2) in
+    let all = flagIn (replicate 16 true) in
     let whole : min (start .args .n) 16 ≡ start .args .n = omega arith in
-    span-says v l (start .args .n)
+    span-says v (joined (start .args .pile .now)) (start .args .n)
     (rw (earlier .enum-told .given .1) at (earlier .before .before .first-refused .ensures))
     (rw (told .enum-told2 .given .1) at (told .before .before .first-loose .ensures))
-    s (subst (λ (m : ℕ). Answers (Convicts v l m) s) whole (rw e at (c .shortest-run .ensures .1)))
+    all (λ k u. subst T (sym (getD-replicate 16 k true false (omega arith))) tt)
+    s (subst (λ (m : ℕ). Answers (Convicts v all m) s) whole (rw e at (c .shortest-run .ensures .1)))
 
 returns : tie.Need-returns
 returns c =
     let at = c .before .before .before in
-    let start = at .before .before .before in
-    record-says (verdictIn (start .args .t1)) (flagIn (start .args .flags)) (start .args .n) (at .k .given .0 .0)
-    (c .of-record .result) (first-of at) (c .of-record .ensures)
+    let start = at .before .before .before .before in
+    record-says (verdictIn (start .args .t2)) (joined (start .args .pile .now)) (start .args .n)
+    (at .k .given .0 .0) (c .of-record .result) (first-of at) (c .of-record .ensures)
 
 returns-2 : tie.Need-returns-2
 returns-2 c =

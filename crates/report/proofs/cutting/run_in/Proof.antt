@@ -8,9 +8,9 @@ returns : tie.Need-returns
 returns c =
     let start = c .before .before .before .before .before in
     let verdicts = c .before .before .verdicts-of in
-    let flags = c .before .flags-of in
-    run-of (start .args .pile .now) (start .args .answers .now) (verdicts .result) (flags .result)
-    (c .shortest-run .result) (start .pre) (verdicts .ensures) (flags .ensures) (c .shortest-run .ensures .1)
+    let links = c .before .links-of in
+    run-of (start .args .pile .now) (start .args .answers .now) (verdicts .result) (links .result)
+    (c .shortest-run .result) (start .pre) (verdicts .ensures) (links .ensures) (c .shortest-run .ensures .1)
 
 pub run-in-spec : {M : Type 1} → statement M
 run-in-spec =

@@ -11,9 +11,9 @@ returns c =
     let start = c .before .before .before .before in
     let p = start .args .pile .now in
     let verdicts = c .before .before .signed-verdicts in
-    let flags = c .before .flags-of in
-    run-of p (ownAnswers p) (verdicts .result) (flags .result) (c .shortest-run .result) (own-good p (start .pre))
-    (verdicts .ensures) (flags .ensures) (c .shortest-run .ensures .1)
+    let links = c .before .links-of in
+    run-of p (ownAnswers p) (verdicts .result) (links .result) (c .shortest-run .result) (own-good p (start .pre))
+    (verdicts .ensures) (links .ensures) (c .shortest-run .ensures .1)
 
 pub signed-run-spec : {M : Type 1} → statement M
 signed-run-spec =

@@ -1,14 +1,17 @@
 -- `signed::gathering::verdicts_until` meets its contract. Each place passed holds the verdict on its record.
 use mathlib.Core.Path.{_≡_, refl, sym, subst, ap, _∙_}
+use mathlib.Core.Bool.{not}
 use mathlib.Core.List.{[]}
 use Prim.Native.Nat.{ℕ, _+_, _-_, _≤_, _<_}
 use native.Mathlib.Omega.{arith}
 use lib.Dec.{T}
 use lib.ListN.{length, set, length-set}
-use lib.Seq.{getD-set-same}
 use Rattle.laws.proofs.Fill.{fill-next}
+use Rattle.laws.proofs.Picks.{tested-no}
+use Rattle.pile.specs.Pile.{recordsIn}
 use Rattle.pile.proofs.Exactly.{judged-at}
 use Rattle.report.specs.Report.{judged}
+use Rattle.report.proofs.Stopping.{up-to-all, up-to-place}
 use Rattle.runs.specs.Convict.{verdictIn}
 use Rattle.verdict.specs.declared.Checked.{Checked}
 use Rattle.signed.specs.Answers.{ownAnswers}
@@ -57,19 +60,10 @@ returns c =
     let told = c .before .before in
     let loop = told .before .before .loop in
     let start = told .before .before .before .before in
-    let v = told .checked-at .result .verdict in
-    let e : loop .k + 1 - 1 ≡ loop .k = omega arith in
-    let inside : loop .k < length (loop .verdicts) = omega (arith, loop .inv .1, start .pre .to) in
-    record {
-      known = loop .k + 1;
-      most = omega arith;
-      same = filled told;
-      stopped = λ h. (
-        omega arith,
-        rw (e, getD-set-same (loop .verdicts) (loop .k) v (verdictIn [] 0) inside)
-            (subst T (sym (sym (c .before .is-refusal .ensures) ∙ c .if1 .taken)) tt),
-      );
-    }
+    let p = start .args .pile .now in
+    up-to-place (judged p (ownAnswers p)) (recordsIn p) (loop .k) (loop .verdicts) (told .checked-at .result .verdict)
+    (omega arith) (omega (arith, loop .inv .1, start .pre .to)) (filled told)
+    (subst T (sym (ap not (tested-no (c .before .is-valid .ensures) (c .if1 .taken)))) tt)
 
 loop-again : tie.Need-loop-again Inv-loop μ-loop
 loop-again c =
@@ -78,14 +72,7 @@ loop-again c =
     (omega arith, simp length-set (loop .inv .1), filled told)
 
 returns-2 : tie.Need-returns-2 Inv-loop μ-loop
-returns-2 c =
-    let loop = c .before .loop in
-    record {
-      known = loop .k;
-      most = loop .inv .0;
-      same = loop .inv .2;
-      stopped = λ h. absurd (omega arith);
-    }
+returns-2 c = up-to-all _ _ _ (λ i l. c .before .loop .inv .2 i (omega arith))
 
 pub verdicts-until-spec : {M : Type 1} → statement M
 verdicts-until-spec =

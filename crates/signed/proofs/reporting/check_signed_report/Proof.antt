@@ -10,10 +10,10 @@ use Rattle.report.specs.Report.{judged, joined}
 use Rattle.report.specs.declared.Report.the-variants.{Bad}
 use Rattle.report.proofs.ReportNumbers.{both-clauses}
 use Rattle.report.proofs.Says.{good-says}
-use Rattle.runs.specs.Convict.{verdictIn, flagIn}
+use Rattle.report.proofs.Stopping.{says-until}
+use Rattle.runs.specs.Convict.{verdictIn}
 use Rattle.signed.specs.Answers.{ownAnswers}
 use Rattle.signed.proofs.Own.{own-good}
-use Rattle.signed.proofs.Stopping.{says-until}
 use borrow.Author.Needs.{needs}
 use Rattle.signed.proofs.reporting.check_signed_report.Statement.{statement}
 use Rattle.signed.proofs.reporting.check_signed_report.Tie as tie
@@ -32,19 +32,17 @@ verdicts-until-requires : tie.Need-verdicts-until-requires
 verdicts-until-requires c κs = whole-of c
 
 said-of-requires : tie.Need-said-of-requires
-said-of-requires c κs = whole-of (c .before .before) .to
+said-of-requires c κs = omega (arith, whole-of (c .before) .to)
 
 returns-2 : tie.Need-returns-2
 returns-2 c =
-    let flags = c .before .flags-of in
-    let verdicts = c .before .before .verdicts-until in
-    let passed = c .before .before .before in
+    let verdicts = c .before .verdicts-until in
+    let passed = c .before .before in
     let p = passed .before .before .before .args .pile .now in
     let a = ownAnswers p in
-    let w = whole-of passed in
-    both-clauses p a (c .said-of .result) (good-says p a (own-good p w) (c .said-of .result)
-    (says-until (verdictIn (verdicts .result)) (judged p a) (flagIn (flags .result)) (joined p) (recordsIn p)
-    (verdicts .ensures) (λ i l. flags .ensures i (omega (arith, w .to))) (c .said-of .result) (c .said-of .ensures)))
+    both-clauses p a (c .said-of .result) (good-says p a (own-good p (whole-of passed)) (c .said-of .result)
+    (says-until (verdictIn (verdicts .result)) (judged p a) (joined p) (recordsIn p) (verdicts .ensures)
+    (c .said-of .result) (c .said-of .ensures)))
 
 pub check-signed-report-spec : {M : Type 1} → statement M
 check-signed-report-spec =
@@ -53,6 +51,5 @@ check-signed-report-spec =
     (λ c κs. search needs)
     returns
     verdicts-until-requires
-    (λ c κs. search needs)
     said-of-requires
     returns-2)

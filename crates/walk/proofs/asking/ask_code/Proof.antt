@@ -1,5 +1,6 @@
 -- `walk::asking::ask_code` meets its contract.
-use Rattle.laws.proofs.First.{chain}
+use Rattle.laws.proofs.First.{chain, test-true}
+use Rattle.refusal.specs.Refusal.{refusal, refusals}
 use Rattle.walk.specs.Asking.{askCode}
 use borrow.Author.Needs.{needs}
 use Rattle.walk.proofs.asking.ask_code.Statement.{statement}
@@ -7,7 +8,8 @@ use Rattle.walk.proofs.asking.ask_code.Tie as tie
 
 returns : tie.Need-returns
 unfolding askCode
-returns c = search chain depth 9
+returns c =
+    test-true refusals (refusal 28) _ (c .refuse .ensures) tt (c .before .before .over .ensures) (c .before .if1 .taken)
 
 returns-2 : tie.Need-returns-2
 unfolding askCode

@@ -1,8 +1,9 @@
 -- `walk::taking::said_of` meets its contract.
 use Prim.Native.Nat.{_*_}
+use mathlib.Core.Path.{refl}
 use native.Mathlib.Omega.{arith}
 use lib.ListN.{length-take}
-use Rattle.laws.proofs.Pasted.{take-replicate}
+use Rattle.walk.proofs.Taken.{ends}
 use borrow.Author.Needs.{needs}
 use Rattle.walk.proofs.taking.said_of.Statement.{statement}
 use Rattle.walk.proofs.taking.said_of.Tie as tie
@@ -19,8 +20,8 @@ returns-2 : tie.Need-returns-2
 returns-2 c =
     let s = c .before .before .before .before .before .before .before in
     let w = s .args .w in
-    let y = take-replicate 32 (2 * (2 * w .count)) 1 (omega (arith, s .pre .0 .to)) in
-    (omega arith, rw y at (c .check-report .ensures .1))
+    ends w (s .args .pile .now) (2 * w .count) (c .check-report .result) (s .pre .0) (omega arith) refl
+    (c .check-report .ensures .1)
 
 pub said-of-spec : {M : Type 1} → statement M
 said-of-spec =

@@ -1,9 +1,9 @@
--- `report::gathering::joined_at` meets its contract. The first record by its rand, every other by its link.
+-- `report::linking::joined_at` meets its contract. The first record by its rand, every other by its link.
 use borrow.Author.Tests.{eq-eqb, ne-eqb}
 use Rattle.report.specs.Report.{joined}
 use borrow.Author.Needs.{needs}
-use Rattle.report.proofs.gathering.joined_at.Statement.{statement}
-use Rattle.report.proofs.gathering.joined_at.Tie as tie
+use Rattle.report.proofs.linking.joined_at.Statement.{statement}
+use Rattle.report.proofs.linking.joined_at.Tie as tie
 
 returns : tie.Need-returns
 unfolding joined

@@ -1,21 +1,23 @@
--- `report::gathering::flags_of` meets its contract. Each place passed holds its flag.
+-- `report::linking::links_of` meets its contract. Each place passed holds its link.
 use mathlib.Core.Path.{_≡_, refl}
 use mathlib.Core.Bool.{false}
 use Prim.Native.Nat.{ℕ, _-_, _≤_, _<_}
 use native.Mathlib.Omega.{arith}
 use lib.ListN.{length, length-set}
 use Rattle.laws.proofs.Fill.{fill-next}
-use Rattle.runs.specs.Convict.{flagIn}
-use Rattle.report.specs.Report.{joined}
+use Rattle.pile.specs.Links.{linkedOf}
+use Rattle.runs.specs.Convict.{verdictIn, flagIn}
+use Rattle.report.specs.Promises.{between}
 use borrow.Author.Needs.{needs}
-use Rattle.report.proofs.gathering.flags_of.Statement.{statement}
-use Rattle.report.proofs.gathering.flags_of.Tie as tie
+use Rattle.report.proofs.linking.links_of.Statement.{statement}
+use Rattle.report.proofs.linking.links_of.Tie as tie
 
 abbrev Inv-loop : tie.InvT-loop
-Inv-loop pile flags₀ k₀ flags k = (k ≤ 16) × (length flags ≡ 16) × ((i : ℕ) → i < k → flagIn flags i ≡ joined pile i)
+Inv-loop pile verdicts links₀ k₀ links k =
+    (k ≤ 16) × (length links ≡ 16) × ((i : ℕ) → i < k → flagIn links i ≡ between (verdictIn verdicts) (linkedOf pile) i)
 
 abbrev μ-loop : tie.MeasureT-loop
-μ-loop pile flags₀ k₀ flags k = 16 - k
+μ-loop pile verdicts links₀ k₀ links k = 16 - k
 
 loop-holds : tie.Need-loop-holds Inv-loop μ-loop
 loop-holds c = (omega arith, refl, λ i l. absurd (omega arith))
@@ -26,15 +28,15 @@ loop-again c =
     let start = c .before .before .before .before in (
       omega arith,
       simp length-set (loop .inv .1),
-      fill-next (joined (start .args .pile .now)) false (loop .flags) (loop .k) (c .joined-at .result) (omega arith)
-          (loop .inv .2) (c .joined-at .ensures),
+      fill-next (between (verdictIn (start .args .verdicts)) (linkedOf (start .args .pile .now))) false (loop .links)
+          (loop .k) (c .link-at .result) (omega arith) (loop .inv .2) (c .link-at .ensures),
     )
 
 returns : tie.Need-returns Inv-loop μ-loop
 returns c = λ i l. c .before .loop .inv .2 i (omega arith)
 
-pub flags-of-spec : {M : Type 1} → statement M
-flags-of-spec =
+pub links-of-spec : {M : Type 1} → statement M
+links-of-spec =
     tie.close
     (tie.spec
     Inv-loop

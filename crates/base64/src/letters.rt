@@ -1,0 +1,54 @@
+// Letters of the alphabet with no branch, since no processor guesses which letter is next: nearly every group of a text
+// is four of them.
+ghost use mathlib.Core.Path.{_≡_};
+ghost use mathlib.Core.Bool.{true};
+ghost use Prim.Native.Nat.{_≤_, _<_};
+ghost use Rattle.laws.specs.Pick.{pick};
+ghost use Rattle.base64.specs.Alphabet.{sextetOf, isLetter};
+ghost use Rattle.base64.specs.Decode.{groupOf};
+use super::Group;
+
+// Whether a byte is a letter.
+pub fn is_letter(b: u8) -> bool
+    ensures { λ r. ⌜ r ≡ isLetter b ⌝ }
+{
+    (b == 43)
+        | (b == 47)
+        | ((48 <= b) & (b < 58))
+        | ((65 <= b) & (b < 91))
+        | ((97 <= b) & (b < 123))
+}
+
+fn one_if(t: bool) -> u32
+    ensures { λ r. ⌜ (r ≡ pick t 1 0) × (r ≤ 1) ⌝ }
+{
+    if t { 1 } else { 0 }
+}
+
+// The number of a letter. Each range of letters has its distance to its numbers, and what is subtracted is added up to
+// 256.
+fn number(b: u8) -> u8
+    requires { ⌜ isLetter b ≡ true ⌝ }
+    ensures { λ r. ⌜ (r ≡ sextetOf b) × (r < 64) ⌝ }
+{
+    let low = one_if(b < 48);
+    let slash = one_if(b == 47);
+    let capital = one_if(65 <= b);
+    let small = one_if(97 <= b);
+    let n = b as u32 + 4 + 15 * low + 253 * slash + 187 * capital + 250 * small;
+    (n % 256) as u8
+}
+
+// What four letters stand for.
+pub fn three_of(a: u8, b: u8, c: u8, d: u8) -> Group
+    requires { ⌜
+        (isLetter a ≡ true) × ((isLetter b ≡ true) × ((isLetter c ≡ true) × (isLetter d ≡ true)))
+        ⌝ }
+    ensures { λ r. ⌜ r ≡ groupOf a b c d ⌝ }
+{
+    let p = number(a);
+    let q = number(b);
+    let r = number(c);
+    let t = number(d);
+    Group::Three(p * 4 + q / 16, q % 16 * 16 + r / 4, r % 4 * 64 + t)
+}

@@ -1,0 +1,6 @@
+-- The whole way from a walk to whoever judges its report: what a reader must believe is Verified, Hearing, Way and
+-- Rounds.
+pub mod Verified
+pub mod Hearing
+pub mod Way
+pub mod Rounds
