@@ -32,15 +32,17 @@ fn peers() -> String {
     format!("{sha2}, {openssl}")
 }
 
-pub fn part(run: &mut Run) {
+/// Says on what, and where it was a quick run, that it was.
+pub fn part(run: &mut Run, quick: bool) {
     let processor = processor().unwrap_or_else(|| "an unknown processor".into());
     let cores = thread::available_parallelism().map_or(1, usize::from);
     let date = first_words("date", &["-u", "+%F"], 1).unwrap_or_default();
     let rustc = first_words("rustc", &["--version"], 2).unwrap_or_default();
     let (system, kind) = (env::consts::OS, env::consts::ARCH);
     let text = format!(
-        "A run of `./bench` on {date}: {processor}, {cores} cores, {kind}, {system}, \
-         {rustc}, {}. The load of the minute before it was {}.",
+        "{} of `./bench` on {date}: {processor}, {cores} cores, {kind}, {system}, {rustc}, {}. The \
+         load of the minute before it was {}.",
+        if quick { "A quick run, which counts for nothing," } else { "A run" },
         peers(),
         load()
     );

@@ -71,7 +71,7 @@ impl Options {
 /// Times the parts that are wanted.
 fn time(options: &Options) -> Run {
     let mut run = Run::new(if options.quick { Pace::QUICK } else { Pace::FULL });
-    machine::part(&mut run);
+    machine::part(&mut run, options.quick);
     for (place, part) in options.parts.iter().enumerate() {
         eprintln!("bench: {} of {}: {}: {}", place + 1, options.parts.len(), part.name, part.what);
         (part.run)(&mut run);
