@@ -1,86 +1,101 @@
-//! The highest ratios of our time to another side's that pass.
+//! The highest ratios of our time to another's that pass, each with its reason.
 
 use std::env;
 
-pub struct Limits {
-    /// SHA-512 of any length against the independent implementation.
-    pub independent: f64,
-    /// SHA-512 of a request, and of longer messages, against RustCrypto's sha2 in its portable form.
-    pub sha2: f64,
-    /// SHA-512 of a parent's 65 bytes against the same.
-    pub sha2_short: f64,
-    /// SHA-512 of a mebibyte in pieces of 1,000 bytes and more, against the whole at once.
-    pub pieces: f64,
-    /// A full pile against the independent implementation.
-    pub piles: f64,
-    /// A step of a walk against the independent implementation.
-    pub walks: f64,
-    /// A verification against OpenSSL's.
-    pub openssl: f64,
-    /// A response and a full pile by their own signatures against the independent implementation.
-    pub signed: f64,
-    /// A server with a whole batch against the independent implementation.
-    pub servers: f64,
-    /// The longest report as JSON, read or cut, against the independent implementation. Ours makes no tree
-    /// of values, and goes over the text again for each thing that it asks of it.
-    pub texts_read: f64,
-    /// The same, written.
-    pub texts_written: f64,
+/// A limit. BENCH_LIMIT_ and its name in capitals, in the environment, sets another.
+pub struct Limit {
+    pub name: &'static str,
+    pub highest: f64,
+    /// Of what by what.
+    pub what: &'static str,
+    /// Why it is this one. "As runs" is 0.1 above the highest of ordinary runs, some of them on
+    /// machines that others used too.
+    pub why: &'static str,
 }
 
-/// All rows of a tree against the hashing that it needs, by the number of its leaves.
-pub fn rows(leaves: usize) -> f64 {
-    match leaves {
-        900 | 1024 => 1.10,
-        8.. => 1.2,
-        _ => 1.7,
-    }
+const fn limit(name: &'static str, highest: f64, what: &'static str, why: &'static str) -> Limit {
+    Limit { name, highest, what, why }
 }
 
-/// A path that is built for one leaf against all rows of its tree. It is the same hashing, so that
-/// what is above 1 is there for the clock.
-pub const PATH: f64 = 1.02;
+/// All limits.
+#[rustfmt::skip]
+pub const LIMITS: &[Limit] = &[
+    limit("piles", 0.87, "a full pile by the independent checker",
+          "as runs; asked is 2, the goal is 0.70"),
+    limit("piles_sha2", 1.0, "the same by the independent checker over sha2",
+          "the goal"),
+    limit("refused", 1.25, "a refused pile by the same, beside a microsecond",
+          "a refusal is to be as cheap; a microsecond is 60 ns a record, for calls and copying"),
+    limit("independent", 1.05, "SHA-512 by the independent one",
+          "as runs"),
+    limit("sha2", 1.07, "SHA-512 by sha2, from 1,036 bytes on",
+          "as runs"),
+    limit("sha2_short", 1.25, "SHA-512 by sha2, of 65 bytes",
+          "as runs; our table of constants is built at each call"),
+    limit("pieces", 1.05, "SHA-512 in pieces of 1,000 bytes and more by the whole at once",
+          "a state goes in and out with each piece"),
+    limit("openssl", 1.8, "a verification, or what makes some, by OpenSSL's",
+          "as runs"),
+    limit("signed", 0.95, "judged by its signatures, by the independent checker",
+          "as runs"),
+    limit("verifications", 1.0, "the same by the verifications that it has to make",
+          "see `verifications` below"),
+    limit("walks", 0.80, "a step of a walk by the independent one",
+          "as runs"),
+    limit("servers", 0.70, "a server's batch of 900 by the independent one",
+          "as runs"),
+    limit("rows_few", 1.7, "all rows of a tree of under 8 leaves by its hashing",
+          "asked with batches of 1,024"),
+    limit("rows", 1.2, "the same from 8 leaves on",
+          "asked with batches of 1,024"),
+    limit("rows_many", 1.10, "the same of 900 and of 1,024",
+          "asked with batches of 1,024"),
+    limit("path", 1.02, "a path of 1,024 leaves by all rows",
+          "the same hashing, and 0.02 for the clock"),
+    limit("path_from", 0.5, "a path out of the rows by one hash",
+          "it needs none"),
+    limit("one_pass", 0.25, "16 windows in one pass by their pairs",
+          "there are 120 pairs"),
+    limit("texts_read", 2.0, "JSON read or cut by the independent reader",
+          "the goal; ours makes no tree of values, and goes over the text more than once"),
+    limit("texts_written", 0.4, "JSON written by the independent writer",
+          "as runs"),
+    limit("doubled", 2.3, "twice the bytes by once the bytes",
+          "nothing grows faster than the bytes; 0.3 is for caches and the clock"),
+];
 
-/// A path that is read out of the rows against one hash, of which it needs none.
-pub const PATH_FROM: f64 = 0.5;
-
-/// One pass over the windows of a full pile against every pair of them, of which there are 120.
-pub const ONE_PASS: f64 = 0.25;
-
-/// What is judged by its signatures, against one verification of a delegation, where it makes so many
-/// and reads so many records or responses: a response's text may be longer than a delegation's, and
-/// each record is read and hashed.
-pub fn verifications(made: u32, records: u32) -> f64 {
-    1.15 * f64::from(made) + 0.125 * f64::from(records) + 0.5
+/// What the table has under this name.
+pub fn of(name: &str) -> &'static Limit {
+    let limit = LIMITS.iter().find(|limit| limit.name == name);
+    limit.unwrap_or_else(|| panic!("there is no limit {name}"))
 }
 
-impl Limits {
-    /// Those that the environment sets, or else the defaults.
-    pub fn read() -> Self {
-        Limits {
-            independent: limit("BENCH_LIMIT_INDEPENDENT", 1.05),
-            sha2: limit("BENCH_LIMIT_SHA2", 1.07),
-            sha2_short: limit("BENCH_LIMIT_SHA2_SHORT", 1.25),
-            pieces: limit("BENCH_LIMIT_PIECES", 1.05),
-            piles: limit("BENCH_LIMIT_PILES", 0.87),
-            walks: limit("BENCH_LIMIT_WALKS", 0.80),
-            openssl: limit("BENCH_LIMIT_OPENSSL", 1.8),
-            signed: limit("BENCH_LIMIT_SIGNED", 0.95),
-            servers: limit("BENCH_LIMIT_SERVERS", 0.70),
-            texts_read: limit("BENCH_LIMIT_TEXTS_READ", 17.0),
-            texts_written: limit("BENCH_LIMIT_TEXTS_WRITTEN", 0.4),
-        }
-    }
-}
-
-/// A limit from the environment, or its default. What is no number stops the program, lest a slip
-/// of the hand lift the limit.
-fn limit(name: &str, default: f64) -> f64 {
-    match env::var(name) {
+/// The limit of this name: what the environment sets, or else what the table has. What is no number
+/// stops the program, lest a slip of the hand lift the limit.
+pub fn highest(name: &str) -> f64 {
+    let default = of(name).highest;
+    let variable = format!("BENCH_LIMIT_{}", name.to_uppercase());
+    match env::var(&variable) {
         Err(_) => default,
         Ok(text) => match text.parse::<f64>() {
             Ok(limit) if limit.is_finite() => limit,
-            _ => panic!("{name} is not a number: {text}"),
+            _ => panic!("{variable} is not a number: {text}"),
         },
     }
+}
+
+/// The limit for all rows of a tree, by the number of its leaves.
+pub fn rows(leaves: usize) -> &'static str {
+    match leaves {
+        900 | 1024 => "rows_many",
+        8.. => "rows",
+        _ => "rows_few",
+    }
+}
+
+/// What is judged by its signatures, in verifications of a delegation, where it makes so many and
+/// reads so many records or responses: a response's text may be longer than a delegation's, and
+/// each record is read and hashed.
+pub fn verifications(made: u32, records: u32) -> f64 {
+    highest("verifications") * (1.15 * f64::from(made) + 0.125 * f64::from(records) + 0.5)
 }

@@ -1,10 +1,10 @@
-//! The piles that are timed: valid and linked records, as full as a packet may be or smaller.
-//!
-//! The buffer that the cutter writes into is not cleared between runs: each run writes over what
-//! the one before it left.
+//! Full piles: 16 valid and linked records with packets of 2,000 bytes and paths of 32 siblings, by
+//! the verdict on each record, the report check and the cutter. This is what was asked for: at most
+//! twice the time of an independent checker with its own SHA-512.
 
-use crate::limits::Limits;
+use crate::run::{Line, Run};
 use crate::sides::{work, Side, Subject, Work};
+use crate::table::{count, microseconds, Columns, Table, MICROSECONDS};
 use independent::making::{self, Link, Made};
 use independent::{packet, pile, report};
 use std::hint::black_box;
@@ -47,14 +47,9 @@ impl Shape {
         (0..self.records).map(link).collect()
     }
 
-    fn made(self) -> Made {
+    pub fn made(self) -> Made {
         making::chain(&self.links())
     }
-}
-
-/// A full pile, whose first and last record contradict each other.
-pub fn full() -> Made {
-    FULL.made()
 }
 
 /// What is done with a pile.
@@ -63,7 +58,7 @@ pub enum Operation {
     Verdicts,
     Report,
     Cutter,
-    /// All three.
+    /// All three, one after the other, as a host would call them.
     Whole,
 }
 
@@ -74,9 +69,9 @@ impl Operation {
 
     pub fn name(self) -> &'static str {
         match self {
-            Operation::Verdicts => "verdicts",
-            Operation::Report => "report",
-            Operation::Cutter => "cutter",
+            Operation::Verdicts => "the verdict on each record",
+            Operation::Report => "the report check",
+            Operation::Cutter => "the cutter",
             Operation::Whole => "whole",
         }
     }
@@ -86,10 +81,29 @@ impl Operation {
     }
 }
 
-fn ours<'a>(operation: Operation, made: &'a Made) -> Work<'a> {
+/// An operation, and whether the buffer that the cutter is lent, the only one that a call may write
+/// into, is set to zeros before each call. That is then timed, on every side.
+#[derive(Clone, Copy)]
+pub struct Task {
+    pub operation: Operation,
+    pub cleared: bool,
+}
+
+impl Task {
+    fn prepare(self, out: &mut [u8]) {
+        if self.cleared {
+            black_box(out).fill(0);
+        }
+    }
+}
+
+/// A task by ours.
+pub fn ours<'a>(task: Task, made: &'a Made) -> Work<'a> {
     let mut out = vec![0; made.pile.len()];
     let records = made.pile.len() / pile::RECORD;
+    let operation = task.operation;
     work(move || {
+        task.prepare(&mut out);
         let (pile, answers) = (black_box(&made.pile[..]), black_box(&made.answers[..]));
         if operation.has(Operation::Verdicts) {
             for place in 0..records {
@@ -105,66 +119,117 @@ fn ours<'a>(operation: Operation, made: &'a Made) -> Work<'a> {
     })
 }
 
-fn independents<'a>(operation: Operation, made: &'a Made) -> Work<'a> {
-    let mut out = vec![0; made.pile.len()];
-    work(move || {
-        let (pile, answers) = (black_box(&made.pile[..]), black_box(&made.answers[..]));
-        if operation.has(Operation::Verdicts) {
-            let _ = black_box(pile::judge_all(pile, answers));
+/// The same by the independent checker, which benchmarks/peer has twice.
+macro_rules! by_independent {
+    ($name:ident, $checker:ident) => {
+        fn $name<'a>(task: Task, made: &'a Made) -> Work<'a> {
+            let mut out = vec![0; made.pile.len()];
+            let operation = task.operation;
+            work(move || {
+                task.prepare(&mut out);
+                let (pile, answers) = (black_box(&made.pile[..]), black_box(&made.answers[..]));
+                if operation.has(Operation::Verdicts) {
+                    let _ = black_box($checker::pile::judge_all(pile, answers));
+                }
+                let pair = operation
+                    .has(Operation::Report)
+                    .then(|| $checker::report::check(pile, answers));
+                let run = operation
+                    .has(Operation::Cutter)
+                    .then(|| $checker::report::cut(pile, answers, &mut out));
+                black_box(&out);
+                (pair, run)
+            })
         }
-        let pair = operation.has(Operation::Report).then(|| report::check(pile, answers));
-        let run = operation.has(Operation::Cutter).then(|| report::cut(pile, answers, &mut out));
-        black_box(&out);
-        (pair, run)
-    })
+    };
 }
 
-fn subject<'a>(
-    name: String,
-    operation: Operation,
-    made: &'a Made,
-    limit: Option<f64>,
-) -> Subject<'a> {
-    Subject {
+by_independent!(independents, independent);
+#[cfg(feature = "peer")]
+by_independent!(over_sha2, independent_over_sha2);
+
+/// Both sides must say the same of what is timed.
+fn agree(Made { pile, answers }: &Made) {
+    let ours = trawlbeacon::check_report(pile, answers);
+    let ours = ours.map(|pair| (pair.first, pair.second)).map_err(|no| no.refusal.code());
+    assert_eq!(ours, report::check(pile, answers).map_err(|no| no.refusal.code()));
+    let mut out = vec![0; pile.len()];
+    let ours = trawlbeacon::cut_run(pile, answers, &mut out);
+    let ours = ours.map(|run| (run.first, run.last)).map_err(|refusal| refusal.code());
+    assert_eq!(ours, report::run(pile, answers).map_err(|refusal| refusal.code()));
+}
+
+/// A task on a pile by all sides that there are.
+pub fn subject<'a>(name: impl Into<String>, task: Task, made: &'a Made) -> Subject<'a> {
+    agree(made);
+    let works = vec![
+        (Side::Ours, ours(task, made)),
+        (Side::Independent, independents(task, made)),
+        #[cfg(feature = "peer")]
+        (Side::OverSha2, over_sha2(task, made)),
+    ];
+    Subject::new(name, made.pile.len(), works)
+}
+
+const COLUMNS: Columns =
+    Columns { sides: &[Side::Ours, Side::Independent, Side::OverSha2], ..MICROSECONDS };
+
+/// The full pile as it is, and the whole once more with the buffer cleared before each call.
+pub fn part(run: &mut Run) {
+    let made = FULL.made();
+    let as_it_is =
+        Operation::ALL.map(|operation| (operation.name(), Task { operation, cleared: false }));
+    let cleared = Task { operation: Operation::Whole, cleared: true };
+    let tasks = as_it_is.into_iter().chain([("whole, buffers cleared", cleared)]);
+    let subjects = tasks.map(|(name, task)| {
+        subject(name, task, &made)
+            .held(Side::Independent, "piles")
+            .held(Side::OverSha2, "piles_sha2")
+    });
+    let title = "16 records of 2,000 bytes a packet, 32 siblings; answers are lent";
+    let table = Table::new("piles", title, &["A full pile"]);
+    let measured = run.table(table, &COLUMNS, subjects.collect());
+    let whole = &measured[Operation::ALL.len() - 1];
+    let text = format!(
+        "Asked was that the whole of a full pile takes at most twice the time of an independent \
+         checker with its own SHA-512: it takes {} of that time (goal: 0.70), and {} of the time of \
+         the same checker over RustCrypto's SHA-512 in its portable form (goal: 1.0).",
+        whole.ratio_text(Side::Independent),
+        whole.ratio_text(Side::OverSha2)
+    );
+    run.say("asked", &text);
+}
+
+/// The whole on a pile of this shape: our time and its ratio, and the times of both sides.
+fn whole(run: &mut Run, shape: Shape) -> ([String; 2], [Option<f64>; 2]) {
+    let task = Task { operation: Operation::Whole, cleared: false };
+    let measured = run.time(subject("a smaller pile", task, &shape.made()));
+    let shown = [microseconds(measured.ours()), measured.ratio_text(Side::Independent)];
+    (shown, [Side::Ours, Side::Independent].map(|side| measured.time(side)))
+}
+
+/// How the time of the whole grows with the records, the siblings and the packets.
+pub fn growth(run: &mut Run) {
+    let mut lines = ["ours, answers lent", "independent, answers lent"].map(|name| Line {
+        chart: "records",
         name,
-        length: made.pile.len(),
-        limits: limit.map(|limit| (Side::Independent, limit)).into_iter().collect(),
-        works: vec![
-            (Side::Ours, ours(operation, made)),
-            (Side::Independent, independents(operation, made)),
-        ],
+        points: Vec::new(),
+    });
+    let title = "the whole on piles that are smaller in one way; packets without siblings";
+    let head = ["Records", "µs", "ratio", "Siblings", "µs", "ratio", "Bytes", "µs", "ratio"];
+    let mut table = Table::new("growth", title, &head);
+    let rows = [(1, 0, 500), (2, 8, 752), (4, 16, 1000), (8, 24, 1500), (16, 32, 2000)];
+    for (records, siblings, packet) in rows {
+        let (of_records, times) = whole(run, Shape { records, ..FULL });
+        for (line, time) in lines.iter_mut().zip(times) {
+            line.points.extend(time.map(|time| (records as f64, time)));
+        }
+        let (of_siblings, _) = whole(run, Shape { siblings, ..FULL });
+        let (of_bytes, _) = whole(run, Shape { packet, siblings: 0, ..FULL });
+        let numbers = [records, siblings, packet].map(count);
+        let groups = numbers.into_iter().zip([of_records, of_siblings, of_bytes]);
+        table.row(groups.flat_map(|(number, [time, ratio])| [number, time, ratio]).collect());
     }
-}
-
-/// A pile, and what is done with it.
-pub struct Plan {
-    shape: Shape,
-    operation: Operation,
-    made: Made,
-}
-
-/// Every operation on a full pile, and then the whole on piles that are smaller in one way.
-pub fn plans() -> Vec<Plan> {
-    let full = Operation::ALL.map(|operation| (operation, FULL));
-    let fewer = [1, 2, 4, 8].map(|records| Shape { records, ..FULL });
-    let shallower = [0, 8, 16, 24].map(|siblings| Shape { siblings, ..FULL });
-    // With no sibling a response takes 404 bytes, so that packets of every one of these sizes can
-    // be had. Of 2,000 bytes and no sibling it is one of those above.
-    let smaller = [500, 750, 1000, 1500].map(|packet| Shape { packet, siblings: 0, ..FULL });
-    let partly =
-        [fewer, shallower, smaller].concat().into_iter().map(|shape| (Operation::Whole, shape));
-    full.into_iter()
-        .chain(partly)
-        .map(|(operation, shape)| Plan { shape, operation, made: shape.made() })
-        .collect()
-}
-
-impl Plan {
-    /// What is timed. Only a full pile is held to a limit.
-    pub fn subject<'a>(&'a self, limits: &Limits) -> Subject<'a> {
-        let Shape { records, siblings, packet } = self.shape;
-        let full = (records, siblings, packet) == (FULL.records, FULL.siblings, FULL.packet);
-        let name = format!("{} {records} x {packet} B, {siblings} siblings", self.operation.name());
-        subject(name, self.operation, &self.made, full.then_some(limits.piles))
-    }
+    run.lines.extend(lines);
+    run.put(table);
 }

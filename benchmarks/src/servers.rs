@@ -1,19 +1,23 @@
-//! A server that answers a batch of 900, as a class on a Saturday brings them: the leaves of the
-//! requests and all rows of their tree; the path of each leaf; SREP once and the response to each
-//! request; and the whole. Signing is left out, of which there is one for all.
+//! A server that answers a batch: the leaves of the requests and all rows of their tree; the path
+//! of each leaf; SREP once and the response to each request; and the whole. Signing is left out, of
+//! which there is one for all.
 //!
 //! No buffer is cleared between runs.
 
-use crate::limits::Limits;
+use crate::run::{Line, Run};
 use crate::sides::{work, Side, Subject, Work};
+use crate::table::{count, number, Table};
 use independent::hash::Hash;
 use independent::respond;
 use independent::tree::{Placed, Tree};
 use std::hint::black_box;
 use trawlbeacon::{Reply, CERT_LENGTH, MOST_ROWS_LENGTH, REQUEST_LENGTH, SREP_LENGTH};
 
-/// How many requests the batch has.
-pub const BATCH: usize = 900;
+/// The batch that is held to a limit and shown by its parts, as a class on a Saturday brings it.
+const BATCH: usize = 900;
+
+/// Batches of the powers of four, and that one.
+const BATCHES: [usize; 7] = [1, 4, 16, 64, 256, BATCH, 1024];
 
 const MIDP: u64 = 1_773_685_571;
 const RADI: u32 = 3;
@@ -38,13 +42,14 @@ fn lay(leaves: &[u8], rows: &mut [u8]) -> usize {
     32 * ((2 << depth) - 1)
 }
 
-fn path(rows: &[u8], place: usize, out: &mut [u8]) -> usize {
-    32 * trawlbeacon::path_from(rows, BATCH, place, out).expect("there is such a leaf").depth
+fn path(rows: &[u8], leaves: usize, place: usize, out: &mut [u8]) -> usize {
+    32 * trawlbeacon::path_from(rows, leaves, place, out).expect("there is such a leaf").depth
 }
 
 impl Round {
-    pub fn new() -> Self {
-        let mut requests = vec![vec![0; REQUEST_LENGTH]; BATCH];
+    /// With a batch of so many.
+    pub fn new(batch: usize) -> Self {
+        let mut requests = vec![vec![0; REQUEST_LENGTH]; batch];
         for (client, request) in requests.iter_mut().enumerate() {
             let nonce = trawlbeacon::leaf(&client.to_le_bytes());
             trawlbeacon::write_request(&[1; 32], &nonce, request).expect("there is room");
@@ -55,13 +60,17 @@ impl Round {
         let end = lay(&leaves(&requests), &mut rows);
         rows.truncate(end);
         let root = rows[end - 32..].try_into().expect("the root is the last node");
-        let paths = (0..BATCH).map(|place| {
+        let paths = (0..batch).map(|place| {
             let mut out = vec![0; 320];
-            let length = path(&rows, place, &mut out);
+            let length = path(&rows, batch, place, &mut out);
             out.truncate(length);
             out
         });
         Round { paths: paths.collect(), requests, cert, signature, rows, root }
+    }
+
+    fn batch(&self) -> usize {
+        self.requests.len()
     }
 
     fn tree(&self) -> Work<'_> {
@@ -76,8 +85,8 @@ impl Round {
     fn all_paths(&self) -> Work<'_> {
         let mut out = [0; 320];
         work(move || {
-            for place in 0..BATCH {
-                black_box(path(black_box(&self.rows), place, &mut out));
+            for place in 0..self.batch() {
+                black_box(path(black_box(&self.rows), self.batch(), place, &mut out));
             }
         })
     }
@@ -85,7 +94,7 @@ impl Round {
     fn all_paths_there(&self) -> Work<'_> {
         let tree = build(&self.requests);
         work(move || {
-            for place in 0..BATCH {
+            for place in 0..self.batch() {
                 black_box(placed(black_box(&tree), place));
             }
         })
@@ -142,7 +151,7 @@ impl Round {
         })
     }
 
-    fn whole(&self) -> Work<'_> {
+    pub fn whole(&self) -> Work<'_> {
         let (mut rows, mut siblings) = (vec![0; MOST_ROWS_LENGTH], [0; 320]);
         let (mut srep, mut out) = ([0; SREP_LENGTH], vec![0; REQUEST_LENGTH]);
         work(move || {
@@ -150,8 +159,8 @@ impl Round {
             let root = rows[end - 32..end].try_into().expect("the root is the last node");
             trawlbeacon::write_srep(root, MIDP, RADI, &mut srep).expect("there is room");
             black_box(&srep);
-            for place in 0..BATCH {
-                let length = path(&rows, place, &mut siblings);
+            for place in 0..self.batch() {
+                let length = path(&rows, self.batch(), place, &mut siblings);
                 self.write(place, &siblings[..length], &mut out);
                 black_box(&out);
             }
@@ -162,25 +171,18 @@ impl Round {
         work(move || {
             let tree = build(black_box(&self.requests));
             black_box(respond::srep(&tree.root(), MIDP, RADI).expect("RADI is not 0"));
-            for place in 0..BATCH {
+            for place in 0..self.batch() {
                 black_box(self.write_there(place, &placed(&tree, place).path.concat()));
             }
         })
     }
 
-    /// The parts and the whole.
-    pub fn subjects(&self, limits: &Limits) -> Vec<Subject<'_>> {
-        let part = |name: &str, limit: Option<f64>, ours, independent| Subject {
-            name: name.into(),
-            length: BATCH,
-            limits: limit.map(|limit| (Side::Independent, limit)).into_iter().collect(),
-            works: vec![(Side::Ours, ours), (Side::Independent, independent)],
-        };
-        vec![
-            part("leaves and tree", None, self.tree(), self.tree_there()),
-            part("paths", None, self.all_paths(), self.all_paths_there()),
-            part("SREP and writing", None, self.writing(), self.writing_there()),
-            part("whole", Some(limits.servers), self.whole(), self.whole_there()),
+    /// What the whole is made of.
+    fn parts(&self) -> [(&'static str, [Work<'_>; 2]); 3] {
+        [
+            ("leaves and tree", [self.tree(), self.tree_there()]),
+            ("paths", [self.all_paths(), self.all_paths_there()]),
+            ("SREP and writing", [self.writing(), self.writing_there()]),
         ]
     }
 }
@@ -193,4 +195,46 @@ fn build(requests: &[Vec<u8>]) -> Tree {
 
 fn placed(tree: &Tree, place: usize) -> Placed {
     tree.place(place).expect("there is such a leaf")
+}
+
+/// Answers a second, by the size of the batch, and one batch by its parts.
+pub fn part(run: &mut Run) {
+    let title = "a server without its one signature; answers a second are ours";
+    let head = ["Batch", "ours µs", "independent µs", "by independent", "answers a second"];
+    let mut table = Table::new("servers", title, &head);
+    for (name, works) in Round::new(BATCH).parts() {
+        batch(run, &mut table, format!("{BATCH}: {name}"), BATCH, works);
+    }
+    let mut lines =
+        ["ours", "independent"].map(|name| Line { chart: "batches", name, points: Vec::new() });
+    for size in BATCHES {
+        let round = Round::new(size);
+        let works = [round.whole(), round.whole_there()];
+        let times = batch(run, &mut table, count(size), size, works);
+        for (line, time) in lines.iter_mut().zip(times) {
+            line.points.push((size as f64, time));
+        }
+    }
+    run.lines.extend(lines);
+    run.put(table);
+}
+
+/// One line of it.
+fn batch(
+    run: &mut Run,
+    table: &mut Table,
+    name: String,
+    size: usize,
+    works: [Work; 2],
+) -> [f64; 2] {
+    let mut subject = Subject::of_two(format!("a server's batch of {name}"), size, works);
+    if name == count(BATCH) {
+        subject = subject.held(Side::Independent, "servers");
+    }
+    let measured = run.time(subject);
+    let times = [measured.ours(), measured.time(Side::Independent).expect("it was timed")];
+    let [ours, independent] = times.map(|time| number(time * 1e6, 1));
+    let answers = number(size as f64 / measured.ours(), 0);
+    table.row(vec![name, ours, independent, measured.ratio_text(Side::Independent), answers]);
+    times
 }

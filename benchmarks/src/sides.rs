@@ -1,5 +1,6 @@
 //! Whose code is timed, and what a thing that is timed is.
 
+use crate::limits;
 use std::hint::black_box;
 
 /// Whose code a time is of.
@@ -7,21 +8,31 @@ use std::hint::black_box;
 pub enum Side {
     Ours,
     Independent,
-    /// Our own hashing alone, as much of it as a tree needs.
-    Hashing,
-    /// All rows of the same tree, by ours.
-    Rows,
-    // Never made where there is no sha2 to time.
+    /// The independent checker once more, over RustCrypto's SHA-512 in the place of its own. No
+    /// work of it is made where there is no sha2.
+    #[cfg_attr(not(feature = "peer"), allow(dead_code))]
+    OverSha2,
+    /// RustCrypto's SHA-512 by itself.
     #[cfg_attr(not(feature = "peer"), allow(dead_code))]
     Sha2,
+    /// OpenSSL's Ed25519, by itself or below the independent checker. No work of it is made where
+    /// OpenSSL is not linked.
+    #[cfg_attr(not(feature = "openssl"), allow(dead_code))]
+    OpenSsl,
+    /// Ours too, the hashing alone, as much of it as a tree needs.
+    Hashing,
+    /// Ours too, all rows of the same tree.
+    Rows,
     /// Ours too, over the whole message at once.
     Whole,
     /// Ours too, every pair of windows compared.
     Pairs,
     /// Ours too, one verification alone.
     Verification,
-    /// OpenSSL's Ed25519. No work of it is made where OpenSSL is not linked.
-    OpenSsl,
+    /// Ours too, on a usual input of the same size.
+    Usual,
+    /// Ours too, on half as much.
+    Half,
 }
 
 impl Side {
@@ -29,22 +40,19 @@ impl Side {
         match self {
             Side::Ours => "ours",
             Side::Independent => "independent",
+            Side::OverSha2 => "over sha2",
+            Side::Sha2 => "sha2",
+            Side::OpenSsl => "OpenSSL",
             Side::Hashing => "hashing",
             Side::Rows => "rows",
-            Side::Sha2 => "sha2",
-            Side::Whole => "whole",
+            Side::Whole => "at once",
             Side::Pairs => "pairs",
             Side::Verification => "verification",
-            Side::OpenSsl => "openssl",
+            Side::Usual => "usual",
+            Side::Half => "half",
         }
     }
 }
-
-/// The sides that this build has. Ours is the first: the others are compared with it.
-#[cfg(feature = "peer")]
-pub const SIDES: &[Side] = &[Side::Ours, Side::Independent, Side::Sha2];
-#[cfg(not(feature = "peer"))]
-pub const SIDES: &[Side] = &[Side::Ours, Side::Independent];
 
 /// One call of what is timed.
 pub type Work<'a> = Box<dyn FnMut() + 'a>;
@@ -56,13 +64,50 @@ pub fn work<'a, T>(mut call: impl FnMut() -> T + 'a) -> Work<'a> {
     })
 }
 
+/// The highest ratio of our time to a side's that passes, and the limit's name in the table.
+pub struct Bound {
+    pub side: Side,
+    pub limit: &'static str,
+    pub highest: f64,
+    /// Seconds of our time that are not counted.
+    pub free: f64,
+}
+
 /// What is timed on several sides, on the same bytes.
 pub struct Subject<'a> {
     pub name: String,
-    /// How many bytes one call hashes, of those that the caller hands over.
+    /// How many bytes, answers or the like one call is for.
     pub length: usize,
-    /// The highest ratio of our time to another side's that passes, where there is one.
-    pub limits: Vec<(Side, f64)>,
+    pub bounds: Vec<Bound>,
     /// Ours first. A subject may lack some of the others.
     pub works: Vec<(Side, Work<'a>)>,
+}
+
+impl<'a> Subject<'a> {
+    pub fn new(name: impl Into<String>, length: usize, works: Vec<(Side, Work<'a>)>) -> Self {
+        Subject { name: name.into(), length, bounds: Vec::new(), works }
+    }
+
+    /// By the independent implementation alone.
+    pub fn of_two(name: impl Into<String>, length: usize, works: [Work<'a>; 2]) -> Self {
+        let [ours, independent] = works;
+        Subject::new(name, length, vec![(Side::Ours, ours), (Side::Independent, independent)])
+    }
+
+    /// The same, held to a limit of the table.
+    pub fn held(self, side: Side, limit: &'static str) -> Self {
+        self.held_to(side, limit, limits::highest(limit))
+    }
+
+    /// The same, of our time beside so many seconds.
+    pub fn held_beside(mut self, side: Side, limit: &'static str, free: f64) -> Self {
+        self.bounds.push(Bound { side, limit, highest: limits::highest(limit), free });
+        self
+    }
+
+    /// The same, held to a multiple of such a limit.
+    pub fn held_to(mut self, side: Side, limit: &'static str, highest: f64) -> Self {
+        self.bounds.push(Bound { side, limit, highest, free: 0.0 });
+        self
+    }
 }

@@ -1,73 +1,64 @@
-//! Reports as JSON: the longest there is, read, written and cut, and texts of a mebibyte that could
-//! take a reader long.
+//! Reports as JSON: read into records, written from them, and read, cut and written in one call, by
+//! answers that are lent.
 //!
 //! No buffer is cleared between runs.
 
-use crate::limits::Limits;
-use crate::piles;
+use crate::piles::{Shape, FULL};
+use crate::run::Run;
 use crate::sides::{work, Side, Subject, Work};
+use crate::table::{count, microseconds, Table};
 use independent::making::Made;
 use independent::{lengthy, report_text};
 use std::hint::black_box;
 use trawlbeacon::{LONGEST_REPORT, MOST_RECORDS, RECORD_LENGTH};
 
-/// Bytes of the texts that could take long.
-const LENGTH: usize = 1 << 20;
-
 /// A full pile, which is a report, and its text.
-pub struct Full {
+pub struct Report {
     made: Made,
-    text: Vec<u8>,
+    pub text: Vec<u8>,
 }
 
-impl Full {
-    pub fn new() -> Self {
-        let made = piles::full();
+impl Report {
+    /// Of so many records, all of them full.
+    pub fn of(records: usize) -> Self {
+        let made = Shape { records, ..FULL }.made();
         let mut text = vec![0; LONGEST_REPORT];
         let length = trawlbeacon::write_report(&made.pile, &made.answers, &mut text);
-        assert_eq!(length, Ok(LONGEST_REPORT), "a full pile makes the longest report");
-        Full { made, text }
+        text.truncate(length.expect("it is a report"));
+        let theirs = report_text::write(&made.pile, &made.answers).expect("it is a report");
+        assert_eq!(text, theirs.as_bytes(), "both write the same text");
+        Report { made, text }
     }
 
-    fn write(&self) -> [Work<'_>; 2] {
+    pub fn write(&self) -> [Work<'_>; 2] {
         let (mut out, mut there) = (vec![0; LONGEST_REPORT], vec![0; LONGEST_REPORT]);
         let Made { pile, answers } = &self.made;
         [
             work(move || trawlbeacon::write_report(black_box(pile), black_box(answers), &mut out)),
             work(move || {
                 let text = report_text::write(black_box(pile), black_box(answers));
-                there.copy_from_slice(text.expect("it is a report").as_bytes());
+                let text = text.expect("it is a report");
+                there[..text.len()].copy_from_slice(text.as_bytes());
             }),
         ]
     }
 
-    fn cut(&self) -> [Work<'_>; 2] {
+    pub fn cut(&self) -> [Work<'_>; 2] {
         let (mut out, mut there) = (vec![0; LONGEST_REPORT], vec![0; LONGEST_REPORT]);
         let (text, answers) = (&self.text[..], &self.made.answers[..]);
         [
             work(move || trawlbeacon::cut_text(black_box(text), black_box(answers), &mut out)),
             work(move || {
                 let cut = report_text::cut(black_box(text), black_box(answers));
-                there.copy_from_slice(cut.expect("the whole convicts").1.as_bytes());
+                let text = cut.expect("the whole convicts").1;
+                there[..text.len()].copy_from_slice(text.as_bytes());
             }),
         ]
-    }
-
-    /// What is timed of the longest report.
-    pub fn subjects(&self, limits: &Limits) -> Vec<Subject<'_>> {
-        let read = ("read", limits.texts_read, read(&self.text));
-        let write = ("write", limits.texts_written, self.write());
-        let cut = ("cut", limits.texts_read, self.cut());
-        let named = [read, write, cut].map(|(name, limit, works)| {
-            let name = format!("{name} {MOST_RECORDS} x {} B", independent::packet::MOST);
-            subject(name, self.text.len(), Some(limit), works)
-        });
-        named.into()
     }
 }
 
 /// Reading, by both sides, into a buffer that is long enough for any report.
-fn read(text: &[u8]) -> [Work<'_>; 2] {
+pub fn read(text: &[u8]) -> [Work<'_>; 2] {
     let room = vec![0; MOST_RECORDS * RECORD_LENGTH];
     let (mut out, mut there) = (room.clone(), room);
     [
@@ -76,18 +67,31 @@ fn read(text: &[u8]) -> [Work<'_>; 2] {
     ]
 }
 
-fn subject(name: String, length: usize, limit: Option<f64>, works: [Work; 2]) -> Subject {
-    let [ours, independent] = works;
-    Subject {
-        name,
-        length,
-        limits: limit.map(|limit| (Side::Independent, limit)).into_iter().collect(),
-        works: vec![(Side::Ours, ours), (Side::Independent, independent)],
+/// Reports of 2 to 16 full records.
+pub fn part(run: &mut Run) {
+    let title = "reports as JSON, full records; a ratio is ours by the independent one's";
+    let head = ["Records", "bytes", "read µs", "ratio", "written µs", "ratio", "cut µs", "ratio"];
+    let mut table = Table::new("json", title, &head);
+    for records in [2, 4, 8, MOST_RECORDS] {
+        let report = Report::of(records);
+        let works = [
+            ("read", read(&report.text), "texts_read"),
+            ("written", report.write(), "texts_written"),
+            ("cut", report.cut(), "texts_read"),
+        ];
+        let mut row = vec![records.to_string(), count(report.text.len())];
+        for (what, works, limit) in works {
+            let name = format!("JSON of {records} records, {what}");
+            let subject = Subject::of_two(name, report.text.len(), works);
+            let measured = run.time(subject.held(Side::Independent, limit));
+            row.extend([microseconds(measured.ours()), measured.ratio_text(Side::Independent)]);
+        }
+        table.row(row);
     }
+    run.put(table);
 }
 
-/// Those of the texts that could take a reader long that are timed, by what they are made of. Too
-/// many brackets are refused at the 17th, and there is nothing to time.
+/// Some texts that could take a reader long, by what they are made of: many of each kind of thing.
 const KINDS: [&str; 7] = [
     "blanks",
     "one string",
@@ -98,12 +102,17 @@ const KINDS: [&str; 7] = [
     "one packet",
 ];
 
-/// Texts that could take a reader long.
-pub fn long() -> Vec<(&'static str, Vec<u8>)> {
-    lengthy::texts(LENGTH).into_iter().filter(|(name, _)| KINDS.contains(name)).collect()
-}
-
-/// One of them, read.
-pub fn of_long<'a>((name, text): &'a (&'static str, Vec<u8>)) -> Subject<'a> {
-    subject(name.to_string(), text.len(), None, read(text))
+/// A mebibyte of each.
+pub fn long(run: &mut Run) {
+    let columns = crate::table::Columns {
+        unit: "MB/s",
+        sides: &[Side::Ours, Side::Independent],
+        digits: 1,
+        show: |length, seconds| length as f64 / seconds / 1e6,
+    };
+    let texts = lengthy::texts(1 << 20);
+    let shown = texts.iter().filter(|(name, _)| KINDS.contains(name));
+    let subjects = shown.map(|(name, text)| Subject::of_two(*name, text.len(), read(text)));
+    let title = "texts of a mebibyte, read as reports";
+    run.table(Table::new("texts", title, &["A mebibyte of"]), &columns, subjects.collect());
 }

@@ -3,11 +3,14 @@
 //!
 //! No buffer is cleared between runs.
 
+use crate::hashes;
 use crate::limits;
+use crate::run::Run;
 use crate::sides::{work, Side, Subject, Work};
+use crate::table::{count, Columns, Table, MICROSECONDS};
 use independent::tree::Tree;
 use std::hint::black_box;
-use trawlbeacon::MOST_ROWS_LENGTH;
+use trawlbeacon::{MOST_LEAVES, MOST_ROWS_LENGTH};
 
 /// The numbers of leaves: the small ones, and those around the steps of the depth.
 const COUNTS: [usize; 11] = [2, 3, 4, 8, 9, 64, 65, 512, 513, 900, 1024];
@@ -28,7 +31,7 @@ fn hashing(data: &[u8], leaves: usize) -> Work<'_> {
     parents(data, leaves.next_power_of_two() - 1)
 }
 
-fn all_rows(leaves: &[u8]) -> Work<'_> {
+pub fn all_rows(leaves: &[u8]) -> Work<'_> {
     let mut out = vec![0; MOST_ROWS_LENGTH];
     work(move || {
         let laid = trawlbeacon::rows(black_box(leaves), &mut out);
@@ -37,89 +40,78 @@ fn all_rows(leaves: &[u8]) -> Work<'_> {
     })
 }
 
-fn subject<'a>(
-    name: String,
-    leaves: &'a [u8],
-    limits: Vec<(Side, f64)>,
-    works: Vec<(Side, Work<'a>)>,
-) -> Subject<'a> {
-    Subject { name, length: leaves.len(), limits, works }
+fn rows(data: &[u8], leaves: usize) -> Subject<'_> {
+    let bytes = &data[..32 * leaves];
+    let independent = work(move || Tree::build(black_box(bytes)).map(|tree| tree.bytes()));
+    let works = vec![
+        (Side::Ours, all_rows(bytes)),
+        (Side::Hashing, hashing(data, leaves)),
+        (Side::Independent, independent),
+    ];
+    let name = format!("rows, {} leaves", count(leaves));
+    Subject::new(name, leaves, works).held(Side::Hashing, limits::rows(leaves))
 }
 
-fn rows<'a>(data: &'a [u8], count: usize) -> Subject<'a> {
-    let leaves = &data[..32 * count];
-    let independent = work(move || Tree::build(black_box(leaves)).map(|tree| tree.bytes()));
-    subject(
-        format!("rows, {count} leaves"),
-        leaves,
-        vec![(Side::Hashing, limits::rows(count))],
-        vec![
-            (Side::Ours, all_rows(leaves)),
-            (Side::Hashing, hashing(data, count)),
-            (Side::Independent, independent),
-        ],
-    )
-}
-
-fn root<'a>(data: &'a [u8], count: usize) -> Subject<'a> {
-    let leaves = &data[..32 * count];
-    subject(
-        format!("root, {count} leaves"),
-        leaves,
-        vec![],
-        vec![
-            (Side::Ours, work(move || trawlbeacon::root(black_box(leaves)))),
-            (Side::Hashing, hashing(data, count)),
-        ],
-    )
+fn root(data: &[u8], leaves: usize) -> Subject<'_> {
+    let bytes = &data[..32 * leaves];
+    let works = vec![
+        (Side::Ours, work(move || trawlbeacon::root(black_box(bytes)))),
+        (Side::Hashing, hashing(data, leaves)),
+    ];
+    Subject::new(format!("root, {} leaves", count(leaves)), leaves, works)
 }
 
 /// The path of a leaf in the middle, built for it alone.
-fn path<'a>(data: &'a [u8], count: usize) -> Subject<'a> {
-    let leaves = &data[..32 * count];
+fn path(data: &[u8], leaves: usize) -> Subject<'_> {
+    let bytes = &data[..32 * leaves];
     let mut out = [0; 320];
     let ours = work(move || {
-        let placed = trawlbeacon::path(black_box(leaves), black_box(count / 2), &mut out);
+        let placed = trawlbeacon::path(black_box(bytes), black_box(leaves / 2), &mut out);
         black_box(&out);
         placed
     });
-    let limit = (count == 1024).then_some((Side::Rows, limits::PATH));
-    subject(
-        format!("path, {count} leaves"),
-        leaves,
-        limit.into_iter().collect(),
-        vec![
-            (Side::Ours, ours),
-            (Side::Hashing, hashing(data, count)),
-            (Side::Rows, all_rows(leaves)),
-        ],
-    )
+    let works = vec![
+        (Side::Ours, ours),
+        (Side::Hashing, hashing(data, leaves)),
+        (Side::Rows, all_rows(bytes)),
+    ];
+    let subject = Subject::new(format!("path, {} leaves", count(leaves)), leaves, works);
+    match leaves {
+        MOST_LEAVES => subject.held(Side::Rows, "path"),
+        _ => subject,
+    }
 }
 
 /// The same path out of the rows, beside a single hash.
-fn path_from<'a>(data: &'a [u8], count: usize) -> Subject<'a> {
-    let leaves = &data[..32 * count];
+fn path_from(data: &[u8], leaves: usize) -> Subject<'_> {
     let (mut rows, mut out) = (vec![0; MOST_ROWS_LENGTH], [0; 320]);
-    trawlbeacon::rows(leaves, &mut rows).expect("there are leaves, and there is room");
+    trawlbeacon::rows(&data[..32 * leaves], &mut rows)
+        .expect("there are leaves, and there is room");
     let ours = work(move || {
         let placed =
-            trawlbeacon::path_from(black_box(&rows), count, black_box(count / 2), &mut out);
+            trawlbeacon::path_from(black_box(&rows), leaves, black_box(leaves / 2), &mut out);
         black_box(&out);
         placed
     });
-    subject(
-        format!("path_from, {count} leaves"),
-        leaves,
-        vec![(Side::Hashing, limits::PATH_FROM)],
-        vec![(Side::Ours, ours), (Side::Hashing, parents(data, 1))],
-    )
+    let works = vec![(Side::Ours, ours), (Side::Hashing, parents(data, 1))];
+    let name = format!("path_from, {} leaves", count(leaves));
+    Subject::new(name, leaves, works).held(Side::Hashing, "path_from")
 }
 
-/// All trees that are timed, over leaves from the start of `data`.
-pub fn subjects(data: &[u8]) -> Vec<Subject<'_>> {
-    let mut all: Vec<Subject> = COUNTS.iter().map(|count| rows(data, *count)).collect();
-    for count in [2, 64, 1024] {
-        all.extend([root(data, count), path(data, count), path_from(data, count)]);
-    }
-    all
+const COLUMNS: Columns =
+    Columns { sides: &[Side::Ours, Side::Hashing, Side::Independent], digits: 3, ..MICROSECONDS };
+
+const PATHS: Columns =
+    Columns { sides: &[Side::Ours, Side::Hashing, Side::Rows], digits: 3, ..MICROSECONDS };
+
+pub fn part(run: &mut Run) {
+    let data = hashes::bytes(32 * MOST_LEAVES);
+    let title = "all rows of a tree; the hashing is the parents that it needs";
+    let subjects = COUNTS.iter().map(|leaves| rows(&data, *leaves)).collect();
+    run.table(Table::new("trees", title, &["Tree"]), &COLUMNS, subjects);
+    let ways = [2, 64, MOST_LEAVES]
+        .map(|leaves| [root(&data, leaves), path(&data, leaves), path_from(&data, leaves)]);
+    let title = "its root, the path of one leaf, and that path out of the rows (hashing: one)";
+    let subjects = ways.into_iter().flatten().collect();
+    run.table(Table::new("paths", title, &["Tree"]), &PATHS, subjects);
 }

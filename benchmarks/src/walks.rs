@@ -1,14 +1,17 @@
-//! The step of a measuring walk over eight servers: a response is taken, and the last one has the
-//! whole pile judged.
+//! The step of a measuring walk over eight servers: a response is taken, by answers that are lent
+//! and by its own signatures, and the last one has the whole pile judged.
 //!
 //! The state is put back before each call. The pile is not: each call writes the same record over
 //! what the one before it left.
 
-use crate::limits::Limits;
+use crate::run::Run;
 use crate::sides::{work, Side, Subject, Work};
+use crate::table::{count, Table, MICROSECONDS};
+use independent::ed25519::Ed25519;
 use independent::making::Link;
 use independent::pile::RECORD;
-use independent::walk::{Heard, Stand, Walk};
+use independent::signing::Keys;
+use independent::walk::{Arrived, Heard, Stand, Walk};
 use independent::{packet, write};
 use std::hint::black_box;
 use trawlbeacon::raw::{self, tb_took, tb_walk};
@@ -20,8 +23,37 @@ const PILE: usize = 2 * MOST_SERVERS * RECORD;
 /// What every next nonce is blinded with.
 const RAND: [u8; 32] = [9; 32];
 
+/// When every request was sent and every response received.
+const WHEN: u64 = 100;
+
+/// The servers.
+struct Servers {
+    ed25519: Ed25519,
+    keys: Vec<Keys>,
+}
+
+impl Servers {
+    fn new() -> Self {
+        let ed25519 = Ed25519::new();
+        let of = |place: usize| Keys::new(&ed25519, [place as u8; 32], [100 + place as u8; 32]);
+        Servers { ed25519, keys: (0..MOST_SERVERS).map(of).collect() }
+    }
+
+    /// The response to the request that a walk asks, with so many siblings and, at the least, so
+    /// many bytes.
+    fn answer(&self, walk: &Walk, siblings: usize, response_size: usize) -> Vec<u8> {
+        let keys = &self.keys[walk.accepted as usize % MOST_SERVERS];
+        let nonce = Some(walk.nonce);
+        let link = Link { nonce, siblings, response_size, ..Link::new(0, 1_000, 10) };
+        let request = write::request(&keys.long_term.public, &walk.nonce);
+        let mut pieces = link.response(&request, &[]);
+        keys.sign(&self.ed25519, &mut pieces);
+        pieces.packet()
+    }
+}
+
 /// A walk before one of its steps, and the response that is taken there.
-pub struct Step {
+struct Step {
     name: &'static str,
     walk: Walk,
     pile: Vec<u8>,
@@ -29,68 +61,75 @@ pub struct Step {
 }
 
 fn heard(response: &[u8]) -> Heard<'_> {
-    let (sent, received) = (100, 100);
+    let (sent, received) = (WHEN, WHEN);
     Heard { response, delegation: true, signature: true, sent, received, rand: RAND }
 }
 
+fn arrived(response: &[u8]) -> Arrived<'_> {
+    Arrived { response, sent: WHEN, received: WHEN, rand: RAND }
+}
+
 impl Step {
-    /// A walk after so many responses with so many siblings and, at the least, so many bytes.
-    fn after(name: &'static str, steps: usize, siblings: usize, response_size: usize) -> Self {
-        let keys: Vec<u8> = (0..MOST_SERVERS as u8).flat_map(|key| [key; 32]).collect();
+    /// A walk after so many responses of this kind.
+    fn after(servers: &Servers, name: &'static str, steps: usize, kind: (usize, usize)) -> Self {
+        let keys: Vec<u8> = servers.keys.iter().flat_map(|keys| keys.long_term.public).collect();
         let mut pile = vec![0; PILE];
         let mut walk = Walk::start(&keys, &[7; 32], 5, &pile).expect("nothing is wrong");
-        let answer = |walk: &Walk| {
-            let key = walk.servers[walk.accepted as usize % MOST_SERVERS];
-            let link = Link {
-                nonce: Some(walk.nonce),
-                siblings,
-                response_size,
-                ..Link::new(0, 1_000, 10)
-            };
-            link.response(&write::request(&key, &walk.nonce), &[]).packet()
-        };
         for _ in 0..steps {
-            let taken = walk.take(&heard(&answer(&walk)), &mut pile);
-            assert_eq!(taken, Ok(Stand::GoesOn));
+            let response = servers.answer(&walk, kind.0, kind.1);
+            assert_eq!(walk.take(&heard(&response), &mut pile), Ok(Stand::GoesOn));
         }
-        let response = answer(&walk);
+        let response = servers.answer(&walk, kind.0, kind.1);
         Step { name, walk, pile, response }
     }
 
-    fn ours(&self) -> Work<'_> {
+    /// The state by ours.
+    fn state(&self) -> tb_walk {
         let mut keys = [0; 256];
         keys.copy_from_slice(&self.walk.servers.concat());
         let Walk { accepted, nonce, rand, last, longest, .. } = self.walk;
         let (count, step, most) = (MOST_SERVERS as u64, accepted, longest);
-        let state = tb_walk { keys, count, step, nonce, rand, last, most };
-        let mut pile = self.pile.clone();
+        tb_walk { keys, count, step, nonce, rand, last, most }
+    }
+
+    fn ours(&self, take: fn(tb_walk, &[u8], &mut [u8]) -> tb_took) -> Work<'_> {
+        let (state, mut pile) = (self.state(), self.pile.clone());
         assert_eq!(take(state, &self.response, &mut pile).code, 0);
         work(move || take(black_box(state), black_box(&self.response), &mut pile))
     }
 
-    fn independents(&self) -> Work<'_> {
+    fn independents<'a, T>(
+        &'a self,
+        take: impl Fn(&mut Walk, &'a [u8], &mut [u8]) -> T + 'a,
+    ) -> Work<'a> {
         let (mut walk, mut pile) = (self.walk.clone(), self.pile.clone());
-        let mut take = move || {
+        work(move || {
             let Walk { accepted, nonce, rand, last, .. } = *black_box(&self.walk);
             (walk.accepted, walk.nonce, walk.rand, walk.last) = (accepted, nonce, rand, last);
-            walk.take(&heard(black_box(&self.response)), &mut pile)
-        };
-        assert!(take().is_ok());
-        work(take)
+            take(&mut walk, black_box(&self.response), &mut pile)
+        })
     }
 
-    pub fn subject(&self, limits: &Limits) -> Subject<'_> {
+    fn lent(&self) -> Subject<'_> {
+        let theirs = self.independents(|walk, response, pile| walk.take(&heard(response), pile));
+        self.subject("answers lent", [self.ours(take), theirs], "walks")
+    }
+
+    fn signed<'a>(&'a self, servers: &'a Servers) -> Subject<'a> {
+        let theirs = self.independents(|walk, response, pile| {
+            walk.take_signed(&servers.ed25519, &arrived(response), pile)
+        });
+        self.subject("verified", [self.ours(take_signed), theirs], "signed")
+    }
+
+    fn subject<'a>(&self, how: &str, works: [Work<'a>; 2], limit: &'static str) -> Subject<'a> {
         let length = self.response.len();
-        Subject {
-            name: format!("{}, {length} B", self.name),
-            length,
-            limits: vec![(Side::Independent, limits.walks)],
-            works: vec![(Side::Ours, self.ours()), (Side::Independent, self.independents())],
-        }
+        let name = format!("{}, {} bytes, {how}", self.name, count(length));
+        Subject::of_two(name, length, works).held(Side::Independent, limit)
     }
 }
 
-/// One call of ours.
+/// One call of ours, with two yeses.
 fn take(mut state: tb_walk, response: &[u8], pile: &mut [u8]) -> tb_took {
     // SAFETY: the library only reads the response, and only writes the state and the pile.
     unsafe {
@@ -104,8 +143,31 @@ fn take(mut state: tb_walk, response: &[u8], pile: &mut [u8]) -> tb_took {
             state.most,
             1,
             1,
-            100,
-            100,
+            WHEN,
+            WHEN,
+            &RAND,
+            response.as_ptr(),
+            response.len(),
+            pile.as_mut_ptr(),
+            pile.len(),
+        )
+    }
+}
+
+/// The same with no answers.
+fn take_signed(mut state: tb_walk, response: &[u8], pile: &mut [u8]) -> tb_took {
+    // SAFETY: the library only reads the response, and only writes the state and the pile.
+    unsafe {
+        raw::tb_walk_take_signed_fields(
+            &state.keys,
+            state.count,
+            &mut state.step,
+            &mut state.nonce,
+            &mut state.rand,
+            &mut state.last,
+            state.most,
+            WHEN,
+            WHEN,
             &RAND,
             response.as_ptr(),
             response.len(),
@@ -116,11 +178,15 @@ fn take(mut state: tb_walk, response: &[u8], pile: &mut [u8]) -> tb_took {
 }
 
 /// A step with a response as short as it can be and with one as full, and the last with full ones.
-pub fn steps() -> [Step; 3] {
-    let last = 2 * MOST_SERVERS - 1;
-    [
-        Step::after("a step, no siblings", 3, 0, 0),
-        Step::after("a step, 32 siblings", 3, 32, packet::MOST),
-        Step::after("the last, 32 siblings", last, 32, packet::MOST),
-    ]
+pub fn part(run: &mut Run) {
+    let servers = Servers::new();
+    let (last, full) = (2 * MOST_SERVERS - 1, (32, packet::MOST));
+    let steps = [
+        Step::after(&servers, "a step, no siblings", 3, (0, 0)),
+        Step::after(&servers, "a step, 32 siblings", 3, full),
+        Step::after(&servers, "the last, 32 siblings", last, full),
+    ];
+    let subjects = steps.iter().flat_map(|step| [step.lent(), step.signed(&servers)]).collect();
+    let title = "a response that is taken by a walk over eight servers";
+    run.table(Table::new("walks", title, &["Step of a walk"]), &MICROSECONDS, subjects);
 }

@@ -1,7 +1,8 @@
 //! The two checks of the windows of a full pile: one pass, and every pair.
 
-use crate::limits;
+use crate::run::Run;
 use crate::sides::{work, Side, Subject};
+use crate::table::{Columns, Table};
 use independent::pile;
 use std::hint::black_box;
 use trawlbeacon::Tally;
@@ -26,16 +27,22 @@ fn every_pair(told: &[(u64, u32)]) -> bool {
     })
 }
 
-pub fn subject() -> Subject<'static> {
+const COLUMNS: Columns = Columns {
+    unit: "ns",
+    sides: &[Side::Ours, Side::Pairs],
+    digits: 1,
+    show: |_, seconds| seconds * 1e9,
+};
+
+/// Windows that are known already.
+pub fn part(run: &mut Run) {
     let (first, second) = (told(), told());
     assert!(one_pass(&first) && every_pair(&second));
-    Subject {
-        name: format!("{} windows", first.len()),
-        length: first.len(),
-        limits: vec![(Side::Pairs, limits::ONE_PASS)],
-        works: vec![
-            (Side::Ours, work(move || one_pass(black_box(&first)))),
-            (Side::Pairs, work(move || every_pair(black_box(&second)))),
-        ],
-    }
+    let works = vec![
+        (Side::Ours, work(move || one_pass(black_box(&first)))),
+        (Side::Pairs, work(move || every_pair(black_box(&second)))),
+    ];
+    let subject = Subject::new("16, one contradicts", 16, works).held(Side::Pairs, "one_pass");
+    let title = "windows that are known already, of which only the last contradicts one";
+    run.table(Table::new("windows", title, &["Windows"]), &COLUMNS, vec![subject]);
 }

@@ -2,7 +2,7 @@
  * TB_TREE_STACK: with that much every operation ends, and on one page less than the most some
  * operation runs off the end. A verification is measured too, and every form that verifies by
  * itself, and the most of those is held to TB_VERIFY_STACK; and what goes from text to text, which
- * is held to TB_TEXT_STACK.
+ * is held to TB_TEXT_STACK. What every other operation takes is told as well.
  *
  * Each call runs on a stack of this program's own, which is painted first and has memory below it
  * that nobody may touch. That is done with contexts and not with threads, since a C library wants
@@ -55,6 +55,7 @@ static void call_verify(void) {
  * are right; each tells its code, so that it is seen to have gone to its end. */
 static uint8_t pile[REPORT_LENGTH], run[REPORT_LENGTH], told[2];
 static uint32_t code;
+static bool refused;
 static void call_answers(void) {
     tb_answers(KEY, RESPONSE, sizeof RESPONSE, told);
     code = told[0] == 1 && told[1] == 1 ? 0 : 12;
@@ -85,26 +86,126 @@ static void call_write_signed_report(void) {
     code = tb_write_signed_report(pile, sizeof pile, text, sizeof text).code;
 }
 
-/* The first step of a walk, whose servers are those of the draft's report. */
-static struct tb_walk walk;
-static uint8_t walk_pile[2 * REPORT_LENGTH];
+/* The first step of a walk whose servers are those of the draft's report. */
+static struct tb_walk among_drafts;
+static uint8_t drafts_walked[2 * REPORT_LENGTH];
+static void start_among_drafts(void) {
+    uint8_t keys[32 * DRAFTS];
+    for (size_t k = 0; k < DRAFTS; k++) memcpy(keys + 32 * k, pile + k * TB_RECORD_LENGTH, 32);
+    struct tb_response first = tb_read_response(RESPONSE, sizeof RESPONSE);
+    tb_walk_start(&among_drafts, keys, sizeof keys, first.nonc, 0, drafts_walked,
+                  sizeof drafts_walked);
+}
 static void call_walk_take_signed(void) {
-    const uint8_t rand[32] = {1};
-    code = tb_walk_take_signed(&walk, 0, 0, rand, RESPONSE, sizeof RESPONSE, walk_pile,
-                               sizeof walk_pile)
+    code = tb_walk_take_signed(&among_drafts, 0, 0, leaves, RESPONSE, sizeof RESPONSE,
+                               drafts_walked, sizeof drafts_walked)
                .code;
+}
+
+/* All the rest, on the same packets and records. */
+static const uint8_t ANSWERS[2 * DRAFTS] = {1, 1, 1, 1, 1, 1};
+static uint8_t digest[64], packet[TB_LONGEST_PACKET];
+static struct tb_running running;
+static const uint8_t *const REQUEST = pile + 96;
+
+static void call_sha512(void) { tb_sha512(leaves, sizeof leaves, digest); }
+static void call_parent(void) { tb_parent(leaves, leaves + 32, digest); }
+static void call_link(void) { tb_link(RESPONSE, sizeof RESPONSE, leaves, digest); }
+static void call_take_piece(void) { tb_sha512_take(&running, leaves, 1000); }
+static void call_finish_pieces(void) { tb_sha512_finish(&running, digest); }
+static void call_read_request(void) {
+    code = tb_read_request(REQUEST, TB_REQUEST_LENGTH).code;
+}
+static void call_read_response(void) { code = tb_read_response(RESPONSE, sizeof RESPONSE).code; }
+static void call_write_request(void) {
+    code = tb_write_request(KEY, leaves, packet, sizeof packet).code;
+}
+static void call_signed_parts(void) { code = tb_signed_parts(RESPONSE, sizeof RESPONSE).code; }
+static void call_response_text(void) {
+    code = tb_response_text(RESPONSE, sizeof RESPONSE, packet, sizeof packet).code;
+}
+static void call_check_response(void) {
+    code = tb_check_response(REQUEST, TB_REQUEST_LENGTH, RESPONSE, sizeof RESPONSE, 1, 1).code;
+}
+static void call_write_srep(void) {
+    code = tb_write_srep(leaves, 1000, 5, packet, sizeof packet).code;
+}
+/* The response to a request, by a server of which this is the only one, with signatures of
+ * nobody. */
+static struct tb_wrote respond(const uint8_t *request, uint8_t *to) {
+    static uint8_t cert[TB_CERT_LENGTH];
+    tb_leaf(request, TB_REQUEST_LENGTH, digest);
+    tb_write_cert(KEY, 0, 2000, SIGNATURE, cert, sizeof cert);
+    return tb_write_response(request, TB_REQUEST_LENGTH, 0, digest, leaves, 0, 1000, 5, cert,
+                             sizeof cert, SIGNATURE, to, TB_REQUEST_LENGTH);
+}
+static void call_write_response(void) { code = respond(REQUEST, packet).code; }
+static void call_find_server(void) {
+    code = tb_find_server(leaves, sizeof leaves, leaves, sizeof leaves, leaves + 32).code;
+}
+static void call_judge(void) {
+    code = tb_judge(pile, sizeof pile, ANSWERS, sizeof ANSWERS, 2).code;
+}
+static void call_check_report(void) {
+    code = tb_check_report(pile, sizeof pile, ANSWERS, sizeof ANSWERS).code;
+}
+static void call_cut_run(void) {
+    code = tb_cut_run(pile, sizeof pile, ANSWERS, sizeof ANSWERS, run, sizeof run).code;
+}
+static void call_pile_contradicts(void) {
+    code = tb_pile_contradicts(pile, sizeof pile, ANSWERS, sizeof ANSWERS);
+}
+/* The text with a member before its list that nests as deep as a text may. */
+static uint8_t deep[TB_LONGEST_REPORT + 64];
+static size_t deep_length;
+static void nest_text(void) {
+    static const char START[] = "{\"a\":[[[[[[[[[[[[[[[]]]]]]]]]]]]]]],";
+    memcpy(deep, START, sizeof START - 1);
+    memcpy(deep + sizeof START - 1, text + 1, text_length - 1);
+    deep_length = sizeof START - 1 + text_length - 1;
+}
+static void call_read_report(void) {
+    code = tb_read_report(deep, deep_length, run, sizeof run).code;
+}
+static void call_write_report(void) {
+    code = tb_write_report(pile, sizeof pile, ANSWERS, sizeof ANSWERS, cut, sizeof cut).code;
+}
+/* A walk over eight servers, before its first step and before its last. */
+static uint8_t walked[16 * TB_RECORD_LENGTH], asked[TB_REQUEST_LENGTH];
+static uint8_t answer[TB_REQUEST_LENGTH];
+static struct tb_walk walk;
+static void call_walk_start(void) {
+    code = tb_walk_start(&walk, leaves, 8 * 32, leaves, 5, walked, sizeof walked);
+}
+static void call_walk_ask(void) { code = tb_walk_ask(&walk, asked, sizeof asked).code; }
+static void take(struct tb_walk *state) {
+    size_t n = TB_RESPONSE_BYTES(0, TB_CERT_LENGTH);
+    code = tb_walk_take(state, 1, 1, 100, 100, leaves, answer, n, walked, sizeof walked).code;
+}
+static void call_walk_take(void) {
+    struct tb_walk state = walk;
+    take(&state);
+}
+static void walk_on(uint64_t steps) {
+    for (;;) {
+        call_walk_ask();
+        respond(asked, answer);
+        if (walk.step == steps || code != TB_PASSED) return;
+        take(&walk);
+    }
 }
 
 static const struct operation {
     const char *name;
     void (*call)(void);
-} OPERATIONS[] = {{"tb_root", call_root},
-                  {"tb_path", call_path},
-                  {"tb_rows", call_rows},
-                  {"tb_path_from", call_path_from},
-                  {"tb_leads", call_leads}};
+} TREES[] = {{"tb_root", call_root},
+             {"tb_path", call_path},
+             {"tb_rows", call_rows},
+             {"tb_path_from", call_path_from},
+             {"tb_leads", call_leads}};
 
-static const struct operation SIGNED[] = {{"tb_answers", call_answers},
+static const struct operation SIGNED[] = {{"tb_verify_parts", call_verify},
+                                          {"tb_answers", call_answers},
                                           {"tb_check_signed", call_check_signed},
                                           {"tb_judge_signed", call_judge_signed},
                                           {"tb_check_signed_report", call_check_signed_report},
@@ -114,6 +215,32 @@ static const struct operation SIGNED[] = {{"tb_answers", call_answers},
 
 static const struct operation TEXTS[] = {{"tb_cut_text", call_cut_text},
                                          {"tb_cut_signed_text", call_cut_signed_text}};
+
+static const struct operation OTHERS[] = {{"tb_sha512", call_sha512},
+                                          {"tb_parent", call_parent},
+                                          {"tb_link", call_link},
+                                          {"tb_sha512_take", call_take_piece},
+                                          {"tb_sha512_finish", call_finish_pieces},
+                                          {"tb_read_request", call_read_request},
+                                          {"tb_read_response", call_read_response},
+                                          {"tb_write_request", call_write_request},
+                                          {"tb_signed_parts", call_signed_parts},
+                                          {"tb_response_text", call_response_text},
+                                          {"tb_check_response", call_check_response},
+                                          {"tb_write_srep", call_write_srep},
+                                          {"tb_write_response", call_write_response},
+                                          {"tb_find_server", call_find_server},
+                                          {"tb_judge", call_judge},
+                                          {"tb_check_report", call_check_report},
+                                          {"tb_cut_run", call_cut_run},
+                                          {"tb_pile_contradicts", call_pile_contradicts},
+                                          {"tb_read_report", call_read_report},
+                                          {"tb_write_report", call_write_report},
+                                          {"tb_walk_start", call_walk_start},
+                                          {"tb_walk_ask", call_walk_ask},
+                                          {"tb_walk_take", call_walk_take}};
+
+static const struct operation LAST = {"tb_walk_take, the last", call_walk_take};
 
 /* Around the numbers at which another row is taken or a level comes. */
 static const size_t COUNTS[] = {1, 2, 32, 33, 512, 513, 900, TB_MOST_LEAVES};
@@ -156,10 +283,10 @@ static int all_end_on(size_t n) {
     pid_t child = fork();
     if (child == 0) {
         uint8_t *stack = make_stack(n);
-        for (size_t i = 0; i < SIZE(OPERATIONS); i++)
+        for (size_t i = 0; i < SIZE(TREES); i++)
             for (size_t j = 0; j < SIZE(COUNTS); j++) {
                 count = COUNTS[j];
-                call_on(stack, n, OPERATIONS[i].call);
+                call_on(stack, n, TREES[i].call);
             }
         _exit(0);
     }
@@ -170,51 +297,67 @@ static int all_end_on(size_t n) {
     return WIFEXITED(status) && WEXITSTATUS(status) == 0;
 }
 
-int main(void) {
-    uint8_t *stack = make_stack(LARGE);
-    size_t most = 0, before = taken(stack, call_nothing);
-    for (size_t i = 0; i < sizeof leaves; i++) leaves[i] = (uint8_t)(i / 32 + 7 * i);
-    tb_rows(leaves, sizeof leaves, rows, sizeof rows);
-    for (size_t i = 0; i < SIZE(OPERATIONS); i++) {
-        printf("%-13s", OPERATIONS[i].name);
+/* Prints what each of some operations takes, and tells the most. Each must pass. */
+static size_t most_of(uint8_t *stack, size_t before, const struct operation *list, size_t n) {
+    size_t most = 0;
+    for (size_t i = 0; i < n; i++) {
+        code = TB_PASSED;
+        size_t took = taken(stack, list[i].call) - before;
+        if (took > most) most = took;
+        if (code != TB_PASSED) refused = true;
+        printf("%-22s %6zu%s\n", list[i].name, took, code == TB_PASSED ? "" : " REFUSED");
+    }
+    return most;
+}
+
+/* The same of the trees, by their leaves. */
+static size_t most_of_trees(uint8_t *stack, size_t before) {
+    size_t most = 0;
+    for (size_t i = 0; i < SIZE(TREES); i++) {
+        printf("%-22s", TREES[i].name);
         for (size_t j = 0; j < SIZE(COUNTS); j++) {
             count = COUNTS[j];
-            size_t n = taken(stack, OPERATIONS[i].call);
-            if (n > most) most = n;
-            printf(" %6zu", n - before);
+            size_t took = taken(stack, TREES[i].call) - before;
+            if (took > most) most = took;
+            printf(" %6zu", took);
         }
         printf("\n");
     }
-    size_t verifying = taken(stack, call_verify) - before;
-    printf("%-22s %6zu, and the header says %d\n", "tb_verify_parts", verifying, TB_VERIFY_STACK);
+    return most;
+}
+
+/* Whether what was taken is within what the header says. */
+static bool within(const char *what, size_t most, size_t said) {
+    printf("%s: the most is %zu bytes, and the header says %zu\n", what, most, said);
+    return most <= said;
+}
+
+int main(void) {
+    uint8_t *stack = make_stack(LARGE);
+    size_t before = taken(stack, call_nothing);
+    for (size_t i = 0; i < sizeof leaves; i++) leaves[i] = (uint8_t)(i / 32 + 7 * i);
+    tb_rows(leaves, sizeof leaves, rows, sizeof rows);
     lay_report(pile);
-    uint8_t keys[32 * DRAFTS];
-    for (size_t k = 0; k < DRAFTS; k++) memcpy(keys + 32 * k, pile + k * TB_RECORD_LENGTH, 32);
-    struct tb_response first = tb_read_response(RESPONSE, sizeof RESPONSE);
-    tb_walk_start(&walk, keys, sizeof keys, first.nonc, 0, walk_pile, sizeof walk_pile);
-    for (size_t i = 0; i < SIZE(SIGNED); i++) {
-        code = UINT32_MAX;
-        size_t n = taken(stack, SIGNED[i].call) - before;
-        verified = verified && code == TB_PASSED;
-        if (n > verifying) verifying = n;
-        printf("%-22s %6zu\n", SIGNED[i].name, n);
-    }
-    size_t cutting = 0;
     text_length = (size_t)tb_write_signed_report(pile, sizeof pile, text, sizeof text).length;
-    for (size_t i = 0; i < SIZE(TEXTS); i++) {
-        code = UINT32_MAX;
-        size_t n = taken(stack, TEXTS[i].call) - before;
-        verified = verified && code == TB_PASSED;
-        if (n > cutting) cutting = n;
-        printf("%-22s %6zu, and the header says %d\n", TEXTS[i].name, n, TB_TEXT_STACK);
-    }
+    nest_text();
+    start_among_drafts();
+    tb_sha512_start(&running);
+    call_walk_start();
+    walk_on(0);
+
+    size_t most = most_of_trees(stack, before);
+    bool fits = within("trees", most, TB_TREE_STACK);
+    fits &= within("verifying", most_of(stack, before, SIGNED, SIZE(SIGNED)), TB_VERIFY_STACK);
+    fits &= within("texts", most_of(stack, before, TEXTS, SIZE(TEXTS)), TB_TEXT_STACK);
+    most_of(stack, before, OTHERS, SIZE(OTHERS));
+    walk_on(15);
+    most_of(stack, before, &LAST, 1);
+
     /* What a call of nothing takes is not the library's, but stands on the same stack. */
-    size_t pages = (most + PAGE - 1) / PAGE * PAGE;
-    int fits = most - before <= TB_TREE_STACK, enough = all_end_on(TB_TREE_STACK);
-    int needed = !all_end_on(pages - PAGE);
-    printf("the most is %zu bytes; all end on the %d that the header says: %s, on %zu: %s\n",
-           most - before, TB_TREE_STACK, enough ? "yes" : "NO", pages - PAGE,
-           needed ? "no" : "YES");
-    int held = verifying <= TB_VERIFY_STACK && cutting <= TB_TEXT_STACK;
-    return fits && enough && needed && verified && held ? 0 : 1;
+    size_t pages = (most + before + PAGE - 1) / PAGE * PAGE;
+    bool enough = all_end_on(TB_TREE_STACK), needed = !all_end_on(pages - PAGE);
+    printf("all trees end on the %d that the header says: %s, on %zu: %s\n", TB_TREE_STACK,
+           enough ? "yes" : "NO", pages - PAGE, needed ? "no" : "YES");
+    if (refused || !verified) printf("an operation did not pass\n");
+    return fits && enough && needed && verified && !refused ? 0 : 1;
 }

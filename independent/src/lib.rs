@@ -45,6 +45,8 @@ pub mod respond;
 pub mod response;
 pub mod server;
 pub mod servers;
+// Its own, but where benchmarks/peer compiles these files over RustCrypto's, to time both.
+#[cfg_attr(feature = "sha2", path = "../../benchmarks/peer/sha512.rs")]
 pub mod sha512;
 pub mod signed;
 pub mod signing;
