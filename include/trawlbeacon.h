@@ -35,9 +35,8 @@
  *   7:       the start of the value, an empty one too; of several wrong ones, of that with the
  *            smallest tag.
  *
- * On a refusal out stays as it was, and so does a state, but that of a walk whose start is refused;
- * every other field of the answer is 0, but for at, and for the place of a record where the answer
- * has one. What is written stands at the
+ * On a refusal out stays as it was, and so does a state; every other field of the answer is 0, but
+ * for at, and for the place of a record where the answer has one. What is written stands at the
  * front of out; what follows it stays.
  */
 #ifndef TRAWLBEACON_H
@@ -888,8 +887,8 @@ struct tb_took tb_walk_take_signed_fields(const uint8_t keys[256], uint64_t coun
 /* Starts a walk over the servers with these long-term keys, 32 bytes each, in their order, from a
  * nonce of the caller's. longest is the longest delay in seconds that a response may take. Nothing
  * is written to the pile. The codes are 31, also where the keys are not whole ones, and 19, where
- * the pile has under two records a server. After a refusal the state is that of no walk: every call
- * on it is refused with 28. */
+ * the pile has under two records a server. On a refusal the state stays as it was. One of zeros is
+ * no walk: every call on it is refused with 28. */
 static inline uint32_t tb_walk_start(struct tb_walk *walk, const uint8_t *servers,
                                      size_t servers_len, const uint8_t nonce[32], uint64_t longest,
                                      const uint8_t *pile, size_t pile_len) {

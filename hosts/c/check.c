@@ -1310,7 +1310,7 @@ static void expect_signed_walk(void) {
     expect_number(ended, expect_taken_alike(ended, &walk, 1, 0, RESPONSE, 0, 0).code, TB_ENDED);
 }
 
-/* A start that is refused leaves the state of no walk. */
+/* A start that is refused leaves the state as it was. */
 static void expect_no_start(const char *what, const uint8_t *keys, size_t n, size_t room,
                             uint32_t code) {
     struct tb_walk walk;
@@ -1319,7 +1319,8 @@ static void expect_no_start(const char *what, const uint8_t *keys, size_t n, siz
     memset(walk_pile, 0xee, sizeof walk_pile);
     memset(walk_should, 0xee, sizeof walk_should);
     expect_number(what, tb_walk_start(&walk, keys, n, nonce, LONGEST, walk_pile, room), code);
-    expect_all(what, (const uint8_t *)&walk, 0, sizeof walk);
+    expect_all(what, (const uint8_t *)&walk, 0x77, sizeof walk);
+    memset(&walk, 0, sizeof walk);
     expect_untaken(what, &walk, 3, 0, 0, keys, n, room, TB_ENDED, 0);
     expect_number(what, tb_walk_ask(&walk, walk_pile, room).code, TB_ENDED);
     expect_all(what, walk_pile, 0xee, sizeof walk_pile);

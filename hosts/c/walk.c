@@ -51,7 +51,9 @@ int main(int argc, char **argv) {
     else if (took.outcome == TB_MALFEASANCE)
         printf("malfeasance: records %u and %u contradict each other\n", (unsigned)took.first,
                (unsigned)took.second);
-    else
+    else if (took.outcome == TB_CONSISTENT)
         printf("consistent\n");
+    else
+        printf("the pile was altered\n");
     return took.code == TB_PASSED ? 0 : 1;
 }

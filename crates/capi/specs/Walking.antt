@@ -2,6 +2,7 @@
 -- promises: its answer is told by cases.
 use Prim.Native.Nat.{ℕ}
 use mathlib.Core.Path.{_≡_}
+use mathlib.Core.Bool.{cond}
 use mathlib.Core.List.{List}
 use lib.Dec.{eqb}
 use Rattle.told.specs.Walking.{tbTook}
@@ -10,11 +11,16 @@ use Rattle.walk.specs.Taking.{Takes, walkAfter, pileAfter}
 use Rattle.walk.specs.declared.Walk.{Walk}
 use Rattle.walk.specs.declared.Heard.{Heard}
 use Rattle.walk.specs.declared.Said.{Said}
+use Rattle.walk.specs.declared.Started.{Started}
 
 -- the state of these seven
 abbrev pub walkOf : List ℕ → ℕ → ℕ → List ℕ → List ℕ → ℕ → ℕ → Walk
 walkOf keys count step nonce rand last most =
     record { keys = keys; count = count; step = step; nonce = nonce; rand = rand; last = last; most = most }
+
+-- the state after a start: the walk that was started; a refusal leaves what stood there
+abbrev pub walkStarted : Started → Walk → Walk
+walkStarted s before = cond (eqb (s .refusal .code) 0) (s .walk) before
 
 -- what is heard with a response: of an answer only 1 is a yes
 abbrev pub heardOf : ℕ → ℕ → ℕ → ℕ → List ℕ → Heard

@@ -8,13 +8,13 @@ ghost use Rattle.walk.specs.Starting.{startedOf};
 ghost use Rattle.walk.specs.Asking.{askedOf};
 ghost use Rattle.hearing.specs.Heard.{ownHeard};
 ghost use Rattle.told.specs.Walking.{tbAsked};
-ghost use Rattle.capi.specs.Walking.{walkOf, heardOf, Took};
+ghost use Rattle.capi.specs.Walking.{walkOf, walkStarted, heardOf, Took};
 use told::TbAsked;
 use told::TbTook;
 use walk::Heard;
 use walk::Walk;
 
-// Starts a walk: 0, 31 or 19. After a refusal the state is that of no walk.
+// Starts a walk: 0, 31 or 19. On a refusal the state stays.
 #[no_mangle]
 pub extern "C" fn tb_walk_start_fields<'a>(
     keys: &mut [u8; 256],
@@ -33,9 +33,15 @@ pub extern "C" fn tb_walk_start_fields<'a>(
         .refusal .code)
         × (walkOf (now (keys .exit)) (now (count .exit)) (now (step .exit)) (now (nonce .exit)) (now (rand .exit))
         (now (last .exit)) (now (most .exit))
-        ≡ startedOf (now (servers .entry)) (now (first .entry)) longest (length (now (pile .entry))) .walk) ⌝ }
+        ≡ walkStarted (startedOf (now (servers .entry)) (now (first .entry)) longest (length (now (pile .entry))))
+        (walkOf (now (keys .entry)) (now (count .entry)) (now (step .entry)) (now (nonce .entry)) (now (rand .entry))
+        (now (last .entry)) (now (most .entry)))) ⌝ }
 {
     let s = walk::start(servers, *first, longest, pile);
+    let why = s.refusal;
+    if why.code != 0 {
+        return told::number(why);
+    }
     let w = s.walk;
     let ks = w.keys;
     *keys = ks;
@@ -47,7 +53,7 @@ pub extern "C" fn tb_walk_start_fields<'a>(
     *rand = r;
     *last = w.last;
     *most = w.most;
-    told::number(s.refusal)
+    0
 }
 
 // What is asked next, with the request at the front of out.

@@ -96,11 +96,12 @@ impl Comparison {
         let any = number(&mut self.random);
         let longest = self.random.pick(&[0, 1, 5, 60, 1_000, any, u64::MAX]);
         let pile = self.random.bytes(room);
-        let mut state = walks::unstarted(&mut self.random);
+        let before = walks::unstarted(&mut self.random);
+        let mut state = before;
         let code = walks::start(&mut state, keys, &nonce, longest, &pile);
         let theirs = walk::Walk::start(keys, &nonce, longest, &pile);
         let their_code = theirs.as_ref().map_or_else(|refusal| refusal.code(), |_| 0);
-        let laid = theirs.as_ref().map_or(NO_WALK, walks::laid);
+        let laid = theirs.as_ref().map_or(before, walks::laid);
         let same = (code, their_code) == (due, due) && state == laid;
         let (bytes, count) = (keys.len(), keys.len() / 32);
         self.hold(STARTS, code, same, || {
@@ -540,6 +541,7 @@ fn an_altered_pile_is_told_as_that() {
         assert_eq!(walks::start(&mut state, &keys, &nonce, 0, &pile), 0);
         let mut theirs = walk::Walk::start(&keys, &nonce, 0, &pile).expect("nothing is wrong");
         let story = walks::story(&mut random, 2 * count);
+        let mut at = 0;
         for (step, window) in story.windows.iter().enumerate() {
             let mut request = [0; trawlbeacon::REQUEST_LENGTH];
             let asked = walks::ask(&state, &mut request);
@@ -547,7 +549,7 @@ fn an_altered_pile_is_told_as_that() {
             if step + 1 == 2 * count {
                 let places = [32, 72, 1132, 2096, 2096 + response.len(), RECORD];
                 let before = random.pick(&places);
-                let at = RECORD * random.below(step) + random.below(before);
+                at = RECORD * random.below(step) + random.below(before);
                 pile[at] ^= 1 << random.below(8);
                 their_pile[at] = pile[at];
             }
@@ -561,6 +563,7 @@ fn an_altered_pile_is_told_as_that() {
             assert!(pile == their_pile);
             if step + 1 == 2 * count {
                 tally.count(OUTCOMES, took.outcome);
+                assert!(at % RECORD < 32 || took.outcome == 3, "byte {at} was altered");
             }
         }
     }
@@ -579,14 +582,15 @@ fn starts_read_no_further_than_their_keys() {
         for room in [0, 2 * count * RECORD, (2 * count * RECORD).saturating_sub(1)] {
             let (servers, buffer) = (random.bytes(length), random.bytes(room.min(16 * RECORD)));
             let nonce: Hash = random.array();
-            let mut between = Between::new(walks::unstarted(&mut random));
+            let before = walks::unstarted(&mut random);
+            let mut between = Between::new(before);
             let code = keys.show(&servers, |servers| {
                 pile.show(&buffer, |pile| {
                     walks::start(&mut between.state, servers, &nonce, 7, pile)
                 })
             });
             let theirs = walk::Walk::start(&servers, &nonce, 7, &buffer);
-            let laid = theirs.as_ref().map_or(NO_WALK, walks::laid);
+            let laid = theirs.as_ref().map_or(before, walks::laid);
             let due = theirs.map_or_else(Refusal::code, |_| 0);
             assert_eq!((code, between.state), (due, laid), "{length} bytes of keys");
             assert!(between.untouched());

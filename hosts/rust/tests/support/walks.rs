@@ -30,7 +30,7 @@ pub fn unstarted(random: &mut Xorshift) -> tb_walk {
     state
 }
 
-/// What a refused start leaves.
+/// No walk: every call on it is refused with 28.
 pub const NO_WALK: tb_walk =
     tb_walk { keys: [0; 256], count: 0, step: 0, nonce: [0; 32], rand: [0; 32], last: 0, most: 0 };
 
