@@ -59,7 +59,9 @@ impl Plan {
 
     pub fn exports(&self) -> Vec<&'static Export> {
         let wanted = |export: &&Export| self.only.iter().all(|only| only == export.name);
-        any_exports::all().filter(wanted).collect()
+        let exports: Vec<&Export> = any_exports::all().filter(wanted).collect();
+        assert!(!exports.is_empty(), "there is no such export: {:?}", self.only);
+        exports
     }
 
     fn cases(&self, export: &Export) -> usize {
