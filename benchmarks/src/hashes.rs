@@ -65,7 +65,8 @@ fn pieces(message: &[u8], length: usize) -> Subject<'_> {
         (Side::Ours, work(in_pieces)),
         (Side::Whole, work(move || trawlbeacon::sha512(black_box(message)))),
     ];
-    let subject = Subject::new(count(length), message.len(), works);
+    let name = format!("pieces of {} bytes", count(length));
+    let subject = Subject::new(name, message.len(), works);
     match length {
         1_000.. => subject.held(Side::Whole, "pieces"),
         _ => subject,
@@ -96,6 +97,6 @@ pub fn part(run: &mut Run) {
     run.table(Table::new("hash", "SHA-512", &["Message"]), &COLUMNS, whole);
     let lengths = [1, 64, 1_000, 65_536];
     let in_pieces = lengths.map(|length| pieces(&data[..1 << 20], length)).into();
-    let table = Table::new("pieces", "a mebibyte in pieces", &["Pieces of, bytes"]);
+    let table = Table::new("pieces", "a mebibyte in pieces", &["A mebibyte in"]);
     run.table(table, &PIECES, in_pieces);
 }

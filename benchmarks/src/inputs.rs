@@ -89,8 +89,8 @@ pub fn exchanges() -> Vec<Input> {
         of("32 siblings", link(0, 32), Crowd::None),
         of("32 tags a message, needed last", link(0, 0), Crowd::Four(FIRST)),
         of("32 tags a message, needed first", link(0, 0), Crowd::Four(LAST)),
-        of("32 siblings, many tags, needed last", link(0, 32), Crowd::Beside(FIRST)),
-        of("32 siblings, many tags, needed first", link(0, 32), Crowd::Beside(LAST)),
+        of("32 siblings, tags, needed last", link(0, 32), Crowd::Beside(FIRST)),
+        of("32 siblings, tags, needed first", link(0, 32), Crowd::Beside(LAST)),
         of("32 siblings, 32 versions twice", versed(), Crowd::None),
     ]
 }
@@ -147,15 +147,15 @@ fn nearly() -> Vec<Link> {
     (0..FULL.records).map(of).collect()
 }
 
+/// Piles of full records with 32 siblings.
 pub fn piles() -> Vec<Input> {
-    let last_two = FULL.made();
     let padded: Vec<Link> =
         nearly().into_iter().map(|link| Link { response_size: packet::MOST, ..link }).collect();
     vec![
-        of_made("32 siblings, the ends contradict", last_two),
-        of_made("32 siblings, all contradict nearly", making::chain(&padded)),
-        of_made("nearly, many tags, needed last", crowded(&nearly(), Crowd::Beside(FIRST))),
-        of_made("nearly, many tags, needed first", crowded(&nearly(), Crowd::Beside(LAST))),
+        of_made("the ends contradict", FULL.made()),
+        of_made("all nearly contradict", making::chain(&padded)),
+        of_made("nearly, tags, needed last", crowded(&nearly(), Crowd::Beside(FIRST))),
+        of_made("nearly, tags, needed first", crowded(&nearly(), Crowd::Beside(LAST))),
     ]
 }
 

@@ -132,11 +132,11 @@ fn class(line: &Line) -> String {
     format!("{whose}{dashed}")
 }
 
-/// The names of the lines, in the corner where no line goes.
+/// The names of the lines, below the chart.
 fn legend(svg: &mut String, chart: &Chart, lines: &[&Line]) {
     for (place, line) in lines.iter().enumerate() {
-        let (x, y) = (chart.left + 160.0, TOP + HEIGHT - 14.0 - 17.0 * place as f64);
-        let (from, at, class) = (x - 28.0, y - 4.0, class(line));
+        let (x, y) = (chart.left + 28.0, TOP + HEIGHT + 58.0 + 17.0 * place as f64);
+        let (from, at, class) = (chart.left, y - 4.0, class(line));
         let _ = writeln!(svg, "<path class='line {class}' d='M{from:.1} {at:.1}h22'/>");
         let _ = writeln!(svg, "<text x='{x:.1}' y='{y:.1}'>{}</text>", line.name);
     }
@@ -155,7 +155,7 @@ fn chart(svg: &mut String, chart: &Chart, lines: &[&Line]) {
 
 /// The picture of these lines.
 pub fn svg(lines: &[Line]) -> String {
-    let mut svg = String::from("<svg xmlns='http://www.w3.org/2000/svg' viewBox='0 0 930 340'>\n");
+    let mut svg = String::from("<svg xmlns='http://www.w3.org/2000/svg' viewBox='0 0 930 410'>\n");
     svg += STYLE;
     svg += "\n";
     for of in &CHARTS {

@@ -40,7 +40,7 @@ impl Side {
         match self {
             Side::Ours => "ours",
             Side::Independent => "independent",
-            Side::OverSha2 => "over sha2",
+            Side::OverSha2 => "sha2 checker",
             Side::Sha2 => "sha2",
             Side::OpenSsl => "OpenSSL",
             Side::Hashing => "hashing",
