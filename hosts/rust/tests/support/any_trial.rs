@@ -26,8 +26,6 @@ pub enum Use {
     Pile,
     /// Write them, where it does not refuse.
     State,
-    /// Write them in any case, as the start of a walk does.
-    Start,
 }
 
 struct Lent {
@@ -196,7 +194,6 @@ impl Lent {
         let whole = 0..self.bytes.len();
         let may = match self.used {
             Use::Read => 0..0,
-            Use::Start => whole,
             _ if answer.refused => 0..0,
             Use::State => whole,
             Use::Out | Use::Pile => answer.written.clone(),

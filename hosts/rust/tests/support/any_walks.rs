@@ -76,9 +76,9 @@ fn start(t: &mut Trial) {
     let room = t.make.room(2 * RECORD * count);
     let pile = t.make.bytes(room);
     let arrays = [&walk.keys[..], &walk.nonce, &walk.rand];
-    let [keys, first, rand] = arrays.map(|bytes| t.lend(Use::Start, bytes.to_vec()));
+    let [keys, first, rand] = arrays.map(|bytes| t.lend(Use::State, bytes.to_vec()));
     let numbers = [walk.count, walk.step, walk.last, walk.most];
-    let [count, step, last, most] = numbers.map(|number| t.numbers(Use::Start, &[number]));
+    let [count, step, last, most] = numbers.map(|number| t.numbers(Use::State, &[number]));
     let (servers, nonce, pile) = (t.read(servers), t.read(nonce), t.read(pile));
     t.call(|c| {
         let code = unsafe {
