@@ -21,7 +21,7 @@ use Rattle.walk.proofs.Accepting.{accepted}
 use Rattle.walk.proofs.Checked.{check-yes}
 use Rattle.hearing.specs.Heard.{ownHeard}
 
-both-yes : (d s : Bool) → answersCode d s .code ≡ 0 → (d ≡ true) × (s ≡ true)
+pub both-yes : (d s : Bool) → answersCode d s .code ≡ 0 → (d ≡ true) × (s ≡ true)
 unfolding answersCode whenOf firstOf
 both-yes true true e = (refl, refl)
 both-yes true false e = absurd (omega (arith, e))
