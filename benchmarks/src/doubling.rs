@@ -1,4 +1,4 @@
-//! What twice the bytes take: nothing grows faster than what it is given.
+//! What twice the bytes take: none of what is timed grows faster than what it is given.
 
 use crate::inputs;
 use crate::limits;
@@ -132,7 +132,7 @@ fn tell(run: &mut Run, table: &Table) {
         let (most, [name, of]) = (last(row), [&row[0], &row[1]]);
         let text = format!(
             "Twice the bytes took {most:.2} times as long at the most ({name}, {of}); above {} the \
-             run fails, so that nothing grows faster than what it is given.",
+             run fails, so that none of these grows faster than what it is given.",
             limits::highest("doubled")
         );
         run.say("grown", &text);

@@ -167,5 +167,6 @@ fn count(server: &Server, name: &str, teller: Teller) {
     let [received, answered] = [&server.counts.received, &server.counts.answered]
         .map(|count| count.load(Ordering::SeqCst));
     let ignored = received - answered;
-    teller.says(name, format!("has answered {answered} requests and ignored {ignored} packets"));
+    let packets = if ignored == 1 { "packet" } else { "packets" };
+    teller.says(name, format!("has answered {answered} requests and ignored {ignored} {packets}"));
 }
