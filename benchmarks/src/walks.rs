@@ -14,7 +14,7 @@ use independent::signing::Keys;
 use independent::walk::{Arrived, Heard, Stand, Walk};
 use independent::{packet, write};
 use std::hint::black_box;
-use trawlbeacon::raw::{self, tb_took, tb_walk};
+use trawlbeacon::raw::{tb_took, tb_walk};
 use trawlbeacon::MOST_SERVERS;
 
 /// Bytes of a pile with two records a server.
@@ -131,50 +131,12 @@ impl Step {
 
 /// One call of ours, with two yeses.
 fn take(mut state: tb_walk, response: &[u8], pile: &mut [u8]) -> tb_took {
-    // SAFETY: the library only reads the response, and only writes the state and the pile.
-    unsafe {
-        raw::tb_walk_take_fields(
-            &state.keys,
-            state.count,
-            &mut state.step,
-            &mut state.nonce,
-            &mut state.rand,
-            &mut state.last,
-            state.most,
-            1,
-            1,
-            WHEN,
-            WHEN,
-            &RAND,
-            response.as_ptr(),
-            response.len(),
-            pile.as_mut_ptr(),
-            pile.len(),
-        )
-    }
+    state.take([1, 1], [WHEN, WHEN], &RAND, response, pile)
 }
 
 /// The same with no answers.
 fn take_signed(mut state: tb_walk, response: &[u8], pile: &mut [u8]) -> tb_took {
-    // SAFETY: the library only reads the response, and only writes the state and the pile.
-    unsafe {
-        raw::tb_walk_take_signed_fields(
-            &state.keys,
-            state.count,
-            &mut state.step,
-            &mut state.nonce,
-            &mut state.rand,
-            &mut state.last,
-            state.most,
-            WHEN,
-            WHEN,
-            &RAND,
-            response.as_ptr(),
-            response.len(),
-            pile.as_mut_ptr(),
-            pile.len(),
-        )
-    }
+    state.take_signed([WHEN, WHEN], &RAND, response, pile)
 }
 
 /// A step with a response as short as it can be and with one as full, and the last with full ones.

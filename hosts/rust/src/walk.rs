@@ -3,7 +3,9 @@
 #[cfg(feature = "alloc")]
 use alloc::{vec, vec::Vec};
 
-use crate::raw::{self, tb_took, tb_walk};
+use core::slice;
+
+use crate::raw::{self, tb_asked, tb_took, tb_walk};
 use crate::{Hash, PacketRefusal, Pair, Refusal, RECORD_LENGTH, REQUEST_LENGTH};
 
 /// The fewest servers of a walk.
@@ -139,34 +141,10 @@ impl<Buffer: AsRef<[u8]> + AsMut<[u8]>> Walk<Buffer> {
         longest: u64,
         buffer: Buffer,
     ) -> Result<Walk<Buffer>, Refusal> {
-        let pile = buffer.as_ref();
-        let mut state = tb_walk {
-            keys: [0; 256],
-            count: 0,
-            step: 0,
-            nonce: [0; 32],
-            rand: [0; 32],
-            last: 0,
-            most: 0,
-        };
-        // SAFETY: see raw.
-        Refusal::check(unsafe {
-            raw::tb_walk_start_fields(
-                &mut state.keys,
-                &mut state.count,
-                &mut state.step,
-                &mut state.nonce,
-                &mut state.rand,
-                &mut state.last,
-                &mut state.most,
-                servers.as_ptr().cast(),
-                32 * servers.len(),
-                nonce,
-                longest,
-                pile.as_ptr(),
-                pile.len(),
-            )
-        })?;
+        let mut state = tb_walk::NONE;
+        // SAFETY: the keys stand one after the other.
+        let keys = unsafe { slice::from_raw_parts(servers.as_ptr().cast(), 32 * servers.len()) };
+        Refusal::check(state.start(keys, nonce, longest, buffer.as_ref()))?;
         Ok(Walk { state, buffer })
     }
 
@@ -184,21 +162,8 @@ impl<Buffer: AsRef<[u8]> + AsMut<[u8]>> Walk<Buffer> {
     ///
     /// [`Refusal::Ended`] (28) where the walk has ended.
     pub fn ask(&self) -> Result<Asked, Refusal> {
-        let (state, mut request) = (&self.state, [0; REQUEST_LENGTH]);
-        // SAFETY: see raw.
-        let asked = unsafe {
-            raw::tb_walk_ask_fields(
-                &state.keys,
-                state.count,
-                state.step,
-                &state.nonce,
-                &state.rand,
-                state.last,
-                state.most,
-                request.as_mut_ptr(),
-                request.len(),
-            )
-        };
+        let mut request = [0; REQUEST_LENGTH];
+        let asked = self.state.ask(&mut request);
         Refusal::check(asked.code)?;
         // A walk has at most 8 servers, so that nothing is lost.
         Ok(Asked { server: asked.server as usize, nonce: asked.nonce, request })
@@ -213,28 +178,9 @@ impl<Buffer: AsRef<[u8]> + AsMut<[u8]>> Walk<Buffer> {
     /// or sent for before the last one was received; 27 where it took too long; and 1 to 13 as
     /// [`check_response`](crate::check_response) has them. The walk stays as it was.
     pub fn take(&mut self, response: &[u8], heard: &Heard) -> Result<Outcome, PacketRefusal> {
-        let (state, pile) = (&mut self.state, self.buffer.as_mut());
-        // SAFETY: see raw.
-        let took = unsafe {
-            raw::tb_walk_take_fields(
-                &state.keys,
-                state.count,
-                &mut state.step,
-                &mut state.nonce,
-                &mut state.rand,
-                &mut state.last,
-                state.most,
-                heard.delegation.into(),
-                heard.signature.into(),
-                heard.sent,
-                heard.received,
-                &heard.rand,
-                response.as_ptr(),
-                response.len(),
-                pile.as_mut_ptr(),
-                pile.len(),
-            )
-        };
+        let answers = [heard.delegation, heard.signature].map(u32::from);
+        let (when, pile) = ([heard.sent, heard.received], self.buffer.as_mut());
+        let took = self.state.take(answers, when, &heard.rand, response, pile);
         outcome(took)
     }
 
@@ -253,26 +199,7 @@ impl<Buffer: AsRef<[u8]> + AsMut<[u8]>> Walk<Buffer> {
         received: u64,
         rand: &[u8; 32],
     ) -> Result<Outcome, PacketRefusal> {
-        let (state, pile) = (&mut self.state, self.buffer.as_mut());
-        // SAFETY: see raw.
-        outcome(unsafe {
-            raw::tb_walk_take_signed_fields(
-                &state.keys,
-                state.count,
-                &mut state.step,
-                &mut state.nonce,
-                &mut state.rand,
-                &mut state.last,
-                state.most,
-                sent,
-                received,
-                rand,
-                response.as_ptr(),
-                response.len(),
-                pile.as_mut_ptr(),
-                pile.len(),
-            )
-        })
+        outcome(self.state.take_signed([sent, received], rand, response, self.buffer.as_mut()))
     }
 
     /// The records so far, one for each response that was taken. With answers that are all 1 they
@@ -289,6 +216,124 @@ impl<Buffer: AsRef<[u8]> + AsMut<[u8]>> Walk<Buffer> {
     #[must_use]
     pub fn state(&self) -> tb_walk {
         self.state
+    }
+}
+
+/// The four calls on a state of the host's own, as the header has them: the state crosses field by
+/// field, and everything else is lent. [`Walk`] is made of them.
+impl tb_walk {
+    /// The state of no walk: every call on it is refused with 28.
+    pub const NONE: tb_walk = tb_walk {
+        keys: [0; 256],
+        count: 0,
+        step: 0,
+        nonce: [0; 32],
+        rand: [0; 32],
+        last: 0,
+        most: 0,
+    };
+
+    /// `tb_walk_start`: the code. `servers` is their keys, one after the other.
+    pub fn start(&mut self, servers: &[u8], nonce: &[u8; 32], longest: u64, pile: &[u8]) -> u32 {
+        // SAFETY: see raw.
+        unsafe {
+            raw::tb_walk_start_fields(
+                &mut self.keys,
+                &mut self.count,
+                &mut self.step,
+                &mut self.nonce,
+                &mut self.rand,
+                &mut self.last,
+                &mut self.most,
+                servers.as_ptr(),
+                servers.len(),
+                nonce,
+                longest,
+                pile.as_ptr(),
+                pile.len(),
+            )
+        }
+    }
+
+    /// `tb_walk_ask`.
+    #[must_use]
+    pub fn ask(&self, out: &mut [u8]) -> tb_asked {
+        // SAFETY: see raw.
+        unsafe {
+            raw::tb_walk_ask_fields(
+                &self.keys,
+                self.count,
+                self.step,
+                &self.nonce,
+                &self.rand,
+                self.last,
+                self.most,
+                out.as_mut_ptr(),
+                out.len(),
+            )
+        }
+    }
+
+    /// `tb_walk_take`, with the answers for the delegation's signature and for the response's: 1 is
+    /// yes. `when` is the seconds at which the request was sent and the response received.
+    pub fn take(
+        &mut self,
+        answers: [u32; 2],
+        when: [u64; 2],
+        next: &[u8; 32],
+        response: &[u8],
+        pile: &mut [u8],
+    ) -> tb_took {
+        // SAFETY: see raw.
+        unsafe {
+            raw::tb_walk_take_fields(
+                &self.keys,
+                self.count,
+                &mut self.step,
+                &mut self.nonce,
+                &mut self.rand,
+                &mut self.last,
+                self.most,
+                answers[0],
+                answers[1],
+                when[0],
+                when[1],
+                next,
+                response.as_ptr(),
+                response.len(),
+                pile.as_mut_ptr(),
+                pile.len(),
+            )
+        }
+    }
+
+    /// `tb_walk_take_signed`: the same with no answers.
+    pub fn take_signed(
+        &mut self,
+        when: [u64; 2],
+        next: &[u8; 32],
+        response: &[u8],
+        pile: &mut [u8],
+    ) -> tb_took {
+        // SAFETY: see raw.
+        unsafe {
+            raw::tb_walk_take_signed_fields(
+                &self.keys,
+                self.count,
+                &mut self.step,
+                &mut self.nonce,
+                &mut self.rand,
+                &mut self.last,
+                self.most,
+                when[0],
+                when[1],
+                next,
+                response.as_ptr(),
+                response.len(),
+                pile.as_mut_ptr(),
+                pile.len(),
+            )
+        }
     }
 }
 

@@ -15,7 +15,7 @@ use std::collections::BTreeMap;
 use support::guarded::Guarded;
 use support::signing::{Forgery, Servers, FORGERIES};
 use support::tally::Tally;
-use support::walks::{self, Between, Story, Window, FAULTS, NO_WALK};
+use support::walks::{self, Between, Story, Window, FAULTS};
 use support::{shortest, Xorshift};
 use trawlbeacon::raw::{tb_took, tb_walk};
 use trawlbeacon::{Answers, Outcome, Pair, Walk};
@@ -179,8 +179,8 @@ impl Comparison {
         let keys: Vec<u8> = places.iter().flat_map(|place| self.servers.key(*place)).collect();
         let room = 2 * count * RECORD + self.random.pick(&[0, 0, 1, 77]);
         let (pile, nonce) = (self.random.bytes(room), self.random.array());
-        let mut state = NO_WALK;
-        assert_eq!(walks::start(&mut state, &keys, &nonce, LONGEST, &pile), 0);
+        let mut state = tb_walk::NONE;
+        assert_eq!(state.start(&keys, &nonce, LONGEST, &pile), 0);
         Pace { state, pile, places }
     }
 

@@ -14,7 +14,7 @@ use std::collections::BTreeMap;
 use support::guarded::Guarded;
 use support::packets::number;
 use support::tally::Tally;
-use support::walks::{self, Between, Reply, Story, Window, FAULTS, NO_WALK};
+use support::walks::{self, Between, Reply, Story, Window, FAULTS};
 use support::Xorshift;
 use trawlbeacon::raw::{tb_took, tb_walk};
 use trawlbeacon::{Outcome, Pair, Walk};
@@ -98,7 +98,7 @@ impl Comparison {
         let pile = self.random.bytes(room);
         let before = walks::unstarted(&mut self.random);
         let mut state = before;
-        let code = walks::start(&mut state, keys, &nonce, longest, &pile);
+        let code = state.start(keys, &nonce, longest, &pile);
         let theirs = walk::Walk::start(keys, &nonce, longest, &pile);
         let their_code = theirs.as_ref().map_or_else(|refusal| refusal.code(), |_| 0);
         let laid = theirs.as_ref().map_or(before, walks::laid);
@@ -140,7 +140,7 @@ impl Comparison {
     fn ask(&mut self, pace: &Pace, room: usize, due: u32) {
         let before = self.random.bytes(room);
         let (mut out, mut their_out) = (before.clone(), before.clone());
-        let asked = walks::ask(&pace.state, &mut out);
+        let asked = pace.state.ask(&mut out);
         let their = walks::asked(pace.theirs.ask(&mut their_out));
         let mut right = asked == their && asked.code == due && out == their_out;
         if due == 0 {
@@ -462,7 +462,7 @@ fn made_up_call(random: &mut Xorshift, fences: &mut Fences, chain: &[u8], tally:
 
     let length = random.pick(&[0, 1035, 1036, 1036, 1050]);
     let before = random.bytes(length);
-    let (asked, out) = fences.out.lend(&before, |out| walks::ask(&between.state, out));
+    let (asked, out) = fences.out.lend(&before, |out| between.state.ask(out));
     let mut their_out = before;
     let their_asked = walks::asked(theirs.ask(&mut their_out));
     tally.count(ASKS, asked.code);
@@ -537,14 +537,14 @@ fn an_altered_pile_is_told_as_that() {
         let (keys, nonce) = (random.bytes(32 * count), random.array());
         let mut pile = random.bytes(2 * count * RECORD);
         let mut their_pile = pile.clone();
-        let mut state = NO_WALK;
-        assert_eq!(walks::start(&mut state, &keys, &nonce, 0, &pile), 0);
+        let mut state = tb_walk::NONE;
+        assert_eq!(state.start(&keys, &nonce, 0, &pile), 0);
         let mut theirs = walk::Walk::start(&keys, &nonce, 0, &pile).expect("nothing is wrong");
         let story = walks::story(&mut random, 2 * count);
         let mut at = 0;
         for (step, window) in story.windows.iter().enumerate() {
             let mut request = [0; trawlbeacon::REQUEST_LENGTH];
-            let asked = walks::ask(&state, &mut request);
+            let asked = state.ask(&mut request);
             let response = walks::answer(&mut random, &request, &asked.nonce, *window).packet();
             if step + 1 == 2 * count {
                 let places = [32, 72, 1132, 2096, 2096 + response.len(), RECORD];
@@ -585,9 +585,7 @@ fn starts_read_no_further_than_their_keys() {
             let before = walks::unstarted(&mut random);
             let mut between = Between::new(before);
             let code = keys.show(&servers, |servers| {
-                pile.show(&buffer, |pile| {
-                    walks::start(&mut between.state, servers, &nonce, 7, pile)
-                })
+                pile.show(&buffer, |pile| between.state.start(servers, &nonce, 7, pile))
             });
             let theirs = walk::Walk::start(&servers, &nonce, 7, &buffer);
             let laid = theirs.as_ref().map_or(before, walks::laid);
@@ -613,7 +611,7 @@ fn the_safe_walk_is_the_lent_one() {
         let nonce = random.array();
         let mut state = walks::unstarted(&mut random);
         let mut pile = vec![0; 2 * count * RECORD];
-        assert_eq!(walks::start(&mut state, &keys.concat(), &nonce, 5, &pile), 0);
+        assert_eq!(state.start(&keys.concat(), &nonce, 5, &pile), 0);
         let mut walk = Walk::start(&keys, &nonce, 5).expect("3 to 8 different keys");
         let story = walks::story(&mut random, 2 * count);
         let mut said = Outcome::GoesOn;
@@ -621,7 +619,7 @@ fn the_safe_walk_is_the_lent_one() {
             assert_eq!((said, walk.state()), (Outcome::GoesOn, state));
             let asked = walk.ask().expect("the walk goes on");
             let mut out = [0; trawlbeacon::REQUEST_LENGTH];
-            let raw = walks::ask(&state, &mut out);
+            let raw = state.ask(&mut out);
             assert_eq!((asked.server as u64, asked.nonce), (raw.server, raw.nonce));
             assert_eq!(asked.request, out);
             let right = walks::answer(&mut random, &out, &asked.nonce, *window);

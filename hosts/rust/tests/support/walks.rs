@@ -10,7 +10,7 @@ use independent::place;
 use independent::refusal::Refusal;
 use independent::tree;
 use independent::walk::{Arrived, Asked, Heard, Stand, Walk};
-use trawlbeacon::raw::{self, tb_asked, tb_took, tb_walk};
+use trawlbeacon::raw::{tb_asked, tb_took, tb_walk};
 
 /// A window, by its MIDP and RADI.
 pub type Window = (u64, u32);
@@ -30,96 +30,16 @@ pub fn unstarted(random: &mut Xorshift) -> tb_walk {
     state
 }
 
-/// No walk: every call on it is refused with 28.
-pub const NO_WALK: tb_walk =
-    tb_walk { keys: [0; 256], count: 0, step: 0, nonce: [0; 32], rand: [0; 32], last: 0, most: 0 };
-
-pub fn start(state: &mut tb_walk, keys: &[u8], nonce: &Hash, longest: u64, pile: &[u8]) -> u32 {
-    // SAFETY: the library only reads the keys, the nonce and the pile, and only writes the state.
-    unsafe {
-        raw::tb_walk_start_fields(
-            &mut state.keys,
-            &mut state.count,
-            &mut state.step,
-            &mut state.nonce,
-            &mut state.rand,
-            &mut state.last,
-            &mut state.most,
-            keys.as_ptr(),
-            keys.len(),
-            nonce,
-            longest,
-            pile.as_ptr(),
-            pile.len(),
-        )
-    }
-}
-
-pub fn ask(state: &tb_walk, out: &mut [u8]) -> tb_asked {
-    // SAFETY: the library only reads the state, and only writes `out`.
-    unsafe {
-        raw::tb_walk_ask_fields(
-            &state.keys,
-            state.count,
-            state.step,
-            &state.nonce,
-            &state.rand,
-            state.last,
-            state.most,
-            out.as_mut_ptr(),
-            out.len(),
-        )
-    }
-}
-
 pub fn take(state: &mut tb_walk, heard: &Heard, pile: &mut [u8]) -> tb_took {
     // Only 1 is yes, so that each of these must do for no.
     let no = NOES[(heard.response.len() / 4 + usize::from(heard.rand[0])) % NOES.len()];
-    let [delegation, signature] =
-        [heard.delegation, heard.signature].map(|yes| if yes { 1 } else { no });
-    // SAFETY: the library only reads the response and the rand, and only writes state and pile.
-    unsafe {
-        raw::tb_walk_take_fields(
-            &state.keys,
-            state.count,
-            &mut state.step,
-            &mut state.nonce,
-            &mut state.rand,
-            &mut state.last,
-            state.most,
-            delegation,
-            signature,
-            heard.sent,
-            heard.received,
-            &heard.rand,
-            heard.response.as_ptr(),
-            heard.response.len(),
-            pile.as_mut_ptr(),
-            pile.len(),
-        )
-    }
+    let answers = [heard.delegation, heard.signature].map(|yes| if yes { 1 } else { no });
+    state.take(answers, [heard.sent, heard.received], &heard.rand, heard.response, pile)
 }
 
 pub fn take_signed(state: &mut tb_walk, arrived: &Arrived, pile: &mut [u8]) -> tb_took {
-    // SAFETY: the library only reads the response and the rand, and only writes state and pile.
-    unsafe {
-        raw::tb_walk_take_signed_fields(
-            &state.keys,
-            state.count,
-            &mut state.step,
-            &mut state.nonce,
-            &mut state.rand,
-            &mut state.last,
-            state.most,
-            arrived.sent,
-            arrived.received,
-            &arrived.rand,
-            arrived.response.as_ptr(),
-            arrived.response.len(),
-            pile.as_mut_ptr(),
-            pile.len(),
-        )
-    }
+    let when = [arrived.sent, arrived.received];
+    state.take_signed(when, &arrived.rand, arrived.response, pile)
 }
 
 /// The independent side's state, as ours lays it out.
