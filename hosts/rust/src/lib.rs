@@ -3,14 +3,16 @@
 //! Each function here calls the function of the proved library that has the same name after `tb_`,
 //! and adds nothing to it; [`cut`], [`cut_signed`], [`Record`], [`Pile`] and [`SignedPile`] only
 //! lay out bytes beside such calls, and [`Sha512`], [`Tally`] and [`Walk`] hold the state between
-//! those that end in `_fields` or `_field`, the last with its pile. The proofs speak of the
-//! library's own code; that these few lines declare and call it rightly is shown by the tests
-//! alone, which compare every function with an implementation that shares no code with the library.
+//! those that end in `_fields` or `_field`, the last with its pile. The module `picture` draws what
+//! such calls say of a pile. The proofs speak of the library's own code; that these few lines
+//! declare and call it rightly is shown by the tests alone, which compare every function with an
+//! implementation that shares no code with the library.
 //!
 //! H, below, is Roughtime's hash: the first 32 bytes of SHA-512. The example `time` goes from the
 //! request to the window by [`check_signed`], and takes a file for what the server answered; the
 //! example `console` does the same with an Ed25519 of the host's; the example `server` delegates a
-//! key and answers a batch of 900 requests.
+//! key and answers a batch of 900 requests; the example `demo` has a console measure three servers,
+//! one of which lies.
 //!
 //! Without the feature `std`, which is on by default, the package needs no operating system, and
 //! without `alloc`, which `std` brings along, no heap: what holds bytes of its own is then left out,
