@@ -13,8 +13,9 @@
  *     initialised memory, and overlaps no input.
  * All memory stays the caller's. The functions only read their inputs, but for the state of a hash
  * in pieces, that of windows as they come and that of a walk, which starting and taking write, and
- * the pile of a walk; they allocate nothing, and keep no pointer and no state of their own; an
- * answer is a value of its own. Inputs may overlap each other, but not such a state or pile.
+ * the pile of a walk; they allocate nothing, and keep no pointer and no state of their own, so that
+ * threads may call them at once; an answer is a value of its own. Inputs may overlap each other, but
+ * not such a state or pile.
  *
  * The functions of hashes and tb_answers write the whole of out, and they and those that answer
  * with a bool cannot fail, but for tb_sha512_take. That one and every other take any bytes and
