@@ -1,4 +1,5 @@
-/* The proved Roughtime library, for C. Link libcapi.a, which tools/native-lib makes.
+/* The proved Roughtime library, for C. Link libtrawlbeacon, which ./install installs, or libcapi.a,
+ * which tools/native-lib makes and which is the same.
  *
  * H is Roughtime's hash: the first 32 bytes of SHA-512. Times are whole seconds since 1970, but for
  * the stamps of old captures.
@@ -12,8 +13,9 @@
  *     initialised memory, and overlaps no input.
  * All memory stays the caller's. The functions only read their inputs, but for the state of a hash
  * in pieces, that of windows as they come and that of a walk, which starting and taking write, and
- * the pile of a walk; they allocate nothing, and keep no pointer and no state of their own; an
- * answer is a value of its own. Inputs may overlap each other, but not such a state or pile.
+ * the pile of a walk; they allocate nothing, and keep no pointer and no state of their own, so that
+ * threads may call them at once; an answer is a value of its own. Inputs may overlap each other, but
+ * not such a state or pile.
  *
  * The functions of hashes and tb_answers write the whole of out, and they and those that answer
  * with a bool cannot fail, but for tb_sha512_take. That one and every other take any bytes and
@@ -227,12 +229,13 @@ static inline const char *tb_code_text(uint32_t code) {
 
 /* Bytes of stack that are enough for a verification, which has a table of 10,240 numbers there, and
  * for every function that verifies by itself but tb_cut_signed_text. A verification takes 48,744 at
- * the most, measured on aarch64, and 48,864 on x86-64, where tb_cut_signed_run takes 52,176.
+ * the most, measured on aarch64, and 48,864 on x86-64, where tb_cut_signed_run takes 52,368.
  * hosts/c/stack.c measures them anew. */
 #define TB_VERIFY_STACK 65536
 
 /* Bytes of stack that are enough for tb_cut_text and tb_cut_signed_text, which hold sixteen records
- * there: 73,000 and 117,808, measured on x86-64. hosts/c/stack.c measures them anew. */
+ * there: 73,032 and 118,000, measured on x86-64. hosts/c/stack.c measures them anew. Of functions
+ * for which none of the three constants is meant it measures 23, and none takes over 10,856. */
 #define TB_TEXT_STACK 163840
 
 /* Bytes of a record of a list of servers. */
@@ -371,13 +374,13 @@ struct tb_wrote tb_write_request(const uint8_t key[32], const uint8_t nonce[32],
 
 /* ---- Signatures ----
  *
- * Four checks verify signatures by themselves: tb_check_signed, tb_judge_signed,
- * tb_check_signed_report and tb_cut_signed_run; and so does tb_walk_take_signed. Those that take
- * answers, tb_check_response, tb_judge, tb_check_report, tb_cut_run, tb_pile_contradicts and
- * tb_walk_take, verify none: the caller asks whether both verify, of tb_answers, of tb_verify or of
- * an Ed25519 of its own, and says there what came out. All questions go by what the library hands
- * out, and nothing is to be read from the packet by the caller's own code: one that reads a key or
- * a signature at the place where it usually stands can be made to accept a forged time. */
+ * These verify signatures by themselves: tb_check_signed, tb_judge_signed, tb_check_signed_report,
+ * tb_cut_signed_run, tb_write_signed_report, tb_cut_signed_text and tb_walk_take_signed. Those that
+ * take answers, tb_check_response, tb_judge, tb_check_report, tb_cut_run, tb_write_report,
+ * tb_cut_text, tb_pile_contradicts and tb_walk_take, verify none: the caller asks whether both
+ * verify, of tb_answers, of tb_verify or of an Ed25519 of its own, and says there what came out.
+ * The caller's own code reads nothing of it from the packet: one that reads a key or a signature at
+ * the place where it usually stands can be made to accept a forged time. */
 
 /* Whether the signature of the text verifies under the key: Ed25519 of RFC 8032, 5.1.7, with S
  * below the group order and the group equation without the cofactor. Any lengths are taken: a key

@@ -89,13 +89,14 @@ pub struct tb_response {
     pub root: [u8; 32],
 }
 
-/// What a function answers that writes a request or a text.
+/// What a function answers that writes a request, a text to be signed, or what a server sends.
 #[repr(C)]
 #[derive(Clone, Copy, Debug, PartialEq, Eq)]
 pub struct tb_wrote {
     /// 0, or a refusal.
     pub code: u32,
-    /// The byte of the packet at which it is bad, with codes 4 to 7; else 0.
+    /// The byte of the packet, or of the value of CERT, at which it is bad, with codes 4 to 7; else
+    /// 0, and beside the 7 for a RADI of 0.
     pub at: u64,
     /// How many bytes were written: 0 on a refusal.
     pub length: u64,
@@ -187,7 +188,7 @@ pub struct tb_found {
     pub offset: u64,
 }
 
-/// What [`tb_judge`] answers.
+/// What [`tb_judge`] and [`tb_judge_signed`] answer.
 #[repr(C)]
 #[derive(Clone, Copy, Debug, PartialEq, Eq)]
 pub struct tb_judged {
@@ -213,7 +214,7 @@ pub struct tb_judged {
     pub pubk: [u8; 32],
 }
 
-/// What [`tb_check_report`] answers.
+/// What [`tb_check_report`] and [`tb_check_signed_report`] answer.
 #[repr(C)]
 #[derive(Clone, Copy, Debug, PartialEq, Eq)]
 pub struct tb_reported {
@@ -230,7 +231,7 @@ pub struct tb_reported {
     pub second: u64,
 }
 
-/// What [`tb_cut_run`] answers.
+/// What [`tb_cut_run`] and [`tb_cut_signed_run`] answer.
 #[repr(C)]
 #[derive(Clone, Copy, Debug, PartialEq, Eq)]
 pub struct tb_cut {

@@ -79,14 +79,15 @@ pub enum Outcome {
 /// while outcome == Outcome::GoesOn {
 ///     let asked = walk.ask()?;
 ///     let (sent, response, received) = (now(), exchange(&asked), now());
-///     outcome = walk.take_signed(&response, sent, received, &random())?;
+///     // What is refused changes nothing: a host waits, and the same is asked again.
+///     if let Ok(said) = walk.take_signed(&response, sent, received, &random()) {
+///         outcome = said;
+///     }
 /// }
 /// assert_eq!(outcome, Outcome::Consistent);
 /// # assert_eq!(walk.pile().len(), 6 * trawlbeacon::RECORD_LENGTH);
 /// # Ok::<(), trawlbeacon::PacketRefusal>(())
 /// ```
-///
-/// A response that is refused changes nothing, so that the same request can be sent again.
 ///
 /// The buffer of its pile is its own, or one that is lent or handed over
 /// ([`start_in`](Walk::start_in)), as where there is no heap.
