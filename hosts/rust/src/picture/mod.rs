@@ -120,6 +120,11 @@ impl Picture {
         Some((self.records[run.first].told.ok()?, self.records[run.last].told.ok()?))
     }
 
+    /// Whether a record is one of the run.
+    fn in_run(&self, place: usize) -> bool {
+        self.run.map_or(false, |run| (run.first..=run.last).contains(&place))
+    }
+
     /// Whether a run of its records convicts.
     #[must_use]
     pub const fn convicts(&self) -> bool {
