@@ -20,6 +20,7 @@
 mod axis;
 mod canvas;
 mod dates;
+mod steps;
 mod style;
 mod svg;
 mod text;

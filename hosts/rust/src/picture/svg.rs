@@ -42,7 +42,8 @@ pub(super) fn draw(picture: &Picture) -> String {
     let axis = Axis::of(&windows, AXIS_WIDTH, BREAK);
     let notes = words::notes(picture, axis.as_ref(), LEAST_BAR);
     let lines = (picture.servers.len() + notes.len()) as u64;
-    let height = below(picture) + SCALE + LINE * lines + LINE / 2 + MARGIN;
+    let legend_at = below(picture) + axis.as_ref().map_or(0, |_| SCALE);
+    let height = legend_at + LINE * lines + LINE / 2 + MARGIN;
     let heading = words::heading(picture);
     let finding = words::finding(picture);
     let sheet = style::sheet(picture.servers.len());
@@ -62,7 +63,7 @@ pub(super) fn draw(picture: &Picture) -> String {
     for (place, shown) in picture.records.iter().enumerate() {
         record(&mut canvas, picture, axis.as_ref(), place, shown);
     }
-    legend(&mut canvas, picture, &notes);
+    legend(&mut canvas, picture, &notes, legend_at);
     canvas.finish()
 }
 
@@ -222,8 +223,7 @@ fn contradiction(canvas: &mut Canvas, picture: &Picture, axis: &Axis) {
 }
 
 /// The servers with their whole keys, and what is said of the records.
-fn legend(canvas: &mut Canvas, picture: &Picture, notes: &[String]) {
-    let mut y = below(picture) + SCALE;
+fn legend(canvas: &mut Canvas, picture: &Picture, notes: &[String], mut y: Length) {
     for server in 0..picture.servers.len() {
         y += LINE;
         canvas.rect(&format!("s{server}"), (MARGIN, y - 10 * PX), (12 * PX, 12 * PX));
