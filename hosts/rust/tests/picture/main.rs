@@ -183,6 +183,11 @@ fn the_report_of_the_draft() {
     // The README shows it.
     let kept = concat!(env!("CARGO_MANIFEST_DIR"), "/../../docs/draft-report.svg");
     assert!(std::fs::read_to_string(kept).expect("it is kept") == read.svg());
+    // And one of three servers that nobody keeps the pile of, which has the same style.
+    let other = concat!(env!("CARGO_MANIFEST_DIR"), "/../../docs/demo.svg");
+    let other = xml::elements(&std::fs::read_to_string(other).expect("it is kept"));
+    let style = |all: &[Element]| all.iter().find(|one| one.name == "style").cloned();
+    assert_eq!(style(&other.expect("it is well-formed")), style(&elements));
     assert_eq!(Picture::of_text(&text.as_bytes()[1..]), Err(Refusal::ReportText));
     assert_eq!(Picture::of_text(br#"{"responses": []}"#), Err(Refusal::Entries));
 }
