@@ -2,8 +2,6 @@
 //! deserve no answer. Each answer is checked as its client does. What is not answered must have
 //! been dropped by the system, which counts that.
 
-#[path = "../examples/demo/batch.rs"]
-mod batch;
 #[allow(dead_code)]
 #[path = "../examples/demo/keys.rs"]
 mod keys;
@@ -12,12 +10,14 @@ mod running;
 #[allow(dead_code)]
 #[path = "../examples/demo/server.rs"]
 mod server;
+#[path = "../examples/serving/mod.rs"]
+mod serving;
 mod support;
 
-use batch::Batch;
 use independent::write::padded_request;
-use keys::{Delegated, TestSigner};
+use keys::TestSigner;
 use server::{now, Server};
+use serving::{Batch, Delegated, Sign};
 use std::collections::HashMap;
 use std::net::{SocketAddr, UdpSocket};
 use std::sync::atomic::{AtomicU64, Ordering};
@@ -50,7 +50,7 @@ const SENT: u64 = (REQUESTS + CROWDS * ROUNDS) as u64;
 const PATIENCE: Duration = Duration::from_millis(100);
 
 /// A key to sign with for some time, and the long-term public key that delegates to it.
-fn delegated() -> (Delegated, [u8; 32]) {
+fn delegated() -> (Delegated<TestSigner>, [u8; 32]) {
     let long_term = TestSigner::new(&[1; 32]);
     let times = (now() - 60, now() + 3_600);
     let delegated = Delegated::new(&long_term, TestSigner::new(&[2; 32]), times);

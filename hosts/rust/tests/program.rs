@@ -11,6 +11,7 @@ use std::process::{Command, Output, Stdio};
 use std::sync::Once;
 use support::hex;
 use trawlbeacon::picture::Picture;
+use trawlbeacon::Refusal;
 
 const ROOT: &str = concat!(env!("CARGO_MANIFEST_DIR"), "/../..");
 
@@ -235,6 +236,42 @@ fn wrong_files_get_a_hint_and_the_verdict_stays() {
     hinted(&["."], "'.' cannot be read, and counts as empty");
     let right = room.put("right", &[1; 4]);
     assert_eq!(room.run(&[pile, right]).said, "");
+    hinted(&["-h"], "'-h' cannot be read, and counts as empty; a flag has two dashes, as --help");
+}
+
+/// Wherever answers are taken, what is wrong with them is said, also of a pipe, and also where the
+/// records come from a report in JSON.
+#[test]
+fn every_action_gives_the_same_hint() {
+    let room = Room::new("same_hints");
+    let made = making::pile_of(&[(1000, 10), (1500, 10)]);
+    let (pile, short) = (room.put("pile", &made.pile), room.put("short", &made.pile[1..]));
+    let report = format!("{ROOT}/vectors/malfeasance-report.json");
+    let (digits, few) = (room.put("digits", b"1111"), room.put("few", &[1; 2]));
+    let digit = "byte 0 of 'digits' is 49; an answer is the byte 1 or 0, and no digit";
+    let wrong: [(&[&str], &str); 4] = [
+        (&[pile, digits], digit),
+        (&[pile, few], "'few' has 2 bytes; 2 records have 4 answers"),
+        (&[&report, few], "'few' has 2 bytes; 3 records have 6 answers"),
+        (&[short], "'short' has 8191 bytes, and a record has 4096"),
+    ];
+    let words = Refusal::Pile.to_string();
+    for (files, hint) in wrong {
+        for action in ["--judge", "--json", "--cut", "--draw"] {
+            let ran = room.run(&[&[action], files].concat());
+            let due = format!("{words}\ntrawl: {hint}\n");
+            assert!(ran.said.starts_with("trawl: ") && ran.said.ends_with(&due), "{}", ran.said);
+            let judged = action.starts_with("--j");
+            assert_eq!(
+                (ran.status, ran.out.is_empty()),
+                (Some(4 - 4 * i32::from(judged)), !judged)
+            );
+        }
+    }
+    // Of one record it is said in the singular.
+    let (one, empty) = (room.put("one", &made.pile[..4096]), room.put("empty", b""));
+    let ran = room.run(&["--judge", one, empty]);
+    assert!(ran.said.ends_with("'empty' has 0 bytes; 1 record has 2 answers\n"), "{}", ran.said);
 }
 
 #[test]
@@ -327,7 +364,17 @@ fn a_server_is_looked_up_by_its_key() {
     assert_eq!((found.out, found.status), (line("shipped 0", [3; 32]), Some(0)));
     assert_eq!(room.run(&["--look-up", &hex(&[4; 32]), owner]).status, Some(3));
     let bad = room.put("bad", &[0; 63]);
-    assert_eq!(room.run(&["--look-up", &hex(&[4; 32]), bad]).status, Some(4));
+    let refused = room.run(&["--look-up", &hex(&[4; 32]), owner, bad]);
+    assert_eq!((refused.out.as_str(), refused.status), ("", Some(4)));
+    let hint =
+        "a list of servers is not whole records\ntrawl: 'bad' has 63 bytes, and a server has 64\n";
+    assert!(refused.said.ends_with(hint), "{}", refused.said);
+    assert_eq!(room.run(&["--look-up", &hex(&[4; 32]), "missing"]).status, Some(1));
+    let no_key = room.run(&["--look-up", "4", owner]);
+    assert_eq!(
+        (no_key.said.as_str(), no_key.status),
+        ("trawl: \"4\" is not 64 digits of hex\n", Some(2))
+    );
     // A list that gives somebody else's key for a server.
     let forged = room.put("forged", &[[9; 32], trawlbeacon::srv_value(&[4; 32])].concat());
     let found = room.run(&["--look-up", &hex(&[4; 32]), forged]);
@@ -377,29 +424,103 @@ fn a_pipe_is_read_once() {
     assert_eq!((ran.stderr, ran.status.code()), (vec![], Some(0)));
 }
 
+/// A pipe that has a name, and one that has none, for each action.
+#[test]
+fn every_action_reads_a_pipe() {
+    let room = Room::new("pipes");
+    let pile = format!("{ROOT}/crates/alone/data/appendix.pile");
+    let made = Command::new("mkfifo").arg("fifo").current_dir(&room.folder).status();
+    assert!(made.expect("mkfifo runs").success() || room.folder.join("fifo").exists());
+    for action in ["--judge", "--draw", "--cut"] {
+        let due = room.output(&[action, &pile]);
+        let mut cat = Command::new("sh");
+        cat.args(["-c", "cat \"$0\" >fifo", &pile]).current_dir(&room.folder);
+        let mut cat = cat.spawn().expect("sh runs");
+        assert_eq!(room.output(&[action, "fifo"]), due, "{action}");
+        cat.wait().expect("cat ends");
+        let file = fs::File::open(&pile).expect("it is kept");
+        let ran = room.command(&[action, "/dev/stdin"]).stdin(file).output();
+        assert_eq!(ran.expect("it runs"), due, "{action}");
+    }
+}
+
+/// Who has read enough goes, as `head -n 1` does: that is no failure to speak of, but not all was
+/// written.
+#[test]
+fn nobody_is_told_that_the_reader_has_gone() {
+    let room = Room::new("gone");
+    let report = format!("{ROOT}/vectors/malfeasance-report.json");
+    let pile = format!("{ROOT}/crates/alone/data/appendix.pile");
+    let words: [&[&str]; 6] = [
+        &["--draw", &report],
+        &["--judge", &report],
+        &["--cut", &report],
+        &["--help"],
+        &[&pile],
+        &[],
+    ];
+    for words in words {
+        let mut gone = Command::new("true").stdin(Stdio::piped()).spawn().expect("true runs");
+        let pipe = gone.stdin.take().expect("it is piped");
+        gone.wait().expect("true ends");
+        let ran = room.command(words).stdout(pipe).output().expect("it runs");
+        assert_eq!((ran.stderr, ran.status.code()), (vec![], Some(1)), "{words:?}");
+    }
+}
+
+#[test]
+fn what_cannot_be_read_or_written_is_told_once() {
+    let room = Room::new("unusable");
+    let pile = room.put("pile", &appendix::pile().pile);
+    fs::create_dir_all(room.folder.join("folder")).expect("a folder can be made");
+    let wrong: [(&[&str], &str); 6] = [
+        (&["--draw", "folder"], "'folder': Is a directory"),
+        (&["--judge", "missing"], "'missing': No such file or directory"),
+        (&["--judge", pile, "folder"], "'folder': Is a directory"),
+        (&["--cut", pile, "--out", "missing/run"], "'missing/run': No such file or directory"),
+        (&["--cut", pile, "--out", "pile/run"], "'pile/run': Not a directory"),
+        (&["--cut", pile, "--out", "folder", "--force"], "'folder': Is a directory"),
+    ];
+    for (words, due) in wrong {
+        let due = Ran { out: String::new(), said: format!("trawl: {due}\n"), status: Some(1) };
+        assert_eq!(room.run(words), due);
+    }
+    // Where nothing can be said either, the status says it.
+    let full = fs::OpenOptions::new().write(true).open("/dev/full").expect("Linux has it");
+    let status = room.command(&["--judge", "missing"]).stderr(full).status();
+    assert_eq!(status.expect("it can be run").code(), Some(1));
+}
+
 #[test]
 fn wrong_arguments_are_told() {
     let room = Room::new("usage");
-    let wrong: [&[&str]; 14] = [
-        &["a", "b", "c"],
-        &["--judge"],
-        &["--judge", "a", "b", "c"],
-        &["--judge", "--cut", "a"],
-        &["--nonsense"],
-        &["--svg", "a"],
-        &["--out", "a"],
-        &["--cut", "a", "--out"],
-        &["--cut", "a", "--force"],
-        &["--json", "--json", "a"],
-        &["--make"],
-        &["--make", "a", "b", "c"],
-        &["--look-up", "a"],
-        &["--help", "--json"],
+    let judge = "usage: trawl --judge FILE [ANSWERS] [--json] [--dates] [--status]";
+    let plain = "usage: trawl [PILE [ANSWERS]] [--status]";
+    let cut = "usage: trawl --cut FILE [ANSWERS] [--json] [--out OUT [--force]]";
+    let make = "usage: trawl --make KEY RAND REQUEST RESPONSE ... [--out OUT [--force]]";
+    let look_up = "usage: trawl --look-up KEY LIST [SHIPPED-LIST]";
+    let wrong: [(&[&str], &str, &str); 15] = [
+        (&["a", "b", "c"], "trawl takes a pile and its answers at the most, and 3 words are given", plain),
+        (&["--judge"], "--judge takes a file, and its answers if need be, and 0 words are given", judge),
+        (&["--dates"], "--judge takes a file, and its answers if need be, and 0 words are given", judge),
+        (&["--judge", "--cut", "a"], "--judge and --cut cannot be asked for at once", plain),
+        (&["--nonsense"], "there is no flag --nonsense", plain),
+        (&["--svg", "a"], "--svg goes with --draw", plain),
+        (&["--out", "a"], "--out goes with --cut, --draw and --make", plain),
+        (&["--cut", "a", "--status"], "--status goes with files alone, --judge and --draw", cut),
+        (&["--cut", "a", "--out"], "--out names no file", ""),
+        (&["--cut", "a", "--force"], "--force goes with --out", cut),
+        (&["--json", "--json", "a"], "--json stands there twice", judge),
+        (&["--make", "a"], "--make takes a key, a rand, a request and a response for each record, and 1 word is given", make),
+        (&["--make"], "--make takes a key, a rand, a request and a response for each record, and 0 words are given", make),
+        (&["--look-up", "a"], "--look-up takes a key, and one list or two, and 1 word is given", look_up),
+        (&["--look-up", "a", "b", "--json"], "--json goes with --judge and --cut", look_up),
     ];
-    for words in wrong {
+    for (words, said, usage) in wrong {
         let ran = room.run(words);
         assert_eq!((ran.out.as_str(), ran.status), ("", Some(2)), "{words:?}");
-        assert!(ran.said.starts_with("trawl: ") && ran.said.contains("\nusage: trawl ["));
+        let due = format!("trawl: {said}\n{usage}");
+        assert!(ran.said.starts_with(&due), "{words:?}: {}", ran.said);
     }
 }
 
@@ -412,6 +533,8 @@ fn help_and_version() {
             && help.status == Some(0)
     );
     assert_eq!(help.out.lines().find(|line| line.chars().count() > 100), None);
+    // Whatever stands beside it, as somebody may have typed it to learn what goes with that.
+    assert_eq!(room.run(&["--cut", "--nonsense", "--help"]), help);
     let version = room.run(&["--version"]);
     assert_eq!(version.out, format!("trawl {}\n", env!("CARGO_PKG_VERSION")));
 }

@@ -12,7 +12,6 @@
 //! them. Signatures are made by a signer for tests.
 
 mod backoff;
-mod batch;
 mod clock;
 mod console;
 mod evidence;
@@ -20,6 +19,8 @@ mod keys;
 mod relay;
 mod running;
 mod server;
+#[path = "../serving/mod.rs"]
+mod serving;
 mod story;
 mod teller;
 mod words;

@@ -3,9 +3,10 @@
 use super::clock;
 use super::console::{Console, Known, Measured};
 use super::evidence::{self, Received};
-use super::keys::{self, Delegated, TestSigner};
+use super::keys::{self, TestSigner};
 use super::relay::{Relay, ONE_IN};
 use super::server::{self, Server};
+use super::serving::{Delegated, Sign};
 use super::teller::Teller;
 use super::words;
 use std::error::Error;

@@ -12,79 +12,43 @@
 
 #[path = "../console/ed25519.rs"]
 mod ed25519;
+#[path = "../serving/mod.rs"]
+mod serving;
 #[allow(dead_code)]
 #[path = "../../tests/openssl/signer.rs"]
 mod signer;
 
+use serving::{Batch, Delegated, Sign};
 use signer::Signer;
 use std::process::ExitCode;
 use std::time::{SystemTime, UNIX_EPOCH};
-use trawlbeacon::{
-    Checked, Hash, PacketRefusal, Placed, Reply, CERT_LENGTH, DELEGATION_CONTEXT, DELE_LENGTH,
-    LONGEST_TEXT, MOST_ROWS_LENGTH, REQUEST_LENGTH, RESPONSE_CONTEXT, SREP_LENGTH,
-};
+use trawlbeacon::{Checked, PacketRefusal, LONGEST_PACKET, LONGEST_TEXT, REQUEST_LENGTH};
 
 /// How many requests one batch has.
 const BATCH: usize = 900;
 
-/// The radius that the server claims: that its clock is off by no more seconds.
-const RADI: u32 = 3;
-
 /// How long a delegated key may sign, in seconds.
 const DAY: u64 = 86_400;
 
-/// What the long-term key leaves with the server: a key that may sign for a day, and CERT.
-struct Delegated {
-    signer: Signer,
-    cert: [u8; CERT_LENGTH],
+impl Sign for Signer {
+    fn key(&self) -> [u8; 32] {
+        Signer::key(self)
+    }
+
+    fn sign(&self, context: &[u8], value: &[u8]) -> [u8; 64] {
+        Signer::sign(self, &[context, value].concat())
+    }
 }
 
-/// Delegates a key from this second on.
-fn delegate(long_term: &Signer, from: u64) -> Result<Delegated, PacketRefusal> {
-    let signer = Signer::new(&[2; 32]);
-    let (pubk, to) = (signer.key(), from.saturating_add(DAY));
-    let mut dele = [0; DELE_LENGTH];
-    trawlbeacon::write_dele(&pubk, from, to, &mut dele)?;
-    let signature = long_term.sign(&[&DELEGATION_CONTEXT[..], &dele].concat());
-    let mut cert = [0; CERT_LENGTH];
-    trawlbeacon::write_cert(&pubk, from, to, &signature, &mut cert)?;
-    Ok(Delegated { signer, cert })
-}
-
-/// The responses to the requests of a batch, in their order. There is one signature for all.
-fn answer(
-    requests: &[Vec<u8>],
-    midp: u64,
-    delegated: &Delegated,
-) -> Result<Vec<Vec<u8>>, PacketRefusal> {
-    let leaves: Vec<u8> = requests.iter().flat_map(|request| trawlbeacon::leaf(request)).collect();
-    let mut rows = vec![0; MOST_ROWS_LENGTH];
-    let depth = trawlbeacon::rows(&leaves, &mut rows)?;
-    rows.truncate(32 * ((2 << depth) - 1));
-    let root: Hash = rows[rows.len() - 32..].try_into().expect("the root is the last node");
-    let mut srep = [0; SREP_LENGTH];
-    trawlbeacon::write_srep(&root, midp, RADI, &mut srep)?;
-    let signature = delegated.signer.sign(&[&RESPONSE_CONTEXT[..], &srep].concat());
-    let mut path = vec![0; 32 * depth];
-    let one = |(place, request): (usize, &Vec<u8>)| {
-        let Placed { indx, .. } = trawlbeacon::path_from(&rows, requests.len(), place, &mut path)?;
-        let reply = Reply {
-            request,
-            indx,
-            root: &root,
-            path: &path,
-            midp,
-            radi: RADI,
-            cert: &delegated.cert,
-            signature: &signature,
-        };
-        // No response is longer than its request.
-        let mut response = vec![0; request.len()];
-        let length = trawlbeacon::write_response(&reply, &mut response)?;
-        response.truncate(length);
-        Ok(response)
+/// Requests from so many clients to the server with this long-term key.
+fn requests(key: &[u8; 32]) -> Result<Vec<Vec<u8>>, PacketRefusal> {
+    let request = |client: usize| {
+        let nonce = trawlbeacon::leaf(&client.to_le_bytes());
+        let mut request = vec![0; REQUEST_LENGTH];
+        trawlbeacon::write_request(key, &nonce, &mut request)?;
+        Ok(request)
     };
-    requests.iter().enumerate().map(one).collect()
+    (0..BATCH).map(request).collect()
 }
 
 /// What a client learns from a response to its request, from the server with this long-term key.
@@ -98,24 +62,20 @@ fn check(key: &[u8; 32], request: &[u8], response: &[u8]) -> Result<Checked, Pac
     trawlbeacon::check_response(request, response, delegation, signature)
 }
 
-/// Serves 900 requests at this second, and says what their clients learnt.
+/// Serves 900 requests at this second, with one signature, and says what their clients learnt.
 fn serve(now: u64) -> Result<String, PacketRefusal> {
     let long_term = Signer::new(&[1; 32]);
-    let key = long_term.key();
-    let delegated = delegate(&long_term, now)?;
-    let mut requests = vec![vec![0; REQUEST_LENGTH]; BATCH];
-    for (client, request) in requests.iter_mut().enumerate() {
-        let nonce: [u8; 32] = trawlbeacon::leaf(&client.to_le_bytes());
-        trawlbeacon::write_request(&key, &nonce, request)?;
+    let (key, times) = (long_term.key(), (now, now.saturating_add(DAY)));
+    let delegated = Delegated::new(&long_term, Signer::new(&[2; 32]), times)?;
+    let requests = requests(&key)?;
+    let batch = Batch::sign(&delegated, now, requests.iter().map(Vec::as_slice))?;
+    let (mut response, mut learnt) = ([0; LONGEST_PACKET], Vec::new());
+    for (place, request) in requests.iter().enumerate() {
+        let length = batch.answer(place, request, &mut response)?;
+        learnt.push((length, check(&key, request, &response[..length])?.window));
     }
-    let responses = answer(&requests, now, &delegated)?;
-    let mut windows = Vec::new();
-    for (request, response) in requests.iter().zip(&responses) {
-        windows.push(check(&key, request, response)?.window);
-    }
-    windows.dedup();
-    let [window] = windows[..] else { panic!("one SREP has one window") };
-    let bytes = responses[0].len();
+    learnt.dedup();
+    let [(bytes, window)] = learnt[..] else { panic!("one SREP has one window") };
     let (low, high) = (window.low, window.high);
     Ok(format!("{BATCH} responses of {bytes} bytes are valid: the time is from {low} to {high}"))
 }

@@ -3,7 +3,7 @@
 //! Windows are some seconds wide and may lie years apart. So the axis is broken where nothing was
 //! said for long: it consists of pieces of one scale, with the gaps between them left out.
 
-use super::dates::DAY;
+use super::steps::Step;
 
 /// The windows take at least one part in so many of the pieces.
 const SPARSEST: u128 = 16;
@@ -29,7 +29,7 @@ pub(super) struct Piece {
 pub(super) struct Tick {
     pub second: u64,
     pub at: u64,
-    /// How many seconds from one such second to the next.
+    /// How many seconds from one such second to the next, at the least.
     pub step: u64,
 }
 
@@ -87,14 +87,13 @@ impl Piece {
     fn ticks(&self, name_width: u64) -> Vec<Tick> {
         let (seconds, places) = (self.last - self.first, (self.end - self.start).max(1));
         let least = u128::from(seconds) * u128::from(name_width) / u128::from(places) + 1;
-        let step = round_step(least);
+        let step = Step::of(least);
         let mut ticks = Vec::new();
-        let round = self.first.checked_add(step - 1).map(|least| least / step * step);
-        let mut next = round.filter(|second| *second <= self.last);
-        while let Some(second) = next {
+        let mut next = step.round_from(self.first);
+        while let Some(second) = next.filter(|second| *second <= self.last) {
             let past = scaled(u128::from(second - self.first), seconds.max(1).into(), places);
-            ticks.push(Tick { second, at: self.start + past, step });
-            next = second.checked_add(step).filter(|second| *second <= self.last);
+            ticks.push(Tick { second, at: self.start + past, step: step.seconds() });
+            next = second.checked_add(1).and_then(|second| step.round_from(second));
         }
         if ticks.is_empty() {
             ticks.push(Tick { second: self.first, at: self.start, step: 1 });
@@ -107,25 +106,6 @@ impl Piece {
 fn scaled(part: u128, whole: u128, room: u64) -> u64 {
     // A part has at most 68 bits, since there are at most 16 windows, and no room more than 32.
     (part * u128::from(room) / whole) as u64
-}
-
-/// The least round number of seconds that is not below `least`.
-fn round_step(least: u128) -> u64 {
-    const ROUND: [u64; 18] = [
-        1, 2, 5, 10, 15, 30, 60, 120, 300, 600, 900, 1_800, 3_600, 7_200, 10_800, 21_600, 43_200,
-        DAY,
-    ];
-    if let Some(step) = ROUND.into_iter().find(|step| u128::from(*step) >= least) {
-        return step;
-    }
-    let mut ten = DAY;
-    loop {
-        let rounds = [1, 2, 5].into_iter().map(|times| ten.saturating_mul(times));
-        match rounds.into_iter().find(|step| u128::from(*step) >= least || *step == u64::MAX) {
-            Some(step) => return step,
-            None => ten = ten.saturating_mul(10),
-        }
-    }
 }
 
 /// The parts of time that some window covers, in order.

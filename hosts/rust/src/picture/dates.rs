@@ -80,6 +80,14 @@ impl fmt::Display for Date {
     }
 }
 
+/// The second at which a year starts, from 1970 on, where there is such a number.
+pub(super) fn year_start(year: u64) -> Option<u64> {
+    // The leap days of all years before one.
+    let leaps = |year: u64| (year - 1) / 4 - (year - 1) / 100 + (year - 1) / 400;
+    let days = year.checked_sub(1970)?.checked_mul(365)?.checked_add(leaps(year) - leaps(1970))?;
+    days.checked_mul(DAY)
+}
+
 /// How long a number of seconds is, in the largest unit of which there is a whole one.
 pub(super) fn span(seconds: u64) -> String {
     let units = [(365 * DAY + 6 * HOUR, "year"), (DAY, "day"), (HOUR, "hour"), (MINUTE, "minute")];
@@ -113,7 +121,7 @@ fn rounded(seconds: u64, unit: u64) -> u64 {
 
 #[cfg(test)]
 mod tests {
-    use super::{brief, span, Date, DAY};
+    use super::{brief, span, year_start, Date, DAY};
 
     /// Days of a month, by the rule that everybody knows.
     fn days_of(year: u64, month: u64) -> u64 {
@@ -148,6 +156,15 @@ mod tests {
         assert_eq!(Date::of(0).to_string(), "1970-01-01 00:00:00");
         assert_eq!(Date::of(951_782_400).to_string(), "2000-02-29 00:00:00");
         assert_eq!(Date::of(u64::MAX).to_string(), "584554051223-11-09 07:00:15");
+    }
+
+    #[test]
+    fn a_year_starts_where_its_date_says() {
+        for year in (1970..3_000).chain([584_554_051_223]) {
+            let start = Date::of(year_start(year).expect("it is a number"));
+            assert_eq!(start.to_string(), format!("{year}-01-01 00:00:00"));
+        }
+        assert_eq!([year_start(1969), year_start(584_554_051_224)], [None, None]);
     }
 
     #[test]

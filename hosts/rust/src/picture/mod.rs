@@ -20,6 +20,7 @@
 mod axis;
 mod canvas;
 mod dates;
+mod steps;
 mod style;
 mod svg;
 mod text;
@@ -118,6 +119,11 @@ impl Picture {
     fn pair(&self) -> Option<(Window, Window)> {
         let run = self.run?;
         Some((self.records[run.first].told.ok()?, self.records[run.last].told.ok()?))
+    }
+
+    /// Whether a record is one of the run.
+    fn in_run(&self, place: usize) -> bool {
+        self.run.map_or(false, |run| (run.first..=run.last).contains(&place))
     }
 
     /// Whether a run of its records convicts.

@@ -1,16 +1,19 @@
 //! The colours of a picture, for paper that is light and for a screen that is dark.
 //!
-//! No variables of CSS are used, since not every program that shows SVG knows them.
+//! No variables of CSS are used, since not every program that shows SVG knows them. Words that stand
+//! on lines have a rim of the colour behind them, where the program can draw it below the letters.
 
 use std::fmt::Write;
 
 /// A colour a server, on light ground and on dark: as many as a pile has records. None is red,
-/// which is kept for what contradicts. On its ground each has a contrast of 4.8 or more.
+/// which is kept for what contradicts. On its ground each has a contrast of 4.8 or more. The fourth
+/// differs from the first in how light it is, too, for eyes that see no red. Whoever sees no colours
+/// goes by the letters.
 const SERVERS: [(&str, &str); 16] = [
     ("#1457a3", "#63a4ee"),
     ("#a35714", "#eea463"),
     ("#107f47", "#63eea8"),
-    ("#6a14a3", "#c17af0"),
+    ("#3c0a6b", "#e2c2ff"),
     ("#117c8d", "#63dbee"),
     ("#887011", "#eed263"),
     ("#a31487", "#ee63d2"),
@@ -37,6 +40,11 @@ text { font-family: 'DejaVu Sans', Verdana, sans-serif; font-size: 12px; }
 .link { stroke-width: 3; }
 .unlinked { stroke-width: 1.5; stroke-dasharray: 2 4; }
 .hollow { fill: none; stroke-width: 1.5; stroke-dasharray: 3 2; }
+.gap { fill-opacity: 0.1; }
+.told, .banded { stroke-width: 0; }
+@supports (paint-order: stroke) {
+.told, .banded { paint-order: stroke; stroke-width: 4; stroke-linejoin: round; }
+}
 ";
 
 /// The colours of one ground.
@@ -45,7 +53,6 @@ struct Ground {
     ink: &'static str,
     faint: &'static str,
     grid: &'static str,
-    gap: &'static str,
     band: &'static str,
     red: &'static str,
 }
@@ -55,7 +62,6 @@ const LIGHT: Ground = Ground {
     ink: "#1f2328",
     faint: "#59636e",
     grid: "#d1d9e0",
-    gap: "#eef1f4",
     band: "#fff1e5",
     red: "#c4161c",
 };
@@ -65,7 +71,6 @@ const DARK: Ground = Ground {
     ink: "#e6edf3",
     faint: "#9198a1",
     grid: "#30363d",
-    gap: "#1c2128",
     band: "#3a2113",
     red: "#ff7b72",
 };
@@ -78,16 +83,17 @@ pub(super) fn sheet(servers: usize) -> String {
 }
 
 fn rules<'a>(ground: &Ground, servers: impl Iterator<Item = &'a str>) -> String {
-    let Ground { paper, ink, faint, grid, gap, band, red } = ground;
+    let Ground { paper, ink, faint, grid, band, red } = ground;
     let mut rules = format!(
         "\
 .paper, .number {{ fill: {paper}; }}
 .ink {{ fill: {ink}; }}
-.faint {{ fill: {faint}; }}
+.faint, .gap {{ fill: {faint}; }}
 .grid {{ stroke: {grid}; }}
 .scale, .link {{ stroke: {faint}; }}
-.gap {{ fill: {gap}; }}
 .band {{ fill: {band}; }}
+.told {{ stroke: {paper}; }}
+.banded {{ stroke: {band}; }}
 .red {{ fill: {red}; }}
 .guide, .apart, .unlinked {{ stroke: {red}; }}
 .hollow {{ stroke: {faint}; }}

@@ -34,35 +34,36 @@ const LEAST_BAR: Length = 3 * PX;
 /// A line of text below the scale.
 const LINE: Length = 19 * PX;
 
-/// How wide a letter of the names below the axis is, at most.
-const LETTER: Length = 7 * PX;
+/// How wide a letter of the words about a window and of the names below the axis is, at most.
+const LETTER: Length = 67 * PX / 10;
 
 pub(super) fn draw(picture: &Picture) -> String {
     let windows: Vec<_> = picture.windows().iter().map(|told| (told.low, told.high)).collect();
     let axis = Axis::of(&windows, AXIS_WIDTH, BREAK);
     let notes = words::notes(picture, axis.as_ref(), LEAST_BAR);
     let lines = (picture.servers.len() + notes.len()) as u64;
-    let height = below(picture) + SCALE + LINE * lines + LINE / 2 + MARGIN;
+    let legend_at = below(picture) + axis.as_ref().map_or(0, |_| SCALE);
+    let height = legend_at + LINE * lines + LINE / 2 + MARGIN;
     let heading = words::heading(picture);
+    let finding = words::finding(picture);
     let sheet = style::sheet(picture.servers.len());
-    let mut canvas = Canvas::new(WIDTH, height, &heading, &sheet);
+    let mut canvas = Canvas::new(WIDTH, height, &format!("{heading}. {finding}"), &sheet);
     canvas.rect("paper", (0, 0), (WIDTH, height));
     canvas.text("ink heading", (MARGIN, 30 * PX), Anchor::Start, &heading);
-    canvas.text("faint", (MARGIN, 48 * PX), Anchor::Start, "Dates and times are UTC.");
-    if let Some(axis) = &axis {
-        breaks(&mut canvas, axis, below(picture) + OFF_ROWS);
-    }
+    let below_heading = format!("{finding} Dates and times are UTC.");
+    canvas.text("faint", (MARGIN, 48 * PX), Anchor::Start, &below_heading);
     band(&mut canvas, picture);
     if let Some(axis) = &axis {
+        breaks(&mut canvas, axis, below(picture) + OFF_ROWS);
         scale(&mut canvas, axis, below(picture) + OFF_ROWS);
+        bars(&mut canvas, picture, axis);
+        contradiction(&mut canvas, picture, axis);
     }
+    // Words come last, so that nothing is drawn across them.
     for (place, shown) in picture.records.iter().enumerate() {
         record(&mut canvas, picture, axis.as_ref(), place, shown);
     }
-    if let Some(axis) = &axis {
-        contradiction(&mut canvas, picture, axis);
-    }
-    legend(&mut canvas, picture, &notes);
+    legend(&mut canvas, picture, &notes, legend_at);
     canvas.finish()
 }
 
@@ -108,22 +109,44 @@ fn scale(canvas: &mut Canvas, axis: &Axis, y: Length) {
     }
     let last = axis.pieces.last().map_or(0, |piece| piece.last);
     let name = LETTER * (Date::of(last).day().len() as u64 + 2);
+    let mut before = String::new();
     for Tick { second, at, step } in axis.ticks(name) {
         let (x, date) = (AXIS + at, Date::of(second));
         canvas.line("grid", (x, ROWS), (x, y));
         canvas.line("scale", (x, y), (x, y + 5 * PX));
-        let mut names = vec![date.day()];
+        let (line, next) = (y + 18 * PX, y + 32 * PX);
         if step < DAY {
-            names.insert(0, date.time());
+            canvas.text("faint mono", (x, line), Anchor::Middle, &date.time());
         }
-        for (line, name) in (0..).zip(names) {
-            let y = y + 18 * PX + line * 14 * PX;
-            canvas.text("faint mono", (x, y), Anchor::Middle, &name);
+        // A day is named where it begins to be another one.
+        let day = date.day();
+        if day != before {
+            let line = if step < DAY { next } else { line };
+            canvas.text("faint mono", (x, line), Anchor::Middle, &day);
         }
+        before = day;
     }
 }
 
-/// The row of a record.
+/// The bars of the windows, none too short to be seen.
+fn bars(canvas: &mut Canvas, picture: &Picture, axis: &Axis) {
+    for (place, shown) in picture.records.iter().enumerate() {
+        let Ok(window) = &shown.told else { continue };
+        let (start, end) = ends(axis, window);
+        let width = (end - start).max(LEAST_BAR);
+        let start = start.min(AXIS + AXIS_WIDTH - width);
+        canvas.group(&title(&picture.servers[shown.server], place, shown));
+        canvas.rect(&server(shown), (start, row(place) + BAR_DOWN), (width, BAR));
+        canvas.end_group();
+    }
+}
+
+/// The class of what has its server's colour.
+fn server(shown: &Shown) -> String {
+    format!("s{}", shown.server)
+}
+
+/// The row of a record, but for its bar.
 fn record(
     canvas: &mut Canvas,
     picture: &Picture,
@@ -138,23 +161,24 @@ fn record(
     canvas.text("ink mono", (BESIDE, y + 17 * PX), Anchor::Start, &server);
     let tied = if place == 0 || shown.linked { "faint small" } else { "red small" };
     canvas.text(tied, (BESIDE, y + 32 * PX), Anchor::Start, words::link(place, shown));
-    let (ink, down) = match (axis, &shown.told) {
+    let told = words::told(shown);
+    let (ink, x, down) = match (axis, &shown.told) {
         (Some(axis), Ok(window)) => {
-            bar(canvas, axis, window, place, shown.server);
-            ("faint mono", 36 * PX)
+            ("faint", beneath(picture, axis, window, place, &told), 36 * PX)
         }
-        _ => ("red mono", 17 * PX),
+        _ => ("red", AXIS, 17 * PX),
     };
-    canvas.text(ink, (AXIS, y + down), Anchor::Start, &words::told(shown));
+    let behind = if picture.in_run(place) { "banded" } else { "told" };
+    canvas.text(&format!("{ink} mono {behind}"), (x, y + down), Anchor::Start, &told);
     canvas.end_group();
 }
 
-/// The bar of a window, which is not too short to be seen.
-fn bar(canvas: &mut Canvas, axis: &Axis, window: &Window, place: usize, server: usize) {
-    let (start, end) = ends(axis, window);
-    let width = (end - start).max(LEAST_BAR);
-    let start = start.min(AXIS + AXIS_WIDTH - width);
-    canvas.rect(&format!("s{server}"), (start, row(place) + BAR_DOWN), (width, BAR));
+/// Where the words about a window start: below its bar, beside the line of what it contradicts, and
+/// further left where they would reach beyond the margin.
+fn beneath(picture: &Picture, axis: &Axis, window: &Window, place: usize, told: &str) -> Length {
+    let aside = if picture.run.map(|run| run.first) == Some(place) { 6 * PX } else { 0 };
+    let start = ends(axis, window).0 + aside;
+    start.min(WIDTH - MARGIN - LETTER * told.chars().count() as u64)
 }
 
 /// What a browser shows of a record under the mouse.
@@ -176,7 +200,7 @@ fn chain(canvas: &mut Canvas, place: usize, shown: &Shown) {
         canvas.line(tie, (CHAIN, y + radius - ROW), (CHAIN, y - radius));
     }
     let (circle, number) = match shown.told {
-        Ok(_) => (format!("s{}", shown.server), "number"),
+        Ok(_) => (server(shown), "number"),
         Err(_) => ("hollow".to_string(), "ink small"),
     };
     canvas.circle(&circle, (CHAIN, y), radius);
@@ -193,11 +217,13 @@ fn contradiction(canvas: &mut Canvas, picture: &Picture, axis: &Axis) {
     canvas.line("guide", (most, row(run.last) + 3 * PX), (most, bottom));
     let middle = row(run.last) + BAR_DOWN + BAR / 2;
     canvas.line("apart", (most, middle), (least, middle));
+    // The later record has nothing on this side, so that the words have room.
+    let apart = format!("{} apart", brief(earlier.low - later.high));
+    canvas.text("red small", (least + 6 * PX, middle + 4 * PX), Anchor::Start, &apart);
 }
 
 /// The servers with their whole keys, and what is said of the records.
-fn legend(canvas: &mut Canvas, picture: &Picture, notes: &[String]) {
-    let mut y = below(picture) + SCALE;
+fn legend(canvas: &mut Canvas, picture: &Picture, notes: &[String], mut y: Length) {
     for server in 0..picture.servers.len() {
         y += LINE;
         canvas.rect(&format!("s{server}"), (MARGIN, y - 10 * PX), (12 * PX, 12 * PX));

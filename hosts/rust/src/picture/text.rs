@@ -61,7 +61,7 @@ fn record(
 fn mark(picture: &Picture, place: usize) -> char {
     match picture.run {
         Some(run) if place == run.first || place == run.last => '>',
-        Some(run) if (run.first..run.last).contains(&place) => '|',
+        _ if picture.in_run(place) => '|',
         _ => ' ',
     }
 }

@@ -66,18 +66,24 @@ pub(super) fn link(place: usize, shown: &Shown) -> &'static str {
     }
 }
 
-/// What follows from the records.
+/// What follows from the records, in a sentence.
+pub(super) fn finding(picture: &Picture) -> String {
+    match picture.run {
+        Some(run) => format!("Records {} and {} contradict each other.", run.first, run.last),
+        None => "No run of records convicts.".to_string(),
+    }
+}
+
+/// The same at length.
 fn verdict(picture: &Picture) -> Vec<String> {
     let (Some(run), Some((earlier, later))) = (picture.run, picture.pair()) else {
-        return vec!["No run of records convicts.".to_string()];
+        return vec![finding(picture)];
     };
     vec![
         format!("The run of records {} to {} convicts by itself:", run.first, run.last),
+        format!("By record {} it was {} at the least.", run.first, Date::of(earlier.low)),
         format!(
-            "By record {} it was {} at the least; by record {}, asked for after that, {} at the \
-             most.",
-            run.first,
-            Date::of(earlier.low),
+            "By record {}, asked for after that, it was {} at the most.",
             run.last,
             Date::of(later.high)
         ),

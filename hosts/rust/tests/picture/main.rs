@@ -63,6 +63,17 @@ fn each_window_is_a_bar_at_its_place() {
     assert!(texts.contains(&"Too short for this scale, and drawn longer: the windows of 2."));
     assert!(texts.contains(&"1970-01-01 00:24:54 to 00:24:56 (1494 to 1496)"));
     assert!(texts.contains(&"B 54545454"));
+    // Words stand below their bar, or so far left that they end at the margin.
+    for (told, (start, _)) in words_on_windows(&elements).iter().zip(due) {
+        let last = 94_200 - 670 * told.text.len() as u64;
+        assert_eq!(told.length("x"), start.min(last), "{told:?}");
+    }
+}
+
+/// The words on each window, which a rim keeps clear of the lines behind them.
+fn words_on_windows(elements: &[Element]) -> Vec<&Element> {
+    let classes = ["faint mono told", "faint mono banded"];
+    elements.iter().filter(|element| classes.iter().any(|class| element.class(class))).collect()
 }
 
 #[test]
@@ -75,6 +86,14 @@ fn the_run_and_its_pair_are_marked() {
     let apart = elements.iter().find(|element| element.class("apart")).expect("a run convicts");
     let at = |second: u64| 16_000 + (second - 990) * 70_000 / 520;
     assert_eq!((apart.length("x1"), apart.length("x2")), (at(1410), at(1494)));
+    // It is said in the picture how far that is, and above it, what follows.
+    let (texts, title) = (texts(&elements), &elements[1].text);
+    assert!(texts.contains(&"1 min apart"));
+    assert!(texts.contains(&"Records 2 and 3 contradict each other. Dates and times are UTC."));
+    assert!(title.ends_with("signatures. Records 2 and 3 contradict each other."), "{title}");
+    // Words, but no bars, are above the lines that mark the pair.
+    let place = |class: &str| elements.iter().position(|element| element.class(class));
+    assert!(place("s3") < place("apart") && place("apart") < place("faint mono banded"));
     let told = picture(&example()).text();
     assert!(told.contains("\n> 2 C 57575757 ") && told.contains("\n> 3 D 56565656 "));
     assert!(told.contains("\n  0 A 55555555 ") && told.contains("\n  1 B 54545454 "));
@@ -158,12 +177,17 @@ fn the_report_of_the_draft() {
     // The windows of six seconds are a day apart: all of that day but its ends is left out.
     assert_eq!(bars(&elements), [(53_200, 32_800), (16_000, 32_800), (16_000, 32_800)]);
     let texts = texts(&elements);
-    for due in ["24 h", "run 0 to 1", "A 1670f22d", "18:26:10", "2026-03-15"] {
+    for due in ["24 h", "24 h apart", "run 0 to 1", "A 1670f22d", "18:26:10", "2026-03-15"] {
         assert!(texts.contains(&due), "{due}");
     }
     // The README shows it.
     let kept = concat!(env!("CARGO_MANIFEST_DIR"), "/../../docs/draft-report.svg");
     assert!(std::fs::read_to_string(kept).expect("it is kept") == read.svg());
+    // And one of three servers that nobody keeps the pile of, which has the same style.
+    let other = concat!(env!("CARGO_MANIFEST_DIR"), "/../../docs/demo.svg");
+    let other = xml::elements(&std::fs::read_to_string(other).expect("it is kept"));
+    let style = |all: &[Element]| all.iter().find(|one| one.name == "style").cloned();
+    assert_eq!(style(&other.expect("it is well-formed")), style(&elements));
     assert_eq!(Picture::of_text(&text.as_bytes()[1..]), Err(Refusal::ReportText));
     assert_eq!(Picture::of_text(br#"{"responses": []}"#), Err(Refusal::Entries));
 }
@@ -203,6 +227,44 @@ fn what_is_no_pile_is_refused_as_the_library_refuses_it() {
     assert!(Picture::of_pile(&pile).is_ok());
 }
 
+/// A day is named below the axis where it begins, and not under each second of it.
+#[test]
+fn a_day_is_named_once() {
+    let days = |made: &Made| {
+        let elements = drawn(&picture(made));
+        let named = elements.iter().filter(|element| element.class("faint mono"));
+        let is_day = |text: &&Element| text.text.len() == 10 && text.text.contains('-');
+        named.filter(is_day).map(|text| text.text.clone()).collect::<Vec<String>>()
+    };
+    assert_eq!(days(&example()), ["1970-01-01"]);
+    assert_eq!(days(&making::pile_of(&[(86_400, 30), (86_360, 30)])), ["1970-01-01", "1970-01-02"]);
+}
+
+/// How wide a text may be in the fonts that it is drawn in, where these are wide ones.
+fn width(text: &Element) -> u64 {
+    let class = text.attribute("class");
+    let letter = match class {
+        _ if class.contains("mono") => 665,
+        _ if class.contains("heading") => 1_150,
+        _ if class.contains("small") => 630,
+        _ => 760,
+    };
+    letter * text.text.chars().count() as u64
+}
+
+/// No text runs out of the picture.
+fn hold_texts(elements: &[Element]) {
+    for text in elements.iter().filter(|element| element.name == "text") {
+        let (x, width) = (text.length("x"), width(text));
+        let (before, after) = match text.attribute("text-anchor") {
+            "start" => (0, width),
+            "middle" => (width / 2, width / 2),
+            _ => (width, 0),
+        };
+        assert!(before <= x && x + after <= 96_000, "{text:?}");
+    }
+}
+
 /// What every picture must be, whatever it is of.
 fn hold(picture: &Picture, records: usize) {
     let elements = drawn(picture);
@@ -211,6 +273,7 @@ fn hold(picture: &Picture, records: usize) {
     for (start, width) in bars(&elements) {
         assert!(start >= 16_000 && width >= 300 && start + width <= 86_000, "{start} {width}");
     }
+    hold_texts(&elements);
     for bad in ["script", "href", "image", "foreignObject", "use"] {
         assert!(elements.iter().all(|element| element.name != bad));
     }

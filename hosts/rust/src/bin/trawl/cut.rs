@@ -8,7 +8,7 @@ use trawlbeacon::{Cut, ReportRefusal, LONGEST_REPORT};
 
 pub fn run(flags: &Flags) -> Result<Ended, Stop> {
     let evidence = Evidence::of(flags)??;
-    let cut = evidence.cut()?;
+    let cut = evidence.cut().map_err(|refusal| evidence.refused(refusal))?;
     let bytes = if flags.json { text(&evidence, &cut)? } else { cut.bytes };
     output::deliver(flags, &bytes)?;
     output::say(&format!("run {} {}", cut.run.first, cut.run.last));

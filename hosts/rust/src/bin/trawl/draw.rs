@@ -7,11 +7,12 @@ use crate::status::{Ended, Stop};
 use trawlbeacon::picture::Picture;
 
 pub fn run(flags: &Flags) -> Result<Ended, Stop> {
-    let Evidence { pile, answers } = Evidence::of(flags)??;
-    let picture = match answers {
-        Some(answers) => Picture::with_answers(&pile, &answers)?,
-        None => Picture::of_pile(&pile)?,
+    let evidence = Evidence::of(flags)??;
+    let picture = match &evidence.answers {
+        Some(answers) => Picture::with_answers(&evidence.pile, answers),
+        None => Picture::of_pile(&evidence.pile),
     };
+    let picture = picture.map_err(|refusal| evidence.refused(refusal))?;
     let drawn = if flags.svg { picture.svg() } else { picture.text() };
     output::deliver(flags, drawn.as_bytes())?;
     let ended = if picture.convicts() { Ended::Done } else { Ended::None };

@@ -1,10 +1,11 @@
 //! What a file holds: a pile, or a report in JSON.
 
 use crate::flags::Flags;
+use crate::hints::{self, Held};
 use crate::status::Stop;
 use std::fs::File;
 use std::io::Read;
-use std::path::Path;
+use std::path::{Path, PathBuf};
 use trawlbeacon::{Checked, Cut, PacketRefusal, Refusal, MOST_RECORDS, RECORD_LENGTH};
 
 /// The longest file that is read. A report may be longer than those that we write, but not without
@@ -15,17 +16,33 @@ const LONGEST: u64 = 64 << 20;
 pub struct Evidence {
     pub pile: Vec<u8>,
     pub answers: Option<Vec<u8>>,
+    /// The files that they came from.
+    files: Vec<PathBuf>,
 }
 
 impl Evidence {
     /// What the first file of the command holds, with the answers of the second. A report that is
     /// none is refused with 24 or 25.
     pub fn of(flags: &Flags) -> Result<Result<Evidence, Refusal>, Stop> {
-        let file = flags.file(0).ok_or_else(|| Stop::usage("a file is missing"))?;
-        let bytes = read(&file)?;
-        let answers = flags.file(1).map(|file| read(&file)).transpose()?;
+        let files: Vec<PathBuf> = flags.words.iter().map(PathBuf::from).collect();
+        let bytes = read(&files[0])?;
+        let answers = files.get(1).map(|file| read(file)).transpose()?;
         let pile = if is_text(&bytes) { records_of(&bytes) } else { Ok(bytes) };
-        Ok(pile.map(|pile| Evidence { pile, answers }))
+        Ok(pile.map(|pile| Evidence { pile, answers, files }))
+    }
+
+    /// What is wrong with the files, where they are refused for it.
+    pub fn hints(&self, refusal: Refusal) -> Vec<String> {
+        if refusal != Refusal::Pile {
+            return vec![];
+        }
+        let answers = self.answers.as_ref().map(|answers| -> Held { (&self.files[1], answers) });
+        hints::on_pile_and_answers((&self.files[0], &self.pile), answers)
+    }
+
+    /// The end of a command that has nothing to write.
+    pub fn refused(&self, refusal: Refusal) -> Stop {
+        Stop::refused(refusal, &self.hints(refusal))
     }
 
     pub fn judge(&self, place: usize) -> Result<Checked, PacketRefusal> {

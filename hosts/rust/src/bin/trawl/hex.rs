@@ -9,7 +9,7 @@ pub fn hex(bytes: &[u8]) -> String {
 
 /// The 32 bytes that 64 digits of hex stand for.
 pub fn hex32(word: &OsStr) -> Result<[u8; 32], Stop> {
-    let wrong = || Stop::usage(format!("{word:?} is not 64 digits of hex"));
+    let wrong = || Stop::Usage(format!("{word:?} is not 64 digits of hex"));
     let digits: Option<Vec<u8>> = word
         .to_str()
         .ok_or_else(wrong)?

@@ -1,10 +1,10 @@
-//! What may be wrong with the files of the proved program, which says no more than `refused 15`.
+//! What is wrong with files that are refused for their lengths or for the bytes of answers: more
+//! than the code says, which is one for all of that.
 
 use crate::evidence::is_text;
-use std::ffi::OsString;
 use std::fs::{self, File};
 use std::path::Path;
-use trawlbeacon::{MOST_RECORDS, RECORD_LENGTH};
+use trawlbeacon::{MOST_RECORDS, RECORD_LENGTH, SERVER_LENGTH};
 
 /// What cannot be read counts as empty (document 01), so that a mistyped name looks like a bad pile.
 pub fn unreadable(file: &Path) -> Option<String> {
@@ -12,35 +12,43 @@ pub fn unreadable(file: &Path) -> Option<String> {
     // Nothing but a file is opened here: of a pipe the program is to have every byte.
     let readable = found
         .map_or(false, |found| !found.is_dir() && (!found.is_file() || File::open(file).is_ok()));
-    (!readable).then(|| format!("'{}' cannot be read, and counts as empty", file.display()))
+    let dash = file.as_os_str().to_str().map_or(false, |name| name.starts_with('-') && name != "-");
+    let flag = if dash { "; a flag has two dashes, as --help" } else { "" };
+    (!readable).then(|| format!("'{}' cannot be read, and counts as empty{flag}", file.display()))
 }
 
-/// What is wrong with a pile and its answers. Of what is no file nothing is said: it can be read
-/// but once.
-pub fn on_refusal(files: &[OsString]) -> Vec<String> {
-    let bytes = |file: &OsString| {
-        let small =
-            fs::metadata(file).ok().filter(|found| found.is_file() && found.len() < 1 << 24);
-        small.and_then(|_| fs::read(file).ok())
+/// A file by its name, and what it holds.
+pub type Held<'a> = (&'a Path, &'a [u8]);
+
+/// What is wrong with a pile and its answers, where they are refused with 15.
+pub fn on_pile_and_answers(pile: Held, answers: Option<Held>) -> Vec<String> {
+    let on_answers = answers.and_then(|answers| on_answers(answers, pile.1.len()));
+    on_pile(pile).into_iter().chain(on_answers).collect()
+}
+
+/// Which lists of servers are not whole, where they are refused with 21.
+pub fn on_lists(lists: &[Held]) -> Vec<String> {
+    let broken = lists.iter().filter(|(_, list)| list.len() % SERVER_LENGTH != 0);
+    let told = |(name, list): &Held| {
+        format!("'{}' has {}, and a server has {SERVER_LENGTH}", name.display(), bytes(list))
     };
-    let Some(pile) = files.first().and_then(bytes) else { return vec![] };
-    let mut hints: Vec<String> = on_pile(&files[0], &pile).into_iter().collect();
-    if let Some(answers) = files.get(1) {
-        let given = bytes(answers);
-        hints.extend(given.and_then(|given| on_answers(answers, &given, pile.len())));
-    }
-    hints
+    broken.map(told).collect()
 }
 
-fn on_pile(file: &OsString, pile: &[u8]) -> Option<String> {
-    let name = Path::new(file).display();
+/// How many bytes these are.
+fn bytes(held: &[u8]) -> String {
+    format!("{} byte{}", held.len(), if held.len() == 1 { "" } else { "s" })
+}
+
+fn on_pile((name, pile): Held) -> Option<String> {
+    let name = name.display();
     let records = pile.len() / RECORD_LENGTH;
     if pile.is_empty() {
         Some(format!("'{name}' is empty"))
     } else if is_text(pile) {
         Some(format!("'{name}' is a text; --judge, --cut and --draw take reports in JSON"))
     } else if pile.len() % RECORD_LENGTH != 0 {
-        Some(format!("'{name}' has {} bytes, and a record has {RECORD_LENGTH}", pile.len()))
+        Some(format!("'{name}' has {}, and a record has {RECORD_LENGTH}", bytes(pile)))
     } else if records > MOST_RECORDS {
         Some(format!("'{name}' has {records} records, and a pile has at most {MOST_RECORDS}"))
     } else {
@@ -48,17 +56,18 @@ fn on_pile(file: &OsString, pile: &[u8]) -> Option<String> {
     }
 }
 
-fn on_answers(file: &OsString, answers: &[u8], pile: usize) -> Option<String> {
-    let name = Path::new(file).display();
+fn on_answers((name, answers): Held, pile: usize) -> Option<String> {
+    let (name, length) = (name.display(), bytes(answers));
     let (given, records) = (answers.len(), pile / RECORD_LENGTH);
     if let Some(at) = answers.iter().position(|byte| *byte > 1) {
         let byte = answers[at];
         let digit = if byte == b'0' || byte == b'1' { ", and no digit" } else { "" };
         Some(format!("byte {at} of '{name}' is {byte}; an answer is the byte 1 or 0{digit}"))
     } else if given % 2 != 0 {
-        Some(format!("'{name}' has {given} bytes, and there are two answers a record"))
+        Some(format!("'{name}' has {length}, and there are two answers a record"))
     } else if given != 2 * records {
-        Some(format!("'{name}' has {given} bytes; {records} records have {} answers", 2 * records))
+        let have = if records == 1 { "record has" } else { "records have" };
+        Some(format!("'{name}' has {length}; {records} {have} {} answers", 2 * records))
     } else {
         None
     }

@@ -21,7 +21,8 @@ struct Told {
 }
 
 pub fn run(flags: &Flags) -> Result<Ended, Stop> {
-    let verdict = Evidence::of(flags)?.and_then(|evidence| Verdict::of(&evidence));
+    let evidence = Evidence::of(flags)?;
+    let verdict = evidence.as_ref().map_err(|refusal| *refusal).and_then(Verdict::of);
     let said = match (&verdict, flags.json) {
         (Ok(verdict), false) => verdict.lines(flags.dates),
         (Ok(verdict), true) => verdict.json(flags.dates),
@@ -34,6 +35,8 @@ pub fn run(flags: &Flags) -> Result<Ended, Stop> {
         Ok(None) => Ended::None,
         Err(refusal) => {
             output::say(&refusal.to_string());
+            let hints = evidence.map_or(vec![], |evidence| evidence.hints(refusal));
+            hints.iter().for_each(|hint| output::say(hint));
             Ended::Refused
         }
     };

@@ -1,18 +1,22 @@
 //! A server, by its long-term key, in the owner's list and the shipped one.
 
-use crate::evidence;
+use crate::evidence::read;
 use crate::flags::Flags;
 use crate::hex::{hex, hex32};
+use crate::hints::{self, Held};
 use crate::output;
 use crate::status::{Ended, Stop};
-use trawlbeacon::{List, SERVER_LENGTH};
+use std::path::PathBuf;
+use trawlbeacon::{List, Refusal, SERVER_LENGTH};
 
 /// Prints the list, the place of the record in it, its key and its SRV value.
 pub fn run(flags: &Flags) -> Result<Ended, Stop> {
     let key = hex32(&flags.words[0])?;
-    let list = |place| flags.file(place).map(|file| evidence::read(&file)).transpose();
-    let (owner, shipped) = (list(1)?.unwrap_or_default(), list(2)?.unwrap_or_default());
-    let found = trawlbeacon::find_server(&owner, &shipped, &trawlbeacon::srv_value(&key))?;
+    let files: Vec<PathBuf> = flags.words[1..].iter().map(PathBuf::from).collect();
+    let lists: Vec<Vec<u8>> = files.iter().map(|file| read(file)).collect::<Result<_, _>>()?;
+    let shipped = lists.get(1).map_or(&[][..], |list| list);
+    let found = trawlbeacon::find_server(&lists[0], shipped, &trawlbeacon::srv_value(&key));
+    let found = found.map_err(|refusal| refused(refusal, &files, &lists))?;
     let list = match found.list {
         List::Owner => "owner",
         List::Shipped => "shipped",
@@ -24,4 +28,11 @@ pub fn run(flags: &Flags) -> Result<Ended, Stop> {
     }
     let place = found.offset / SERVER_LENGTH;
     output::print(format!("{list} {place} {} {}\n", hex(kept), hex(srv)).as_bytes())
+}
+
+/// Why nothing is found, and which list is broken where that is why.
+fn refused(refusal: Refusal, files: &[PathBuf], lists: &[Vec<u8>]) -> Stop {
+    let named = files.iter().zip(lists).map(|(file, list)| -> Held { (file, list) });
+    let held: Vec<Held> = named.collect();
+    Stop::refused(refusal, &hints::on_lists(&held))
 }

@@ -4,10 +4,12 @@
 //! as seen from here, and passes on what it prints. All else, which `--help` lists, the functions of
 //! the library do; here their inputs are read and their answers printed. Nothing here is proved.
 
+mod actions;
 mod cut;
 mod draw;
 mod evidence;
 mod flags;
+mod help;
 mod hex;
 mod hints;
 mod judge;
@@ -17,7 +19,8 @@ mod output;
 mod plain;
 mod status;
 
-use flags::{Action, Flags};
+use actions::Action;
+use flags::Flags;
 use status::{Ended, Stop};
 use std::process::ExitCode;
 
@@ -26,7 +29,9 @@ fn main() -> ExitCode {
     match ended {
         Ok(ended) => ExitCode::from(ended.status()),
         Err(stop) => {
-            eprintln!("trawl: {stop}");
+            if !matches!(stop, Stop::Unread) {
+                output::say(&stop.to_string());
+            }
             ExitCode::from(stop.status())
         }
     }
@@ -40,7 +45,7 @@ fn run(flags: Flags) -> Result<Ended, Stop> {
         Action::Make => make::run(&flags),
         Action::LookUp => look_up::run(&flags),
         Action::Draw => draw::run(&flags),
-        Action::Help => output::print([flags::USAGE, flags::HELP].concat().as_bytes()),
+        Action::Help => output::print([help::USAGE, help::HELP].concat().as_bytes()),
         Action::Version => {
             output::print(format!("trawl {}\n", env!("CARGO_PKG_VERSION")).as_bytes())
         }

@@ -6,18 +6,19 @@ use std::fs::{self, OpenOptions};
 use std::io::{self, ErrorKind, Write};
 use std::path::Path;
 
-/// Says something beside what was asked for.
+/// Says something beside what was asked for. Where that cannot be said, there is nobody to tell.
 pub fn say(words: &str) {
-    eprintln!("trawl: {words}");
+    let _ = writeln!(io::stderr(), "trawl: {words}");
 }
 
-/// Writes all of it to standard output, or says that it could not.
+/// Writes all of it to standard output, or tells that it could not.
 pub fn print(bytes: &[u8]) -> Result<Ended, Stop> {
     let mut out = io::stdout().lock();
-    out.write_all(bytes)
-        .and_then(|()| out.flush())
-        .map_err(|error| Stop::Failed(format!("standard output: {error}")))?;
-    Ok(Ended::Done)
+    match out.write_all(bytes).and_then(|()| out.flush()) {
+        Ok(()) => Ok(Ended::Done),
+        Err(error) if error.kind() == ErrorKind::BrokenPipe => Err(Stop::Unread),
+        Err(error) => Err(Stop::failed("standard output", error)),
+    }
 }
 
 /// Writes it where the flags say.

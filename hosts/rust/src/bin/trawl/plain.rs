@@ -1,8 +1,9 @@
 //! The proved program: found, run, and what it prints passed on.
 
 use crate::flags::Flags;
+use crate::hints::{self, Held};
+use crate::output;
 use crate::status::{Ended, Stop};
-use crate::{hints, output};
 use std::ffi::OsString;
 use std::path::{Path, PathBuf};
 use std::process::{Command, Stdio};
@@ -25,9 +26,24 @@ pub fn run(flags: &Flags) -> Result<Ended, Stop> {
     output::print(&said)?;
     let ended = ended(&said);
     if ended == Ended::Refused {
-        hints::on_refusal(&flags.words).iter().for_each(|hint| output::say(hint));
+        on_refusal(&flags.words).iter().for_each(|hint| output::say(hint));
     }
     Ok(ended.told(flags.status))
+}
+
+/// What is wrong with the files, which the program read. Of what is no file nothing is said: it can
+/// be read but once.
+fn on_refusal(files: &[OsString]) -> Vec<String> {
+    let read = |file: &OsString| {
+        let found = fs::metadata(file).ok()?;
+        let small = found.is_file() && found.len() < 1 << 24;
+        small.then(|| fs::read(file).ok()).flatten()
+    };
+    let held: Vec<Option<Vec<u8>>> = files.iter().map(read).collect();
+    let held = |place: usize| -> Option<Held> {
+        Some((Path::new(files.get(place)?), held[place].as_deref()?))
+    };
+    held(0).map_or(vec![], |pile| hints::on_pile_and_answers(pile, held(1)))
 }
 
 /// Where the program stands, as seen from this one.

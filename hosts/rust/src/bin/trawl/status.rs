@@ -45,31 +45,36 @@ pub enum Stop {
     Refused(String),
     /// It is not there: a run, or a server.
     None(String),
+    /// Who read standard output has gone, as in `trawl --help | head -n 1`. Nobody is told of it.
+    Unread,
 }
 
 impl Stop {
     pub fn status(&self) -> u8 {
         match self {
             Stop::Usage(_) => 2,
-            Stop::Failed(_) => 1,
+            Stop::Failed(_) | Stop::Unread => 1,
             Stop::Refused(_) => Ended::Refused.status(),
             Stop::None(_) => Ended::None.status(),
         }
     }
 
-    pub fn usage(words: impl Into<String>) -> Stop {
-        Stop::Usage(words.into())
-    }
-
     /// A file, and what went wrong with it.
     pub fn file(file: &Path, error: impl fmt::Display) -> Stop {
-        Stop::Failed(format!("'{}': {error}", file.display()))
+        Stop::failed(&format!("'{}'", file.display()), error)
     }
-}
 
-impl From<Refusal> for Stop {
-    fn from(refusal: Refusal) -> Stop {
+    /// The same of anything, without the number that the system has for it.
+    pub fn failed(what: &str, error: impl fmt::Display) -> Stop {
+        let error = error.to_string();
+        let words = error.split(" (os error ").next().unwrap_or(&error);
+        Stop::Failed(format!("{what}: {words}"))
+    }
+
+    /// What was refused, and what is wrong with it in particular.
+    pub fn refused(refusal: Refusal, hints: &[String]) -> Stop {
         let words = format!("refused with code {}: {refusal}", refusal.code());
+        let words = [&[words], hints].concat().join("\ntrawl: ");
         match refusal {
             Refusal::NoContradiction | Refusal::UnknownServer => Stop::None(words),
             _ => Stop::Refused(words),
@@ -77,11 +82,19 @@ impl From<Refusal> for Stop {
     }
 }
 
+impl From<Refusal> for Stop {
+    fn from(refusal: Refusal) -> Stop {
+        Stop::refused(refusal, &[])
+    }
+}
+
 impl fmt::Display for Stop {
     fn fmt(&self, f: &mut fmt::Formatter) -> fmt::Result {
         match self {
-            Stop::Usage(words) => write!(f, "{words}\n{}", crate::flags::USAGE.trim_end()),
-            Stop::Failed(words) | Stop::Refused(words) | Stop::None(words) => f.write_str(words),
+            Stop::Usage(words) | Stop::Failed(words) | Stop::Refused(words) | Stop::None(words) => {
+                f.write_str(words)
+            }
+            Stop::Unread => f.write_str("nobody reads standard output any more"),
         }
     }
 }

@@ -1,6 +1,6 @@
 //! A batch: requests that are answered with one signature for all of them.
 
-use super::keys::Delegated;
+use super::delegation::{Delegated, Sign};
 use trawlbeacon::{
     Hash, PacketRefusal, Refusal, Reply, LONGEST_PACKET, MOST_LEAVES, MOST_ROWS_LENGTH,
     RESPONSE_CONTEXT, SREP_LENGTH,
@@ -8,11 +8,11 @@ use trawlbeacon::{
 
 /// The radius that a server claims, in seconds: the least that draft 19 (5.2.5) recommends to one
 /// that knows nothing of leap seconds.
-pub const RADI: u32 = 3;
+const RADI: u32 = 3;
 
 /// What all responses to a batch have in common: the tree of its requests, and the signed time.
-pub struct Batch<'a> {
-    delegated: &'a Delegated,
+pub struct Batch<'a, S> {
+    delegated: &'a Delegated<S>,
     count: usize,
     rows: Vec<u8>,
     depth: usize,
@@ -21,14 +21,14 @@ pub struct Batch<'a> {
     signature: [u8; 64],
 }
 
-impl<'a> Batch<'a> {
+impl<'a, S: Sign> Batch<'a, S> {
     /// Makes the tree of 1 to [`MOST_LEAVES`] good requests, and signs its root with the time
     /// `midp`.
     pub fn sign<'r>(
-        delegated: &'a Delegated,
+        delegated: &'a Delegated<S>,
         midp: u64,
         requests: impl Iterator<Item = &'r [u8]>,
-    ) -> Result<Batch<'a>, Refusal> {
+    ) -> Result<Batch<'a, S>, Refusal> {
         let leaves: Vec<u8> = requests.flat_map(trawlbeacon::leaf).collect();
         let mut rows = vec![0; MOST_ROWS_LENGTH];
         let depth = trawlbeacon::rows(&leaves, &mut rows)?;

@@ -1,0 +1,94 @@
+//! What the command can be asked for, and what goes with each.
+
+use crate::help::USAGE;
+use crate::status::Stop;
+
+#[derive(Clone, Copy, Debug, PartialEq, Eq)]
+pub enum Action {
+    Plain,
+    Judge,
+    Cut,
+    Draw,
+    Make,
+    LookUp,
+    Help,
+    Version,
+}
+
+/// The actions, by the words that ask for them.
+const ACTIONS: [(&str, Action); 8] = [
+    ("files alone", Action::Plain),
+    ("--judge", Action::Judge),
+    ("--cut", Action::Cut),
+    ("--draw", Action::Draw),
+    ("--make", Action::Make),
+    ("--look-up", Action::LookUp),
+    ("--help", Action::Help),
+    ("--version", Action::Version),
+];
+
+impl Action {
+    pub fn of(flag: &str) -> Option<Action> {
+        ACTIONS.into_iter().find(|(name, _)| *name == flag).map(|(_, action)| action)
+    }
+
+    pub fn name(self) -> &'static str {
+        ACTIONS.into_iter().find(|(_, action)| *action == self).map_or("", |(name, _)| name)
+    }
+
+    /// The flags that go with it.
+    pub fn takes(self) -> &'static [&'static str] {
+        match self {
+            Action::Plain => &["--status"],
+            Action::Judge => &["--json", "--dates", "--status"],
+            Action::Cut => &["--json", "--out", "--force"],
+            Action::Draw => &["--svg", "--out", "--force", "--status"],
+            Action::Make => &["--out", "--force"],
+            Action::LookUp | Action::Help | Action::Version => &[],
+        }
+    }
+
+    /// Whether so many words beside the flags are right.
+    pub fn counts(self, words: usize) -> bool {
+        match self {
+            Action::Plain => words <= 2,
+            Action::Judge | Action::Cut | Action::Draw => words == 1 || words == 2,
+            Action::Make => words > 0 && words % 4 == 0,
+            Action::LookUp => words == 2 || words == 3,
+            Action::Help | Action::Version => true,
+        }
+    }
+
+    /// Which words these are.
+    pub fn wants(self) -> &'static str {
+        match self {
+            Action::Plain => "a pile and its answers at the most",
+            Action::Judge | Action::Cut | Action::Draw => "a file, and its answers if need be",
+            Action::Make => "a key, a rand, a request and a response for each record",
+            Action::LookUp => "a key, and one list or two",
+            Action::Help | Action::Version => "anything",
+        }
+    }
+
+    /// How it is called.
+    fn usage(self) -> String {
+        let flag = if self == Action::Plain { "[PILE" } else { self.name() };
+        let called = |line: &&str| line.split("trawl ").any(|words| words.starts_with(flag));
+        let line = USAGE.lines().find(called).unwrap_or_default();
+        format!("usage: {}", line.trim_start_matches("usage:").trim_start())
+    }
+
+    /// The arguments are wrong for it.
+    pub fn wrong(self, words: String) -> Stop {
+        Stop::Usage(format!("{words}\n{}", self.usage()))
+    }
+}
+
+/// With what a flag goes, as words; none, where there is no such flag.
+pub fn goes_with(flag: &str) -> Option<String> {
+    let takes = |(_, action): &(&str, Action)| action.takes().contains(&flag);
+    let names: Vec<&str> = ACTIONS.into_iter().filter(takes).map(|(name, _)| name).collect();
+    let (last, others) = names.split_last()?;
+    let others = others.join(", ");
+    Some(if others.is_empty() { last.to_string() } else { format!("{others} and {last}") })
+}
