@@ -31,8 +31,14 @@ const WIDTH: f64 = 360.0;
 const HEIGHT: f64 = 240.0;
 const TOP: f64 = 50.0;
 
-/// Colours that are read on a light page and on a dark one.
+/// How the picture begins, and its ground, without which it is read only on a page of its own scheme.
+const START: &str =
+    "<svg xmlns='http://www.w3.org/2000/svg' width='930' height='410' viewBox='0 0 930 410'>\n";
+const GROUND: &str = "<rect class='paper' width='930' height='410'/>\n";
+
+/// Colours for a light ground and for a dark one.
 const STYLE: &str = "<style>
+.paper { fill: #ffffff }
 text { font: 12px sans-serif; fill: #24292f }
 .title { font-weight: bold; font-size: 13px }
 .grid { stroke: #d0d7de; stroke-width: 1 }
@@ -41,6 +47,7 @@ text { font: 12px sans-serif; fill: #24292f }
 .line { fill: none; stroke-width: 2 }
 .dashed { stroke-dasharray: 6 4 }
 @media (prefers-color-scheme: dark) {
+.paper { fill: #0d1117 }
 text { fill: #e6edf3 }
 .grid { stroke: #3d444d }
 .ours { stroke: #58a6ff; fill: #58a6ff }
@@ -155,9 +162,7 @@ fn chart(svg: &mut String, chart: &Chart, lines: &[&Line]) {
 
 /// The picture of these lines.
 pub fn svg(lines: &[Line]) -> String {
-    let mut svg = String::from("<svg xmlns='http://www.w3.org/2000/svg' viewBox='0 0 930 410'>\n");
-    svg += STYLE;
-    svg += "\n";
+    let mut svg = format!("{START}{STYLE}\n{GROUND}");
     for of in &CHARTS {
         let lines: Vec<&Line> = lines.iter().filter(|line| line.chart == of.name).collect();
         chart(&mut svg, of, &lines);
