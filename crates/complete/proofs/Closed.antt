@@ -2,18 +2,15 @@
 -- and k = d s1 s2, A = x1 y2 + x2 y1, B = y1 y2 + x1 x2:
 --   q^2 = 4 s^2 + c^2,  B^2 = A^2 + c1 c2,  A^2 + B^2 = q1 q2 + 4 s1 s2,  A B = s1 q2 + s2 q1.
 -- The equation of x3 = A / (1 + k) and y3 = B / (1 - k), times (1 + k)^2 (1 - k)^2, follows from these.
-use Prim.Native.Nat.{ℕ, _+_, _-_, _*_, _%_}
-use mathlib.Core.Path.{_≡_, ap}
+use Prim.Native.Nat.{ℕ, _+_, _*_, _%_}
+use mathlib.Core.Path.{_≡_}
 use native.Mathlib.Omega.{arith}
-use Rattle.digits.proofs.Mods.{more}
 use Rattle.field.specs.Field.{p}
-use Rattle.field.proofs.Modulus.{p-pos}
 use Rattle.curve.specs.Points.{d}
-use Rattle.curve.specs.Equation.{Equal}
 use Rattle.primes.proofs.Squares.{times-other}
-use Rattle.complete.specs.Affine.{Curve, cross}
-use Rattle.complete.proofs.Modulo.{Same, back, divide}
-use Rattle.complete.proofs.Combined.{_⊕_, _⊙_, _⊗_, by, On}
+use Rattle.complete.proofs.Modulo.{Same, back, _⊕_, _⊙_, _⊗_, by}
+use Rattle.complete.proofs.Division.{divide}
+use Rattle.complete.proofs.Curve.{On, cross}
 use Rattle.complete.proofs.Denominators.{plus-other, less-other}
 
 -- 1 + d s^2
@@ -81,26 +78,12 @@ module _ (x1 y1 x2 y2 n : ℕ) (on1 : On x1 y1) (on2 : On x2 y2) where
       (middle (x1 * y1) (x2 * y2) (x1 * x1 + y1 * y1) (x2 * x2 + y2 * y2) k (A * A + B * B) (A * B) (squared x1 y1 on1)
       (squared x2 y2 on2) (omega arith) (omega arith) (omega arith))
 
--- -k + k = 0
-negative : (k : ℕ) → Same ((p - 1) * k + k) 0
-negative k =
-    let e : p - 1 + 1 ≡ p = omega (arith, p-pos) in
-    let s : (p - 1) * k + k ≡ 0 + p * k = omega (arith, ap (λ (n : ℕ). n * k) e) in
-    record { is = more p ((p - 1) * k + k) 0 k s }
-
-pub closed : (x1 y1 x2 y2 x3 y3 : ℕ) → Curve x1 y1 → Curve x2 y2
-    → Equal (x3 * (1 + cross x1 y1 x2 y2)) (x1 * y2 + x2 * y1)
-    → Equal y3 (y3 * cross x1 y1 x2 y2 + (y1 * y2 + x1 * x2)) → Curve x3 y3
-closed x1 y1 x2 y2 x3 y3 on1 on2 ex ey =
-    let k : ℕ = cross x1 y1 x2 y2 in
-    let n : ℕ = 1 + (p - 1) * k in
-    let l : ℕ = 1 + k in
-    let minus : Same (n + k) 1 = by (negative k) (omega arith) in
-    let y-is : Same y3 (y3 * k + (y1 * y2 + x1 * x2)) = record { is = ey } in
-    let y-n : Same (y3 * n) (y1 * y2 + x1 * x2) = by (y3 ⊙ minus ⊕ y-is) (omega arith) in
+-- x3 = A / (1 + k) and y3 = B / n, where n = 1 - k
+pub closed : (x1 y1 x2 y2 n x3 y3 : ℕ) → On x1 y1 → On x2 y2 → Same (n + cross x1 y1 x2 y2) 1
+    → Same (x3 * (1 + cross x1 y1 x2 y2)) (x1 * y2 + x2 * y1) → Same (y3 * n) (y1 * y2 + x1 * x2) → On x3 y3
+closed x1 y1 x2 y2 n x3 y3 on1 on2 minus ex ey =
+    let l : ℕ = 1 + cross x1 y1 x2 y2 in
     let other : (l * n) % p ≡ 0 → ⊥ =
     times-other l n (plus-other x1 y1 x2 y2 on1 on2) (less-other x1 y1 x2 y2 n on1 on2 minus) in
-    divide (l * n * (l * n)) (y3 * y3) (x3 * x3 + (1 + d * (x3 * x3 * (y3 * y3))))
-    (times-other (l * n) (l * n) other other)
-    (put-in x3 y3 (x1 * y2 + x2 * y1) (y1 * y2 + x1 * x2) l n (record { is = ex }) y-n
-    (sum-on x1 y1 x2 y2 n (record { is = on1 }) (record { is = on2 }) minus)) .is
+    divide (l * n * (l * n)) (times-other (l * n) (l * n) other other)
+    (put-in x3 y3 (x1 * y2 + x2 * y1) (y1 * y2 + x1 * x2) l n ex ey (sum-on x1 y1 x2 y2 n on1 on2 minus))

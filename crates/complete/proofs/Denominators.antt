@@ -2,26 +2,21 @@
 -- 1 - k is 0. Were one of them, then k^2 = 1, and with a square root i of -1
 --   (i k x1 + y1)^2 = d (x1 y1 (i x2 + y2))^2,
 -- so that i x2 + y2 = 0, as d is no square. The same holds with -i for i, and so y2 = 0; but then k = 0.
-use Prim.Native.Nat.{ℕ, _+_, _*_, _/_, _%_, _^_, _<_}
+use Prim.Native.Nat.{ℕ, _+_, _*_, _/_, _%_}
 use mathlib.Core.Path.{_≡_}
 use native.Mathlib.Omega.{arith}
 use native.Mathlib.Decide.{ℕ-discrete}
-use native.Mathlib.Nat.{div-add-mod, mod-eq-of-lt}
+use native.Mathlib.Nat.{div-add-mod}
 use Rattle.digits.proofs.Mods.{more}
 use Rattle.field.specs.Field.{p, mulF}
-use Rattle.field.proofs.Modulus.{p-pos, p-large}
+use Rattle.field.proofs.Modulus.{p-pos}
 use Rattle.curve.specs.Points.{d}
 use Rattle.decode.specs.Decoding.{sqrtM1}
 use Rattle.decode.proofs.MinusOne.{sqrt-m1-squared}
 use Rattle.primes.proofs.Squares.{times-other}
-use Rattle.complete.specs.Affine.{Curve, cross}
-use Rattle.complete.proofs.Modulo.{Same, back, is-zero}
-use Rattle.complete.proofs.Combined.{_⊕_, _⊙_, by, gone, On}
+use Rattle.complete.proofs.Modulo.{Same, back, _⊕_, _⊙_, by, is-zero, gone, small-other}
+use Rattle.complete.proofs.Curve.{On, cross}
 use Rattle.complete.proofs.NoSquare.{d-no-square}
-
--- a small number other than 0 is not 0 modulo p
-small-other : (n : ℕ) → 0 < n → n < 2 ^ 32 → n % p ≡ 0 → ⊥
-small-other n pos low z = omega (arith, mod-eq-of-lt {n = n} {m = p} (omega (arith, p-large)))
 
 -- i^2 = -1, and the same of i^3, which is -i
 minus-one : Same (sqrtM1 * sqrtM1 + 1) 0
@@ -83,19 +78,17 @@ module _ (x1 y1 x2 y2 : ℕ) (on1 : On x1 y1) (on2 : On x2 y2) where
         (omega arith) in
         times-other 2 y2 (small-other 2 (omega arith) (omega arith)) y2-other (gone twice)
 
-pub plus-other : (x1 y1 x2 y2 : ℕ) → Curve x1 y1 → Curve x2 y2 → (1 + cross x1 y1 x2 y2) % p ≡ 0 → ⊥
+pub plus-other : (x1 y1 x2 y2 : ℕ) → On x1 y1 → On x2 y2 → (1 + cross x1 y1 x2 y2) % p ≡ 0 → ⊥
 plus-other x1 y1 x2 y2 on1 on2 z =
     let k : ℕ = cross x1 y1 x2 y2 in
     let e : Same (1 + k) 0 = is-zero (1 + k) z in
-    square-other x1 y1 x2 y2 (record { is = on1 }) (record { is = on2 }) (by (k ⊙ e ⊕ back e) (omega arith))
+    square-other x1 y1 x2 y2 on1 on2 (by (k ⊙ e ⊕ back e) (omega arith))
 
-pub minus-other : (x1 y1 x2 y2 : ℕ) → Curve x1 y1 → Curve x2 y2 → cross x1 y1 x2 y2 % p ≡ 1 % p → ⊥
-minus-other x1 y1 x2 y2 on1 on2 z =
-    let k : ℕ = cross x1 y1 x2 y2 in
-    let e : Same k 1 = record { is = z } in
-    square-other x1 y1 x2 y2 (record { is = on1 }) (record { is = on2 }) (by ((k + 1) ⊙ e) (omega arith))
+pub minus-other : (x1 y1 x2 y2 : ℕ) → On x1 y1 → On x2 y2 → Same (cross x1 y1 x2 y2) 1 → ⊥
+minus-other x1 y1 x2 y2 on1 on2 e =
+    square-other x1 y1 x2 y2 on1 on2 (by ((cross x1 y1 x2 y2 + 1) ⊙ e) (omega arith))
 
--- the same of n = 1 - k
-pub less-other : (x1 y1 x2 y2 n : ℕ) → Curve x1 y1 → Curve x2 y2 → Same (n + cross x1 y1 x2 y2) 1 → n % p ≡ 0 → ⊥
+-- n = 1 - k
+pub less-other : (x1 y1 x2 y2 n : ℕ) → On x1 y1 → On x2 y2 → Same (n + cross x1 y1 x2 y2) 1 → n % p ≡ 0 → ⊥
 less-other x1 y1 x2 y2 n on1 on2 e z =
-    minus-other x1 y1 x2 y2 on1 on2 (by (e ⊕ back (is-zero n z)) (omega arith) .is)
+    minus-other x1 y1 x2 y2 on1 on2 (by (e ⊕ back (is-zero n z)) (omega arith))

@@ -1,7 +1,17 @@
--- Modulo and Combined are how equations modulo p are put together and divided, NoSquare is that d is no square,
--- Denominators that the affine law divides by nothing that is 0, Closed that a sum of points of the curve is one.
+-- Modulo and Division are equations modulo p and what divides there; NoSquare that d is no square, Denominators that
+-- section 3's law so divides by nothing that is 0, Closed that its sums are on the curve, Sums the same of the
+-- definitions. Standing, Adding and Doubling: what RFC 8032's formulas give stands for such sums; Multiples, Equality
+-- and Verifying: so do multiples, equality is that of points, and a signature verifies as the affine definition says.
 pub mod Modulo
-pub mod Combined
+pub mod Division
+pub mod Curve
 pub mod NoSquare
 pub mod Denominators
 pub mod Closed
+pub mod Sums
+pub mod Standing
+pub mod Adding
+pub mod Doubling
+pub mod Multiples
+pub mod Equality
+pub mod Verifying

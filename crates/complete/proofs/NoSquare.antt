@@ -14,8 +14,8 @@ use Rattle.curve.specs.Points.{d}
 use Rattle.primes.proofs.Small.{pow-one}
 use Rattle.primes.proofs.Squares.{one-power, times-other}
 use Rattle.complete.specs.Affine.{divF}
-use Rattle.complete.proofs.Modulo.{Same, back, is-zero, over, divide}
-use Rattle.complete.proofs.Combined.{_⊕_, _⊙_, _⊗_, by, gone}
+use Rattle.complete.proofs.Modulo.{Same, back, _⊕_, _⊙_, _⊗_, by, is-zero, gone}
+use Rattle.complete.proofs.Division.{over, divide}
 
 unfoldable half : ℕ
 half = (p - 1) / 2
@@ -63,4 +63,4 @@ d-no-square w v other e =
     let a : ℕ = divF v w in
     let v-is : Same (a * w) v = over v w other in
     let squares : Same (d * (w * w)) (v * v) = record { is = e } in
-    not-d a (divide (w * w) (a * a) d (times-other w w other other) (by (v-is ⊗ v-is ⊕ back squares) (omega arith)))
+    not-d a (divide (w * w) (times-other w w other other) (by (v-is ⊗ v-is ⊕ back squares) (omega arith)))

@@ -1,2 +1,4 @@
--- What the theorems of this crate speak of, beside the definitions of the crates below.
+-- For `verifies-affine` a reader must believe Affine, with what it takes over from field, decode, scalar and ed25519.
 pub mod Affine
+-- What the theorems on the way to it speak of:
+pub mod Standing
