@@ -14,7 +14,7 @@ use Rattle.complete.proofs.Curve.{On, cross}
 use Rattle.complete.proofs.Denominators.{plus-other, less-other}
 
 -- 1 + d s^2
-abbrev c : ℕ → ℕ
+abbrev pub c : ℕ → ℕ
 c s = 1 + d * (s * s)
 
 -- q^2 = 4 s^2 + c^2
