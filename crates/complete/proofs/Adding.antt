@@ -10,14 +10,14 @@ use Rattle.curve.proofs.Affine.{add-is-sum}
 use Rattle.primes.proofs.Squares.{times-other}
 use Rattle.complete.specs.Affine.{Affine, sumOf}
 use Rattle.complete.specs.Standing.{Stands}
-use Rattle.complete.proofs.Modulo.{Same, same, back, _⊕_, modulo, by, not-zero, small-other}
+use Rattle.complete.proofs.Modulo.{Same, known, equal, same, back, _⊕_, modulo, by, not-zero, small-other}
 use Rattle.complete.proofs.Division.{add-same, mul-same, sub-same}
 use Rattle.complete.proofs.Sums.{k}
 use Rattle.complete.proofs.Standing.{t-is, on, extended, stands, product-other}
 
 two-d-is : Same twoD (2 * d)
 unfolding twoD
-two-d-is = record { is = mod-mod (2 * d) p }
+two-d-is = known (mod-mod (2 * d) p)
 
 module _ (P Q : Pt) (a b : Affine) (sP : Stands P a) (sQ : Stands Q b) where
   C : ℕ
@@ -50,5 +50,5 @@ module _ (P Q : Pt) (a b : Affine) (sP : Stands P a) (sQ : Stands Q b) where
   unfolding pointAdd C D
   sum-stands =
       stands P Q (pointAdd P Q) a b sP sQ
-      (add-is-sum P Q (sP .low) (sQ .low) (extended P a sP .is) (extended Q b sQ .is)) (mul-most _ _)
+      (add-is-sum P Q (sP .low) (sQ .low) (equal (extended P a sP)) (equal (extended Q b sQ))) (mul-most _ _)
       (product-other a b (on P a sP) (on Q b sQ) D (subF D C) (addF D C) D-other add-F add-G)

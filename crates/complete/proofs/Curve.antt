@@ -6,7 +6,7 @@ use Rattle.field.proofs.Elements.{mul-most, difference}
 use Rattle.curve.specs.Points.{d}
 use Rattle.curve.specs.Equation.{OnCurve}
 use Rattle.curve.proofs.Affine.{affine-on-curve}
-use Rattle.complete.proofs.Modulo.{Same, back, _⊕_, modulo, by}
+use Rattle.complete.proofs.Modulo.{Same, known, equal, back, _⊕_, modulo, by}
 use Rattle.complete.proofs.Division.{mul-same}
 
 abbrev pub On : ℕ → ℕ → Type 0
@@ -19,7 +19,7 @@ cross x1 y1 x2 y2 = d * (x1 * x2 * (y1 * y2))
 pub on-plain : (x y : ℕ) → OnCurve x y → On x y
 on-plain x y on =
     let e : Same (1 * 1 * (y * y)) (1 * 1 * (x * x) + (1 * 1 * (1 * 1) + d * (x * x * (y * y)))) =
-    record { is = affine-on-curve x y on } in
+    known (affine-on-curve x y on) in
     by e (omega arith)
 
 pub on-field : (x y : ℕ) → On x y → OnCurve x y
@@ -29,4 +29,4 @@ on-field x y on =
     grw (modulo, mul-same, mul-same, mul-same, mul-same) in
     let sum : Same (1 + mulF d (mulF (mulF x x) (mulF y y)) + mulF x x) (mulF y y) =
     by (one ⊕ mul-same x x ⊕ back on ⊕ back (mul-same y y)) (omega arith) in
-    difference (mulF y y) (mulF x x) (1 + mulF d (mulF (mulF x x) (mulF y y))) (mul-most x x) (sum .is)
+    difference (mulF y y) (mulF x x) (1 + mulF d (mulF (mulF x x) (mulF y y))) (mul-most x x) (equal sum)

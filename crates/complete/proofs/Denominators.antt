@@ -14,17 +14,17 @@ use Rattle.curve.specs.Points.{d}
 use Rattle.decode.specs.Decoding.{sqrtM1}
 use Rattle.decode.proofs.MinusOne.{sqrt-m1-squared}
 use Rattle.primes.proofs.Squares.{times-other}
-use Rattle.complete.proofs.Modulo.{Same, back, _⊕_, _⊙_, by, is-zero, gone, small-other}
+use Rattle.complete.proofs.Modulo.{Same, known, equal, back, _⊕_, _⊙_, by, is-zero, gone, small-other}
 use Rattle.complete.proofs.Curve.{On, cross}
 use Rattle.complete.proofs.NoSquare.{d-no-square}
 
 -- i^2 = -1, and the same of i^3, which is -i
-minus-one : Same (sqrtM1 * sqrtM1 + 1) 0
+pub minus-one : Same (sqrtM1 * sqrtM1 + 1) 0
 unfolding mulF
 minus-one =
     let n : ℕ = sqrtM1 * sqrtM1 in
     let s : n + 1 ≡ 0 + p * (n / p + 1) = omega (arith, div-add-mod n p, sqrt-m1-squared, p-pos) in
-    record { is = more p (n + 1) 0 (n / p + 1) s }
+    known (more p (n + 1) 0 (n / p + 1) s)
 
 cubed : (i : ℕ) → Same (i * i + 1) 0 → Same (i * i * i * (i * i * i) + 1) 0
 cubed i root = by ((i * i * (i * i) + 1) ⊙ root ⊕ (i * i) ⊙ back root) (omega arith)
@@ -66,7 +66,7 @@ module _ (x1 y1 x2 y2 : ℕ) (on1 : On x1 y1) (on2 : On x2 y2) where
           elim (ℕ-discrete (n % p) 0) [
             | yes z ↦ is-zero n z
             | no z ↦ absurd
-                (d-no-square (x1 * y1 * n) (i * k * x1 + y1) (times-other (x1 * y1) n s1-other z) (squares .is))
+                (d-no-square (x1 * y1 * n) (i * k * x1 + y1) (times-other (x1 * y1) n s1-other z) (equal squares))
           ]
 
     square-other : ⊥

@@ -8,25 +8,25 @@ use Rattle.field.proofs.Modulus.{p-large}
 use Rattle.field.proofs.Elements.{mul-rest, add-rest, minus-plus}
 use Rattle.primes.proofs.Squares.{one-power}
 use Rattle.complete.specs.Affine.{divF}
-use Rattle.complete.proofs.Modulo.{Same, back, _⊕_, _⊙_, modulo, by}
+use Rattle.complete.proofs.Modulo.{Same, known, back, _⊕_, _⊙_, modulo, by}
 
 pub add-same : (x y : ℕ) → Same (addF x y) (x + y)
-add-same x y = record { is = add-rest x y }
+add-same x y = known (add-rest x y)
 
 pub mul-same : (x y : ℕ) → Same (mulF x y) (x * y)
-mul-same x y = record { is = mul-rest x y }
+mul-same x y = known (mul-rest x y)
 
 pub sub-same : (x y : ℕ) → y ≤ p → Same (subF x y + y) x
-sub-same x y h = record { is = minus-plus x y h }
+sub-same x y h = known (minus-plus x y h)
 
 -- b^(p-2) b = b^(p-1), which is 1 by Fermat's theorem
 inverse : (b : ℕ) → (b % p ≡ 0 → ⊥) → Same (powF b (p - 2) * b) 1
 unfolding powF
 inverse b other =
     let e : p - 1 ≡ suc (p - 2) = omega (arith, p-large) in
-    let rest : Same (b ^ (p - 2) % p) (b ^ (p - 2)) = record { is = mod-mod (b ^ (p - 2)) p } in
+    let rest : Same (b ^ (p - 2) % p) (b ^ (p - 2)) = known (mod-mod (b ^ (p - 2)) p) in
     grw (modulo, rest)
-    record { is = ap (λ n. n % p) (sym (pow-suc b (p - 2)) ∙ ap (λ n. b ^ n) (sym e)) ∙ one-power b other }
+    (known (ap (λ n. n % p) (sym (pow-suc b (p - 2)) ∙ ap (λ n. b ^ n) (sym e)) ∙ one-power b other))
 
 -- what is multiplied with on both sides falls away, where it is not 0
 pub divide : (c : ℕ) {a b : ℕ} → (c % p ≡ 0 → ⊥) → Same (a * c) (b * c) → Same a b

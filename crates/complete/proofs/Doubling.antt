@@ -8,7 +8,7 @@ use Rattle.curve.proofs.Affine.{double-is-sum}
 use Rattle.primes.proofs.Squares.{times-other}
 use Rattle.complete.specs.Affine.{Affine, sumOf}
 use Rattle.complete.specs.Standing.{Stands}
-use Rattle.complete.proofs.Modulo.{Same, back, _⨾_, _⊕_, _⊙_, _⊗_, modulo, by}
+use Rattle.complete.proofs.Modulo.{Same, equal, back, _⨾_, _⊕_, _⊙_, _⊗_, modulo, by}
 use Rattle.complete.proofs.Division.{add-same, mul-same, sub-same}
 use Rattle.complete.proofs.Sums.{k}
 use Rattle.complete.proofs.Standing.{x-is, y-is, on, stands, product-other}
@@ -54,6 +54,6 @@ module _ (P : Pt) (a : Affine) (s : Stands P a) where
   pub double-stands : Stands (pointDouble P) (sumOf a a)
   unfolding pointDouble F G
   double-stands =
-      stands P P (pointDouble P) a a s s (double-is-sum P (on-curve-z .is)) (mul-most _ _)
+      stands P P (pointDouble P) a a s s (double-is-sum P (equal on-curve-z)) (mul-most _ _)
       (product-other a a (on P a s) (on P a s) ZZ F G (times-other (P .Z) (P .Z) (s .other) (s .other)) double-F
       (λ z. by (double-G ⊕ back z) (omega arith)))

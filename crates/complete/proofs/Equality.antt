@@ -13,8 +13,9 @@ use Rattle.curve.specs.Points.{Pt, pointEqual}
 use Rattle.primes.proofs.Squares.{times-other}
 use Rattle.complete.specs.Affine.{Affine, sameOf}
 use Rattle.complete.specs.Standing.{Stands}
-use Rattle.complete.proofs.Modulo.{Same, same, back, _⨾_, modulo, below}
+use Rattle.complete.proofs.Modulo.{Same, known, same, back, _⨾_, modulo, below}
 use Rattle.complete.proofs.Division.{mul-same, divide}
+use Rattle.complete.proofs.Associative.{pairs}
 
 -- one coordinate: u = U/Y and v = W/Z
 module _ (U W u v Y Z : ℕ) (u-below : u < p) (v-below : v < p) (Y-other : Y % p ≡ 0 → ⊥) (Z-other : Z % p ≡ 0 → ⊥)
@@ -41,19 +42,16 @@ module _ (P Q : Pt) (a b : Affine) (s : Stands P a) (t : Stands Q b) where
   unfolding pointEqual
   equal-is =
       rw (
-        coordinate (P .X) (Q .X) (a .x) (b .x) (P .Z) (Q .Z) (s .x-below) (t .x-below) (s .other) (t .other)
-            (record { is = s .x }) (record { is = t .x }),
-        coordinate (P .Y) (Q .Y) (a .y) (b .y) (P .Z) (Q .Z) (s .y-below) (t .y-below) (s .other) (t .other)
-            (record { is = s .y }) (record { is = t .y }),
+        coordinate (P .X) (Q .X) (a .x) (b .x) (P .Z) (Q .Z) (s .point .x-below) (t .point .x-below) (s .other)
+            (t .other) (known (s .x)) (known (t .x)),
+        coordinate (P .Y) (Q .Y) (a .y) (b .y) (P .Z) (Q .Z) (s .point .y-below) (t .point .y-below) (s .other)
+            (t .other) (known (s .y)) (known (t .y)),
       )
 
   -- so the test says true exactly where they are the same point
   pub equal-exactly : pointEqual P Q ≡ true ↔ (a ≡ b)
   equal-exactly = (λ e. one (both _ _ (sym equal-is ∙ e)), λ e. equal-is ∙ (rw (← e) itself))
     where
-      pairs : (x y u v : ℕ) → x ≡ u → y ≡ v → _≡_ {A = Affine} (record { x = x; y = y }) (record { x = u; y = v })
-      pairs x y u v e f = cc
-
       one : (eqb (a .x) (b .x) ≡ true) × (eqb (a .y) (b .y) ≡ true) → a ≡ b
       one e =
           pairs (a .x) (a .y) (b .x) (b .y) (eqb-true (a .x) (b .x) (e .0)) (eqb-true (a .y) (b .y) (e .1))

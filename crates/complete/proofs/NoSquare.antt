@@ -14,7 +14,7 @@ use Rattle.curve.specs.Points.{d}
 use Rattle.primes.proofs.Small.{pow-one}
 use Rattle.primes.proofs.Squares.{one-power, times-other}
 use Rattle.complete.specs.Affine.{divF}
-use Rattle.complete.proofs.Modulo.{Same, back, _⊕_, _⊙_, _⊗_, by, is-zero, gone}
+use Rattle.complete.proofs.Modulo.{Same, known, equal, back, _⊕_, _⊙_, _⊗_, by, is-zero, gone}
 use Rattle.complete.proofs.Division.{over, divide}
 
 unfoldable half : ℕ
@@ -51,7 +51,7 @@ not-d : (a : ℕ) → Same (a * a) d → ⊥
 not-d a e =
     let one : 1 % p ≡ 1 = mod-eq-of-lt (omega (arith, p-large)) in
     let same : ((a * a) ^ half) % p ≡ (d ^ half) % p =
-    pow-mod p (a * a) half ∙ ap (λ (n : ℕ). (n ^ half) % p) (e .is) ∙ sym (pow-mod p d half) in
+    pow-mod p (a * a) half ∙ ap (λ (n : ℕ). (n ^ half) % p) (equal e) ∙ sym (pow-mod p d half) in
     omega (arith, p-large, sym (square-power a other) ∙ same ∙ d-power)
   where
     other : a % p ≡ 0 → ⊥
@@ -62,5 +62,5 @@ pub d-no-square : (w v : ℕ) → (w % p ≡ 0 → ⊥) → (d * (w * w)) % p �
 d-no-square w v other e =
     let a : ℕ = divF v w in
     let v-is : Same (a * w) v = over v w other in
-    let squares : Same (d * (w * w)) (v * v) = record { is = e } in
+    let squares : Same (d * (w * w)) (v * v) = known e in
     not-d a (divide (w * w) (times-other w w other other) (by (v-is ⊗ v-is ⊕ back squares) (omega arith)))

@@ -1,34 +1,33 @@
 -- What it takes for a point to stand for a sum: that it is the sum by the law multiplied out (`IsSum`), and that its Z
 -- is not 0.
-use Prim.Native.Nat.{ℕ, _+_, _*_, _%_, _≤_, _<_}
+use Prim.Native.Nat.{ℕ, _+_, _*_, _%_, _≤_}
 use mathlib.Core.Path.{_≡_}
 use native.Mathlib.Omega.{arith}
 use Rattle.field.specs.Field.{p, mulF}
-use Rattle.field.proofs.Elements.{mul-below}
 use Rattle.curve.specs.Points.{Pt, d}
 use Rattle.curve.specs.Equation.{IsSum}
 use Rattle.primes.proofs.Squares.{times-other}
-use Rattle.complete.specs.Affine.{Affine, divF, sumOf}
+use Rattle.complete.specs.Affine.{Affine, sumOf}
 use Rattle.complete.specs.Standing.{Stands}
-use Rattle.complete.proofs.Modulo.{Same, back, _⊕_, _⊙_, _⊗_, by, is-zero, gone, not-zero}
+use Rattle.complete.proofs.Modulo.{Same, known, equal, back, _⊕_, _⊙_, _⊗_, by, is-zero, gone, not-zero}
 use Rattle.complete.proofs.Division.{mul-same, divide}
 use Rattle.complete.proofs.Curve.{On, on-plain}
 use Rattle.complete.proofs.Denominators.{plus-other, minus-other}
 use Rattle.complete.proofs.Sums.{k, below-x, below-y, below-x-is, below-y-is, below-x-other, below-y-other}
-use Rattle.complete.proofs.Sums.{sum-x, sum-y, sum-on-curve}
+use Rattle.complete.proofs.Sums.{sum-x, sum-y, sum-point}
 
 module _ (P : Pt) (a : Affine) (s : Stands P a) where
   pub x-is : Same (P .X) (a .x * P .Z)
-  x-is = record { is = s .x }
+  x-is = known (s .x)
 
   pub y-is : Same (P .Y) (a .y * P .Z)
-  y-is = record { is = s .y }
+  y-is = known (s .y)
 
   pub t-is : Same (P .T) (a .x * a .y * P .Z)
-  t-is = record { is = s .t }
+  t-is = known (s .t)
 
   pub on : On (a .x) (a .y)
-  on = on-plain (a .x) (a .y) (s .on-curve)
+  on = on-plain (a .x) (a .y) (s .point .on-curve)
 
   pub extended : Same (P .T * P .Z) (P .X * P .Y)
   extended = by (P .Z ⊙ t-is ⊕ back (x-is ⊗ y-is)) (omega arith)
@@ -48,10 +47,6 @@ module _ (N Z z e n XX YY W x y w : ℕ) (z-other : z % p ≡ 0 → ⊥) (e-othe
   fraction-y e-is law =
       fraction (by ((N * (z * z)) ⊙ e-is ⊕ (N * d) ⊙ (xx ⊗ yy) ⊕ law ⊕ (Z * z) ⊙ ww) (omega arith))
 
-div-below : (m n : ℕ) → divF m n < p
-unfolding divF
-div-below m n = mul-below m _
-
 module _ (P Q R : Pt) (a b : Affine) (sP : Stands P a) (sQ : Stands Q b) (sum : IsSum P Q R) where
   z-other : (P .Z * Q .Z) % p ≡ 0 → ⊥
   z-other = times-other (P .Z) (Q .Z) (sP .other) (sQ .other)
@@ -68,7 +63,7 @@ module _ (P Q R : Pt) (a b : Affine) (sP : Stands P a) (sQ : Stands Q b) (sum : 
       by (x-is P a sP ⊗ y-is Q b sQ ⊕ x-is Q b sQ ⊗ y-is P a sP) (omega arith) in
       fraction-x (R .X) (R .Z) (P .Z * Q .Z) (below-x a b) (sumOf a b .x) _ _ _ _ _ _ z-other
       (below-x-other a b (on P a sP) (on Q b sQ)) (sum-x a b (on P a sP) (on Q b sQ)) xx yy ww
-      (below-x-is a b) record { is = sum .x }
+      (below-x-is a b) (known (sum .x))
 
   y-sum : Same (R .Y) (sumOf a b .y * R .Z)
   y-sum =
@@ -76,23 +71,20 @@ module _ (P Q R : Pt) (a b : Affine) (sP : Stands P a) (sQ : Stands Q b) (sum : 
       by (yy ⊕ xx) (omega arith) in
       fraction-y (R .Y) (R .Z) (P .Z * Q .Z) (below-y a b) (sumOf a b .y) _ _ _ _ _ _ z-other
       (below-y-other a b (on P a sP) (on Q b sQ)) (sum-y a b (on P a sP) (on Q b sQ)) xx yy ww
-      (below-y-is a b) record { is = sum .y }
+      (below-y-is a b) (known (sum .y))
 
   pub stands : R .X ≤ p → (R .Z % p ≡ 0 → ⊥) → Stands R (sumOf a b)
-  unfolding sumOf
   stands low other =
-      let law : Same (R .T * R .Z) (R .X * R .Y) = record { is = sum .t } in
+      let law : Same (R .T * R .Z) (R .X * R .Y) = known (sum .t) in
       let t-sum : Same (R .T) (sumOf a b .x * sumOf a b .y * R .Z) =
       divide (R .Z) other (by (law ⊕ x-sum ⊗ y-sum) (omega arith)) in
       record {
         other = other;
-        x = x-sum .is;
-        y = y-sum .is;
-        t = t-sum .is;
+        x = equal x-sum;
+        y = equal y-sum;
+        t = equal t-sum;
         low = low;
-        x-below = div-below _ _;
-        y-below = div-below _ _;
-        on-curve = sum-on-curve a b (sP .on-curve) (sQ .on-curve);
+        point = sum-point a b (sP .point) (sQ .point);
       }
 
 -- Z3 = F G, where F is D (1 - k), and G is D (1 + k) or its negative

@@ -1,13 +1,14 @@
 -- Section 3's law of two points of the curve: "the denominators are non-zero for all input points", and the sum is on
 -- the curve.
-use Prim.Native.Nat.{ℕ, _+_, _*_, _%_}
+use Prim.Native.Nat.{ℕ, _+_, _*_, _%_, _<_}
 use mathlib.Core.Path.{_≡_}
 use native.Mathlib.Omega.{arith}
 use Rattle.field.specs.Field.{p, addF, subF}
-use Rattle.field.proofs.Elements.{mul-most}
+use Rattle.field.proofs.Elements.{mul-below, mul-most}
 use Rattle.curve.specs.Points.{d}
 use Rattle.curve.specs.Equation.{OnCurve}
-use Rattle.complete.specs.Affine.{Affine, crossF, sumOf}
+use Rattle.complete.specs.Affine.{Affine, crossF, divF, sumOf}
+use Rattle.complete.specs.Group.{IsPoint}
 use Rattle.complete.proofs.Modulo.{Same, same, back, _⨾_, _⊕_, _⊙_, modulo, by, gone, not-zero}
 use Rattle.complete.proofs.Division.{add-same, mul-same, sub-same, over}
 use Rattle.complete.proofs.Curve.{On, cross, on-plain, on-field}
@@ -25,7 +26,19 @@ below-x a b = addF 1 (crossF a b)
 abbrev pub below-y : Affine → Affine → ℕ
 below-y a b = subF 1 (crossF a b)
 
+div-below : (m n : ℕ) → divF m n < p
+unfolding divF
+div-below m n = mul-below m _
+
 module _ (a b : Affine) where
+  pub sum-x-below : sumOf a b .x < p
+  unfolding sumOf
+  sum-x-below = div-below _ _
+
+  pub sum-y-below : sumOf a b .y < p
+  unfolding sumOf
+  sum-y-below = div-below _ _
+
   k-is : Same (crossF a b) (k a b)
   k-is = grw (modulo, mul-same, mul-same, mul-same, mul-same)
 
@@ -67,3 +80,10 @@ module _ (a b : Affine) where
     pub sum-on-curve : OnCurve (sumOf a b .x) (sumOf a b .y)
     sum-on-curve =
         on-field (sumOf a b .x) (sumOf a b .y) (sum-on (on-plain (a .x) (a .y) on-a) (on-plain (b .x) (b .y) on-b))
+
+  pub sum-point : IsPoint a → IsPoint b → IsPoint (sumOf a b)
+  sum-point is-a is-b = record {
+    x-below = sum-x-below;
+    y-below = sum-y-below;
+    on-curve = sum-on-curve (is-a .on-curve) (is-b .on-curve);
+  }

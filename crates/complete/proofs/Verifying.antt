@@ -1,14 +1,17 @@
 -- A signature verifies exactly where the affine equation holds.
-use Prim.Native.Nat.{ℕ, _+_, _^_}
+use Prim.Native.Nat.{ℕ, _+_, _^_, _<_}
 use mathlib.Core.Path.{_≡_, refl, ap}
 use mathlib.Core.Bool.{Bool, true, false, _&&_}
 use mathlib.Core.List.{List, _++_}
-use lib.Dec.{eqb, ltb}
+use native.Mathlib.Nat.{mod-lt, lt-trans}
+use borrow.Author.Tests.{ltb-true}
+use lib.Dec.{eqb, ltb, lit<}
 use lib.ListN.{length, take, drop}
 use Rattle.laws.specs.Numbers.{le}
 use Rattle.laws.proofs.Holds.{both}
 use Rattle.curve.specs.Points.{base, neutral, pointMul}
 use Rattle.scalar.specs.Order.{L}
+use Rattle.scalar.proofs.Steps.{L-pos}
 use Rattle.decode.specs.Decoding.{decodeOf}
 use Rattle.decode.proofs.OnCurve.{decoded}
 use Rattle.ed25519.specs.Verification.{kOf, accepts, verifies, verifiesParts}
@@ -23,20 +26,32 @@ use Rattle.complete.proofs.Equality.{equal-is, equal-exactly}
 pub decoded-stands : (s : List ℕ) → decodeOf s .ok ≡ true → Stands (decodeOf s .point) (pointOf (decodeOf s .point))
 decoded-stands s ok =
     let h = decoded s ok in
-    rw (h .is) (affine-stands _ _ (h .x-below) (h .y-below) (h .on-curve))
+    rw (h .is)
+    (affine-stands _ _ (record { x-below = h .x-below; y-below = h .y-below; on-curve = h .on-curve }))
 
 -- what stands behind a test matters only where the test holds
 behind : (t u v : Bool) → (t ≡ true → u ≡ v) → (t && u) ≡ (t && v)
 behind true u v h = h refl
 behind false u v h = refl
 
+L-bits : L < 2 ^ 256
+unfolding L
+L-bits = lit< tt
+
+k-bits : (R A M : List ℕ) → kOf R A M < 2 ^ 256
+unfolding kOf
+k-bits R A M = lt-trans (mod-lt _ L-pos) L-bits
+
 accepts-affine : (A M R S : List ℕ) → accepts A M R S ≡ acceptsAffine A M R S
 accepts-affine A M R S =
     behind (decodeOf A .ok && decodeOf R .ok && ltb (le 32 S 0) L) _ _
     (λ h.
-    let ok = both (decodeOf A .ok) (decodeOf R .ok) (both _ _ h .0) in
-    equal-is _ _ _ _ (multiple-stands (le 32 S 0) base _ base-stands)
-    (sum-stands _ _ _ _ (decoded-stands R (ok .1)) (multiple-stands (kOf R A M) _ _ (decoded-stands A (ok .0)))))
+    let tests = both (decodeOf A .ok && decodeOf R .ok) (ltb (le 32 S 0) L) h in
+    let ok = both (decodeOf A .ok) (decodeOf R .ok) (tests .0) in
+    let low : le 32 S 0 < 2 ^ 256 = lt-trans (ltb-true (le 32 S 0) L (tests .1)) L-bits in
+    equal-is _ _ _ _ (multiple-stands (le 32 S 0) base _ low base-stands)
+    (sum-stands _ _ _ _ (decoded-stands R (ok .1))
+    (multiple-stands (kOf R A M) _ _ (k-bits R A M) (decoded-stands A (ok .0)))))
 
 -- The definition of ed25519 says what the affine one says, of any key, text and signature.
 pub verifies-affine : (key text signature : List ℕ) → verifies key text signature ≡ verifiesAffine key text signature
@@ -55,5 +70,5 @@ parts-affine key context value signature = rw verifies-affine
 -- L times the base point is the neutral point
 pub order-affine : timesOf L (pointOf base) ≡ zeroPoint
 order-affine =
-    equal-exactly (pointMul L base) neutral _ zeroPoint (multiple-stands L base _ base-stands) neutral-stands .0
+    equal-exactly (pointMul L base) neutral _ zeroPoint (multiple-stands L base _ L-bits base-stands) neutral-stands .0
     order-base

@@ -1,7 +1,7 @@
--- RFC 8032 over points (x, y) and with division: section 3's sum, section 6's multiples by it, 5.1.7 with both. For
--- theorems alone: what is computed is `verifies` of ed25519, in coordinates that spare the divisions.
-use Prim.Native.Nat.{ℕ, zero, suc, _-_, _/_, _%_}
-use mathlib.Core.Bool.{Bool, cond, _&&_}
+-- RFC 8032 over points (x, y) and with division: section 3's sum, multiples as sums, and 5.1.7 with both. For theorems
+-- alone: what is computed is `verifies` of ed25519, in coordinates that spare the divisions, and bit by bit.
+use Prim.Native.Nat.{ℕ, zero, suc, _-_}
+use mathlib.Core.Bool.{Bool, _&&_}
 use mathlib.Core.List.{List}
 use lib.Dec.{eqb, ltb}
 use lib.ListN.{length, take, drop}
@@ -38,15 +38,10 @@ sumOf P Q = record {
 abbrev pub zeroPoint : Affine
 zeroPoint = record { x = 0; y = 1 }
 
--- section 6, point_mul, for a scalar s of n bits: from the lowest bit on, P is added to Q where the bit is 1, and to
--- itself. Other orders of addition would give the same point by associativity, which is not proved.
-unfoldable pub timesFrom : ℕ → ℕ → Affine → Affine → Affine
-timesFrom zero s P Q = Q
-timesFrom (suc n) s P Q = timesFrom n (s / 2) (sumOf P P) (cond (eqb (s % 2) 1) (sumOf Q P) Q)
-
--- [s]P for a scalar below 2^256
-abbrev pub timesOf : ℕ → Affine → Affine
-timesOf s P = timesFrom 256 s P zeroPoint
+-- section 2: "[n]X  X added to itself n times"
+unfoldable pub timesOf : ℕ → Affine → Affine
+timesOf zero P = zeroPoint
+timesOf (suc n) P = sumOf (timesOf n P) P
 
 -- the same point
 abbrev pub sameOf : Affine → Affine → Bool
