@@ -7,7 +7,6 @@ use lib.Dec.{lit<}
 use Rattle.field.specs.Field.{p, addF, subF, mulF}
 use Rattle.field.proofs.Elements.{sub-below}
 use Rattle.curve.specs.Points.{d}
-use Rattle.curve.specs.Equation.{OnCurve}
 use Rattle.complete.specs.Affine.{Affine, sumOf, zeroPoint, timesOf}
 use Rattle.complete.specs.Group.{IsPoint, minusOf}
 use Rattle.complete.proofs.Modulo.{Same, back, _⊕_, _⊙_, by, below}
@@ -17,13 +16,9 @@ use Rattle.complete.proofs.Sums.{below-x, below-y, below-x-is, below-y-
 use Rattle.complete.proofs.Sums.{sum-x, sum-y, sum-x-below, sum-y-below, sum-point}
 use Rattle.complete.proofs.Associative.{pairs, commutative, associative}
 
-neutral-on-curve : OnCurve 0 1
-unfolding p d addF subF mulF
-neutral-on-curve = refl
-
 pub zero-point : IsPoint zeroPoint
-unfolding p
-zero-point = record { x-below = lit< tt; y-below = lit< tt; on-curve = neutral-on-curve }
+unfolding p d addF subF mulF
+zero-point = record { x-below = lit< tt; y-below = lit< tt; on-curve = refl }
 
 module _ (a : Affine) (is-a : IsPoint a) where
   on-a : On (a .x) (a .y)
@@ -33,7 +28,7 @@ module _ (a : Affine) (is-a : IsPoint a) where
   neutral-right =
       let x : ℕ = sumOf a zeroPoint .x in
       let y : ℕ = sumOf a zeroPoint .y in
-      let on-0 = on-plain 0 1 neutral-on-curve in
+      let on-0 = on-plain (zeroPoint .x) (zeroPoint .y) (zero-point .on-curve) in
       pairs _ _ _ _
       (below (sum-x-below a zeroPoint) (is-a .x-below)
       (by (sum-x a zeroPoint on-a on-0 ⊕ x ⊙ back (below-x-is a zeroPoint)) (omega arith)))
@@ -78,7 +73,7 @@ module _ (a : Affine) (is-a : IsPoint a) where
 -- multiples
 pub times-point : (n : ℕ) (a : Affine) → IsPoint a → IsPoint (timesOf n a)
 unfolding timesOf
-times-point zero a is-a = zero-point
+times-point zero a is-a = search zero-point
 times-point (suc n) a is-a = sum-point (timesOf n a) a (times-point n a is-a) is-a
 
 pub times-twice : (n : ℕ) (a : Affine) → IsPoint a → timesOf n (sumOf a a) ≡ timesOf (n + n) a
