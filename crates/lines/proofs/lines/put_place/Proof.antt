@@ -1,11 +1,11 @@
--- `console::lines::put_place` meets its contract. The code is below 4, above 7, or carries the place.
+-- `lines::lines::put_place` meets its contract. The code is below 4, above 7, or carries the place.
 use native.Mathlib.Omega.{arith}
 use borrow.Author.Needs.{needs}
 use borrow.Author.Tests.{le-leb, lt-leb}
-use Rattle.console.specs.Text.{placeText}
+use Rattle.lines.specs.Line.{placeText}
 use Rattle.laws.proofs.Written.{puts-none}
-use Rattle.console.proofs.lines.put_place.Statement.{statement}
-use Rattle.console.proofs.lines.put_place.Tie as tie
+use Rattle.lines.proofs.lines.put_place.Statement.{statement}
+use Rattle.lines.proofs.lines.put_place.Tie as tie
 
 returns : tie.Need-returns
 unfolding placeText

@@ -1,12 +1,12 @@
--- `console::lines::put_record` meets its contract, by the verdict.
+-- `lines::lines::put_record` meets its contract, by the verdict.
 use mathlib.Core.Path.{sym, ap}
 use native.Mathlib.Omega.{arith}
 use Rattle.verdict.specs.declared.Verdict.{Verdict}
-use Rattle.console.specs.Text.{recordLine}
+use Rattle.lines.specs.Line.{recordLine}
 use Rattle.laws.proofs.Written.{puts-as}
 use borrow.Author.Needs.{needs}
-use Rattle.console.proofs.lines.put_record.Statement.{statement}
-use Rattle.console.proofs.lines.put_record.Tie as tie
+use Rattle.lines.proofs.lines.put_record.Statement.{statement}
+use Rattle.lines.proofs.lines.put_record.Tie as tie
 
 returns : tie.Need-returns
 returns c =

@@ -1,11 +1,11 @@
--- `console::pieces::put_number` meets its contract. The digits are the number's.
+-- `lines::pieces::put_number` meets its contract. The digits are the number's.
 use mathlib.Core.Path.{_∙_}
 use native.Mathlib.Omega.{arith}
 use Rattle.laws.proofs.Written.{puts-as}
-use Rattle.console.proofs.Decimals.{decimal-short, decimal-is}
+use Rattle.lines.proofs.Decimals.{decimal-short, decimal-is}
 use borrow.Author.Needs.{needs}
-use Rattle.console.proofs.pieces.put_number.Statement.{statement}
-use Rattle.console.proofs.pieces.put_number.Tie as tie
+use Rattle.lines.proofs.pieces.put_number.Statement.{statement}
+use Rattle.lines.proofs.pieces.put_number.Tie as tie
 
 put-word-requires : tie.Need-put-word-requires
 put-word-requires c κs =

@@ -1,10 +1,10 @@
--- `console::lines::put_run` meets its contract. Its pieces follow each other.
+-- `lines::lines::put_run` meets its contract. Its pieces follow each other.
 use native.Mathlib.Omega.{arith}
-use Rattle.console.specs.Text.{runLine}
+use Rattle.lines.specs.Line.{runLine}
 use Rattle.laws.proofs.Written.{puts-more}
 use borrow.Author.Needs.{needs}
-use Rattle.console.proofs.lines.put_run.Statement.{statement}
-use Rattle.console.proofs.lines.put_run.Tie as tie
+use Rattle.lines.proofs.lines.put_run.Statement.{statement}
+use Rattle.lines.proofs.lines.put_run.Tie as tie
 
 returns : tie.Need-returns
 unfolding runLine
