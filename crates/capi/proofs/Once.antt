@@ -10,7 +10,7 @@ use Rattle.tally.specs.declared.Tallied.{Tallied}
 use Rattle.batch.proofs.Answers.{places-once, lays-once}
 use Rattle.report.proofs.Says.{report-once}
 use Rattle.report.proofs.Runs.{takes-once}
-use Rattle.told.specs.Piling.{tbReported}
+use Rattle.evidence.specs.Piling.{tbReported}
 use Rattle.capi.proofs.hashing.tb_sha512.Kinds as tb-sha512-kinds
 use Rattle.capi.proofs.hashing.tb_sha512.Reads as tb-sha512-reads
 use Rattle.capi.proofs.hashing.tb_leaf.Kinds as tb-leaf-kinds

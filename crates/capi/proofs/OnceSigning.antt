@@ -6,7 +6,7 @@ use mathlib.Core.List.{List}
 use Rattle.laws.proofs.Once.{Settles}
 use Rattle.report.proofs.Says.{report-once}
 use Rattle.report.proofs.Runs.{takes-once}
-use Rattle.told.specs.Piling.{tbReported}
+use Rattle.evidence.specs.Piling.{tbReported}
 use Rattle.capi.proofs.signing.tb_answers.Kinds as tb-answers-kinds
 use Rattle.capi.proofs.signing.tb_answers.Reads as tb-answers-reads
 use Rattle.capi.proofs.signing.tb_check_signed.Kinds as tb-check-signed-kinds

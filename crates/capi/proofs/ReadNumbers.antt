@@ -6,8 +6,8 @@ use Rattle.laws.specs.Written.{written}
 use Rattle.intake.specs.Read.{readNumber}
 use Rattle.intake.specs.declared.Read.{Read}
 use Rattle.intake.specs.declared.Read.the-variants.{Records, NoReport, Amount, Short}
-use Rattle.told.specs.Publishing.{tbRecords}
-use Rattle.told.specs.declared.TbRecords.{TbRecords}
+use Rattle.evidence.specs.Publishing.{tbRecords}
+use Rattle.evidence.specs.declared.TbRecords.{TbRecords}
 
 same-number : (r : Read) → tbRecords r .code ≡ readNumber r
 same-number (Records n) = refl

@@ -8,9 +8,9 @@ use Rattle.report.specs.Report.{Reports}
 use Rattle.report.specs.Taking.{Takes, takenNumber, takenBytes}
 use Rattle.report.specs.declared.Report.{Report}
 use Rattle.report.specs.declared.Taken.{Taken}
-use Rattle.told.specs.Piling.{tbReported, tbCut}
-use Rattle.told.specs.declared.TbReported.{TbReported}
-use Rattle.told.specs.declared.TbCut.{TbCut}
+use Rattle.evidence.specs.Piling.{tbReported, tbCut}
+use Rattle.evidence.specs.declared.TbReported.{TbReported}
+use Rattle.evidence.specs.declared.TbCut.{TbCut}
 
 -- the struct tells the answer that is right of the pile
 pub record Checks (pile answers : List ℕ) (told : TbReported) : Type 0 where

@@ -9,9 +9,9 @@ use Rattle.forward.specs.Forwarded.{pileOf, Forwards, forwardedNumber, forwarde
 use Rattle.forward.specs.declared.Forwarded.{Forwarded}
 use Rattle.publish.specs.Published.{Publishes, publishedNumber, publishedBytes}
 use Rattle.publish.specs.declared.Published.{Published}
-use Rattle.told.specs.Publishing.{tbPublished, tbForwarded}
-use Rattle.told.specs.declared.TbForwarded.{TbForwarded}
-use Rattle.told.specs.declared.TbPublished.{TbPublished}
+use Rattle.evidence.specs.Publishing.{tbPublished, tbForwarded}
+use Rattle.evidence.specs.declared.TbForwarded.{TbForwarded}
+use Rattle.evidence.specs.declared.TbPublished.{TbPublished}
 
 -- the struct tells the answer that is right of the pile and the buffer out, and the buffer holds afterwards what that
 -- same answer leaves in it

@@ -4,11 +4,11 @@ ghost use Rattle.pile.specs.Pile.{pileCode};
 ghost use Rattle.pile.specs.Valid.{judgementOf};
 ghost use Rattle.pile.specs.Links.{linkedOf, firstRandZero};
 ghost use Rattle.runs.specs.Clash.{clash};
-ghost use Rattle.told.specs.Piling.{tbJudged};
+ghost use Rattle.evidence.specs.Piling.{tbJudged};
 ghost use Rattle.capi.specs.Piling.{Checks, Cuts};
-use told::TbCut;
-use told::TbJudged;
-use told::TbReported;
+use evidence::TbCut;
+use evidence::TbJudged;
+use evidence::TbReported;
 
 // Code 15 of a pile and its answers, 0 where it does not apply.
 #[no_mangle]
@@ -23,7 +23,7 @@ pub extern "C" fn tb_pile_code<'a>(pile: &'a [u8], answers: &'a [u8]) -> u32
 pub extern "C" fn tb_judge<'a>(pile: &'a [u8], answers: &'a [u8], place: usize) -> TbJudged
     ensures { λ r. ⌜ r ≡ tbJudged (judgementOf (now (pile .entry)) (now (answers .entry)) place) ⌝ }
 {
-    told::judgement_told(pile::judge(pile, answers, place))
+    evidence::judgement_told(pile::judge(pile, answers, place))
 }
 
 // Whether the record at a place is linked to the one before it.
@@ -60,7 +60,7 @@ pub extern "C" fn tb_contradicts(
 pub extern "C" fn tb_check_report<'a>(pile: &'a [u8], answers: &'a [u8]) -> TbReported
     ensures { λ r. ⌜ Checks (now (pile .entry)) (now (answers .entry)) r ⌝ }
 {
-    told::report_told(report::check_report(pile, answers))
+    evidence::report_told(report::check_report(pile, answers))
 }
 
 // The shortest run that convicts by itself, at the front of out.
@@ -68,5 +68,5 @@ pub extern "C" fn tb_check_report<'a>(pile: &'a [u8], answers: &'a [u8]) -> TbRe
 pub extern "C" fn tb_cut_run<'a>(pile: &'a [u8], answers: &'a [u8], out: &mut [u8]) -> TbCut
     ensures { λ r. ⌜ Cuts (now (pile .entry)) (now (answers .entry)) (now (out .entry)) r (now (out .exit)) ⌝ }
 {
-    told::run_told(report::cut_run(pile, answers, out))
+    evidence::run_told(report::cut_run(pile, answers, out))
 }

@@ -7,10 +7,10 @@ ghost use Rattle.walk.specs.State.{requestNow};
 ghost use Rattle.walk.specs.Starting.{startedOf};
 ghost use Rattle.walk.specs.Asking.{askedOf};
 ghost use Rattle.hearing.specs.Heard.{ownHeard};
-ghost use Rattle.told.specs.Walking.{tbAsked};
+ghost use Rattle.evidence.specs.Walking.{tbAsked};
 ghost use Rattle.capi.specs.Walking.{walkOf, walkStarted, heardOf, Took};
-use told::TbAsked;
-use told::TbTook;
+use evidence::TbAsked;
+use evidence::TbTook;
 use walk::Heard;
 use walk::Walk;
 
@@ -84,7 +84,7 @@ pub extern "C" fn tb_walk_ask_fields(
         last: last,
         most: most,
     };
-    told::asked_told(walk::ask(w, out))
+    evidence::asked_told(walk::ask(w, out))
 }
 
 // Takes a response. On a refusal the state and the pile stay.
@@ -138,7 +138,7 @@ pub extern "C" fn tb_walk_take_fields(
     *rand = r;
     *last = v.last;
     let s = m.said;
-    told::took_told(s)
+    evidence::took_told(s)
 }
 
 // Takes a response with no answers lent: its signatures are verified under the key of the server that was asked.
@@ -187,5 +187,5 @@ pub extern "C" fn tb_walk_take_signed_fields(
     *rand = r;
     *last = v.last;
     let s = m.said;
-    told::took_told(s)
+    evidence::took_told(s)
 }

@@ -1,4 +1,3 @@
 -- Laws that belong to no one function.
-pub mod Decimals
 pub mod Sample
 pub mod Once

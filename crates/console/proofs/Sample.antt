@@ -7,8 +7,9 @@ use Rattle.refusal.specs.Refusal.{refusal, refusalAt}
 use Rattle.verdict.specs.Window.{windowOf}
 use Rattle.verdict.specs.declared.Verdict.{Verdict}
 use Rattle.verdict.specs.declared.Verdict.the-variants.{Valid, Refused}
-use Rattle.console.specs.Text.{decimalIn, spaced, twoSpaced, labelled, windowLine, placeText, refusalLine}
-use Rattle.console.specs.Text.{recordLine, recordLines, runLine, countLine}
+use Rattle.lines.specs.Line.{decimalIn, spaced, twoSpaced, labelled, windowLine, placeText, refusalLine}
+use Rattle.lines.specs.Line.{recordLine, runLine, countLine}
+use Rattle.console.specs.Text.{recordLines}
 
 -- 1000±10, 1500±10, 1495±1, 1400±10
 abbrev pub four : ℕ → Verdict

@@ -2,8 +2,6 @@
 // on files of their own. Of a pile alone the answers are those of our own Ed25519.
 mod answering;
 mod files;
-mod lines;
-mod pieces;
 mod verdicts;
 
 use answering::put_answers;

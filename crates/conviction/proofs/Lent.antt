@@ -13,7 +13,7 @@ use Rattle.report.specs.declared.Report.{Report}
 use Rattle.report.specs.declared.Report.the-variants.{Pair, Clear}
 use Rattle.report.specs.declared.Taken.{Taken}
 use Rattle.report.specs.declared.Taken.the-variants.{Run, NoRun}
-use Rattle.signed.proofs.Verdicts.{until-check}
+use Rattle.signatures.proofs.Verdicts.{until-check}
 use Rattle.hearing.proofs.Verified.{both-yes}
 use Rattle.walk.specs.State.{requestNow}
 use Rattle.walk.specs.Starting.{begunWalk}

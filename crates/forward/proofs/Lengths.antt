@@ -11,8 +11,8 @@ use lib.Seq.{take-at}
 use Rattle.laws.specs.Pasted.{fronted}
 use Rattle.laws.specs.Pick.{pick}
 use Rattle.laws.specs.Written.{written}
-use Rattle.json.specs.declared.Skip.{Skip}
-use Rattle.json.specs.declared.Skip.the-variants as skip
+use Rattle.tokens.specs.declared.Skip.{Skip}
+use Rattle.tokens.specs.declared.Skip.the-variants as skip
 use Rattle.intake.specs.Entry.{Entry, these, unread, elementsOf, allOf, entriesAt, listPlace, entriesFrom, entriesOf}
 use Rattle.intake.specs.Read.{anyBig, readOf, readNumber, pileBytes}
 use Rattle.intake.specs.Record.{recordsOf}

@@ -8,11 +8,11 @@ use borrow.Author.Tests.{eq-eqb, ne-eqb}
 use lib.Dec.{eqb}
 use lib.ListN.{length, getD, length-drop}
 use Rattle.laws.specs.Pick.{pick, either, both}
-use Rattle.json.specs.declared.Skip.{Skip}
-use Rattle.json.specs.declared.Skip.the-variants.{Past, Bad}
-use Rattle.json.specs.declared.Step.{Step}
-use Rattle.json.specs.Scan.{then, thenStep, startsWith, blank, pastWhile, after, pastColon}
-use Rattle.json.specs.Text.{stringAt}
+use Rattle.tokens.specs.declared.Skip.{Skip}
+use Rattle.tokens.specs.declared.Skip.the-variants.{Past, Bad}
+use Rattle.tokens.specs.declared.Step.{Step}
+use Rattle.tokens.specs.Scan.{then, thenStep, startsWith, blank, pastWhile, after, pastColon}
+use Rattle.strings.specs.Text.{stringAt}
 use Rattle.json.specs.Value.{literalAt, plainAt, itemStep, memberStep, arrayOf, objectOf, valueBy, valueAt, endsAt}
 use Rattle.json.specs.Value.{isText}
 use Rattle.json.proofs.Ahead.{forth-items, forth-members}

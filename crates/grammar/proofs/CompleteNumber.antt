@@ -8,10 +8,10 @@ use borrow.Author.Tests.{ne-eqb, le-leb}
 use lib.Dec.{eqb}
 use lib.ListN.{length, getD, length-append}
 use Rattle.laws.specs.Pick.{pick, either, both}
-use Rattle.json.specs.declared.Skip.the-variants.{Past, Bad}
-use Rattle.json.specs.Scan.{then, digit, run, pastWhile}
-use Rattle.json.specs.Number.{someDigits, pastMinus, pastSign, wholeAt, integerAt, fractionAt, signedAt, exponentAt}
-use Rattle.json.specs.Number.{numberAt}
+use Rattle.tokens.specs.declared.Skip.the-variants.{Past, Bad}
+use Rattle.tokens.specs.Scan.{then, digit, run, pastWhile}
+use Rattle.tokens.specs.Number.{someDigits, pastMinus, pastSign, wholeAt, integerAt, fractionAt, signedAt, exponentAt}
+use Rattle.tokens.specs.Number.{numberAt}
 use Rattle.grammar.specs.Rules.{Rule, these, within, _·_, join, _/_, left, right, more, 1*_, optional, absent}
 use Rattle.grammar.specs.Rules.{present}
 use Rattle.grammar.specs.Abnf

@@ -8,13 +8,13 @@ use borrow.Author.Tests.{eqb-true, ne-eqb, le-leb, lt-ltb, le-ltb}
 use lib.Dec.{eqb}
 use lib.ListN.{length, getD}
 use Rattle.laws.specs.Pick.{pick, both}
-use Rattle.json.specs.declared.Skip.the-variants.{Bad}
-use Rattle.json.specs.declared.Unit.{Unit}
-use Rattle.json.specs.declared.Unit.the-variants.{Code, Wide, Close, Ill}
-use Rattle.json.specs.Walk.{walked}
-use Rattle.json.specs.Text.{escapeOf, nibbleOf, nibbleAt, hexAt, escapeAt, leastSecond, mostSecond, secondAt, tailAt}
-use Rattle.json.specs.Text.{longAt, wideAt, unitAt, stepOf, unitStep, stringAt}
-use Rattle.json.proofs.Ahead.{forth-unit}
+use Rattle.tokens.specs.declared.Skip.the-variants.{Bad}
+use Rattle.strings.specs.declared.Unit.{Unit}
+use Rattle.strings.specs.declared.Unit.the-variants.{Code, Wide, Close, Ill}
+use Rattle.tokens.specs.Walk.{walked}
+use Rattle.strings.specs.Text.{escapeOf, nibbleOf, nibbleAt, hexAt, escapeAt, leastSecond, mostSecond, secondAt, tailAt}
+use Rattle.strings.specs.Text.{longAt, wideAt, unitAt, stepOf, unitStep, stringAt}
+use Rattle.strings.proofs.Ahead.{forth-unit}
 use Rattle.grammar.specs.Rules.{these, within, join, left, right, *_, none, more}
 use Rattle.grammar.specs.Abnf
 use Rattle.grammar.proofs.Rest.{Rest, Passes, if-true, if-false, if-is, if-not, rest-front, rest-past, rest-next}

@@ -7,12 +7,12 @@ use Prim.Native.Nat.{ℕ}
 use native.Mathlib.Omega.{arith}
 use borrow.Author.Tests.{not-true}
 use Rattle.laws.specs.Pick.{pick, either, both}
-use Rattle.json.specs.Scan.{then, thenStep, pastWhile, after, pastColon}
-use Rattle.json.specs.Walk.{onward, walk}
-use Rattle.json.specs.Number.{someDigits, pastMinus, pastSign, wholeAt, fractionAt, signedAt, exponentAt, integerAt}
-use Rattle.json.specs.Number.{numberAt}
-use Rattle.json.specs.Text.{escapeOf, nibbleOf, nibbleAt, hexAt, escapeAt, leastSecond, mostSecond, secondAt, tailAt}
-use Rattle.json.specs.Text.{longAt, wideAt, unitAt, unitStep, stringAt}
+use Rattle.tokens.specs.Scan.{then, thenStep, pastWhile, after, pastColon}
+use Rattle.tokens.specs.Walk.{onward, walk}
+use Rattle.tokens.specs.Number.{someDigits, pastMinus, pastSign, wholeAt, fractionAt, signedAt, exponentAt, integerAt}
+use Rattle.tokens.specs.Number.{numberAt}
+use Rattle.strings.specs.Text.{escapeOf, nibbleOf, nibbleAt, hexAt, escapeAt, leastSecond, mostSecond, secondAt, tailAt}
+use Rattle.strings.specs.Text.{longAt, wideAt, unitAt, unitStep, stringAt}
 use Rattle.json.specs.Value.{literalAt, plainAt, itemStep, memberStep, arrayOf, objectOf, valueBy, valueAt, endsAt}
 use Rattle.json.specs.Value.{isText}
 use Rattle.grammar.specs.Rules.{these, join, left, right, none as nothing, absent}

@@ -8,13 +8,13 @@ use borrow.Author.Tests.{lt-leb}
 use lib.Dec.{eqb}
 use lib.ListN.{length, getD}
 use Rattle.laws.specs.Pick.{pick, either, both}
-use Rattle.json.specs.declared.Skip.{Skip}
-use Rattle.json.specs.declared.Skip.the-variants.{Past}
-use Rattle.json.specs.declared.Step.{Step}
-use Rattle.json.specs.declared.Step.the-variants.{End, Wrong}
-use Rattle.json.specs.Scan.{thenStep, blank, digit, pastWhile, after}
-use Rattle.json.specs.Walk.{walked, starts}
-use Rattle.json.proofs.Turns.{Forth, walked-end, starts-more, starts-end}
+use Rattle.tokens.specs.declared.Skip.{Skip}
+use Rattle.tokens.specs.declared.Skip.the-variants.{Past}
+use Rattle.tokens.specs.declared.Step.{Step}
+use Rattle.tokens.specs.declared.Step.the-variants.{End, Wrong}
+use Rattle.tokens.specs.Scan.{thenStep, blank, digit, pastWhile, after}
+use Rattle.tokens.specs.Walk.{walked, starts}
+use Rattle.tokens.proofs.Turns.{Forth, walked-end, starts-more, starts-end}
 use Rattle.grammar.specs.Rules.{Rule, these, _·_, join, left, right, *_, none, more, optional, absent, present}
 use Rattle.grammar.specs.Abnf
 use Rattle.grammar.specs.Parts.{furtherIn, listIn, partsIn}

@@ -5,9 +5,9 @@ use mathlib.Core.Path.{_≡_, refl, sym, _∙_, ap}
 use lib.ListN.{length}
 use mathlib.Core.List.{List, [], _++_}
 use Rattle.laws.specs.Pick.{either}
-use Rattle.json.specs.declared.Skip.{Skip}
-use Rattle.json.specs.Scan.{blank, pastWhile, after, pastColon}
-use Rattle.json.specs.Text.{stringAt}
+use Rattle.tokens.specs.declared.Skip.{Skip}
+use Rattle.tokens.specs.Scan.{blank, pastWhile, after, pastColon}
+use Rattle.strings.specs.Text.{stringAt}
 use Rattle.json.specs.Value.{itemStep, memberStep, valueAt}
 use Rattle.json.specs.Members.{membersOf, placeOf, valuePlace}
 use Rattle.json.proofs.Ahead.{forth-items, forth-members}

@@ -10,14 +10,14 @@ use lib.Dec.{T, eqb}
 use lib.ListN.{length, getD, drop, length-append, length-drop}
 use lib.Seq.{getD-drop, drop-drop, drop-append-seam}
 use Rattle.laws.specs.Pick.{pick, either}
-use Rattle.json.specs.declared.Skip.{Skip}
-use Rattle.json.specs.declared.Skip.the-variants.{Past}
-use Rattle.json.specs.declared.Step.{Step}
-use Rattle.json.specs.declared.Step.the-variants.{More, End}
-use Rattle.json.specs.Scan.{then, blank, run, pastWhile}
-use Rattle.json.specs.Walk.{walked}
-use Rattle.json.proofs.While.{while-within}
-use Rattle.json.proofs.Turns.{Forth, walked-more, walked-end}
+use Rattle.tokens.specs.declared.Skip.{Skip}
+use Rattle.tokens.specs.declared.Skip.the-variants.{Past}
+use Rattle.tokens.specs.declared.Step.{Step}
+use Rattle.tokens.specs.declared.Step.the-variants.{More, End}
+use Rattle.tokens.specs.Scan.{then, blank, run, pastWhile}
+use Rattle.tokens.specs.Walk.{walked}
+use Rattle.tokens.proofs.While.{while-within}
+use Rattle.tokens.proofs.Turns.{Forth, walked-more, walked-end}
 use Rattle.grammar.specs.Rules.{Rule, octet, these, _·_, join, _/_, left, right, *_, none, more}
 use Rattle.grammar.specs.Abnf
 

@@ -8,8 +8,8 @@ use borrow.Author.Tests.{eqb-true}
 use lib.ListN.{length, getD, take, drop, take-append-drop}
 use lib.Seq.{drop-drop, drop-length}
 use Rattle.laws.specs.Pick.{both}
-use Rattle.json.specs.declared.Skip.{Skip}
-use Rattle.json.specs.Scan.{startsWith, blank, pastWhile, after, pastColon}
+use Rattle.tokens.specs.declared.Skip.{Skip}
+use Rattle.tokens.specs.Scan.{startsWith, blank, pastWhile, after, pastColon}
 use Rattle.json.specs.Value.{literalAt, plainAt, itemStep, memberStep, arrayOf, objectOf, valueBy, valueAt, endsAt}
 use Rattle.json.specs.Value.{isText}
 use Rattle.grammar.specs.Rules.{Rule, octets, these, _·_, join, left, right, *_, none, more, optional, absent}

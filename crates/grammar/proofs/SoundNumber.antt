@@ -8,12 +8,12 @@ use borrow.Author.Tests.{eqb-true, eqb-false, leb-true}
 use lib.Dec.{eqb, leb}
 use lib.ListN.{getD, drop}
 use Rattle.laws.specs.Pick.{pick, either}
-use Rattle.json.specs.declared.Skip.{Skip}
-use Rattle.json.specs.declared.Skip.the-variants.{Past}
-use Rattle.json.specs.Scan.{blank, digit, run, pastWhile}
-use Rattle.json.specs.Number.{someDigits, pastMinus, pastSign, wholeAt, integerAt, fractionAt, signedAt, exponentAt}
-use Rattle.json.specs.Number.{numberAt}
-use Rattle.json.proofs.Stands.{Stands, stands-at}
+use Rattle.tokens.specs.declared.Skip.{Skip}
+use Rattle.tokens.specs.declared.Skip.the-variants.{Past}
+use Rattle.tokens.specs.Scan.{blank, digit, run, pastWhile}
+use Rattle.tokens.specs.Number.{someDigits, pastMinus, pastSign, wholeAt, integerAt, fractionAt, signedAt, exponentAt}
+use Rattle.tokens.specs.Number.{numberAt}
+use Rattle.tokens.proofs.Stands.{Stands, stands-at}
 use Rattle.grammar.specs.Rules.{Rule, octet, within, _·_, join, _/_, left, right, 1*_, optional, absent, present}
 use Rattle.grammar.specs.Abnf
 use Rattle.grammar.proofs.Spans.{of-pick-cases, both-parts, Spans, Sound, past, bad, octet-is, spans-nothing}

@@ -8,10 +8,10 @@ use borrow.Author.Tests.{eqb-true, eqb-false, leb-true, ltb-true, ltb-false}
 use lib.Dec.{eqb, ltb}
 use lib.ListN.{length, getD}
 use Rattle.laws.specs.Pick.{pick}
-use Rattle.json.specs.declared.Unit.{Unit}
-use Rattle.json.specs.declared.Unit.the-variants.{Code, Wide, Ill}
-use Rattle.json.specs.Text.{escapeOf, nibbleOf, nibbleAt, hexAt, escapeAt, leastSecond, mostSecond, secondAt, tailAt}
-use Rattle.json.specs.Text.{longAt, wideAt, unitAt, stepOf, unitStep, stringAt}
+use Rattle.strings.specs.declared.Unit.{Unit}
+use Rattle.strings.specs.declared.Unit.the-variants.{Code, Wide, Ill}
+use Rattle.strings.specs.Text.{escapeOf, nibbleOf, nibbleAt, hexAt, escapeAt, leastSecond, mostSecond, secondAt, tailAt}
+use Rattle.strings.specs.Text.{longAt, wideAt, unitAt, stepOf, unitStep, stringAt}
 use Rattle.grammar.specs.Rules.{Rule, octet, range, within, _·_, join, _/_, left, right, *_, none, more}
 use Rattle.grammar.specs.Abnf
 use Rattle.grammar.proofs.Spans.{of-pick-cases, both-parts, Spans, Sound, bad, Turns, further, ending, wrong}

@@ -9,13 +9,13 @@ use native.Mathlib.Omega.{arith}
 use lib.ListN.{getD, take, drop, take-append-drop}
 use lib.Seq.{drop-cons, drop-drop}
 use Rattle.laws.specs.Pick.{pick, both}
-use Rattle.json.specs.declared.Skip.{Skip}
-use Rattle.json.specs.declared.Skip.the-variants.{Past, Bad}
-use Rattle.json.specs.declared.Step.{Step}
-use Rattle.json.specs.declared.Step.the-variants.{More, End, Wrong}
-use Rattle.json.specs.Scan.{then, thenStep, run, pastWhile}
-use Rattle.json.specs.Walk.{onward, walk}
-use Rattle.json.proofs.Picks.{over}
+use Rattle.tokens.specs.declared.Skip.{Skip}
+use Rattle.tokens.specs.declared.Skip.the-variants.{Past, Bad}
+use Rattle.tokens.specs.declared.Step.{Step}
+use Rattle.tokens.specs.declared.Step.the-variants.{More, End, Wrong}
+use Rattle.tokens.specs.Scan.{then, thenStep, run, pastWhile}
+use Rattle.tokens.specs.Walk.{onward, walk}
+use Rattle.tokens.proofs.Picks.{over}
 use Rattle.grammar.specs.Rules.{Rule, octet, these, range, within, _·_, join, *_, none, more}
 use Rattle.grammar.specs.Abnf
 

@@ -6,7 +6,7 @@ use mathlib.Core.List.{List}
 use Rattle.laws.proofs.First.{quiet-of}
 use Rattle.refusal.specs.Refusal.{refusals}
 use Rattle.refusal.specs.declared.Refusal.{Refusal}
-use Rattle.signed.proofs.Verdicts.{Until, until-more, until-last, until-check}
+use Rattle.signatures.proofs.Verdicts.{Until, until-more, until-last, until-check}
 use Rattle.verdict.specs.Check.{answersCode}
 use Rattle.walk.specs.State.{requestNow}
 use Rattle.walk.specs.Taking.{clockWrong, responseCodeNow, takeCode}

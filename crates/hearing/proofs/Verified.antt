@@ -8,10 +8,10 @@ use native.Mathlib.Omega.{arith}
 use Rattle.laws.specs.Bytes.{Bytes}
 use Rattle.laws.specs.First.{firstOf, whenOf}
 use Rattle.refusal.specs.declared.Refusal.{Refusal}
-use Rattle.signed.specs.Answers.{delegated, responded}
-use Rattle.signed.specs.Meaning.{PassesSigned}
-use Rattle.signed.proofs.Passing.{passes-alone}
-use Rattle.signed.proofs.Verdicts.{until-check}
+use Rattle.signatures.specs.Answers.{delegated, responded}
+use Rattle.signatures.specs.Meaning.{PassesSigned}
+use Rattle.signatures.proofs.Passing.{passes-alone}
+use Rattle.signatures.proofs.Verdicts.{until-check}
 use Rattle.verdict.specs.Check.{answersCode}
 use Rattle.verdict.proofs.Exactly.{code-exactly}
 use Rattle.walk.specs.State.{keyOf, requestNow}

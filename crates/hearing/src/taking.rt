@@ -4,7 +4,7 @@ ghost use lib.ListN.{length};
 ghost use Rattle.walk.specs.State.{Going};
 ghost use Rattle.walk.specs.Taking.{takeCode, Takes, saidNumber, walkAfter, pileAfter};
 ghost use Rattle.hearing.specs.Heard.{ownHeard};
-use signed::answers;
+use signatures::answers;
 use walk::Heard;
 use walk::Moved;
 use walk::Said;

@@ -12,9 +12,9 @@ use Rattle.laws.specs.Numbers.{leBytes}
 use Rattle.laws.specs.Pasted.{pasted, fronted}
 use Rattle.laws.proofs.Pasted.{pasted-two, drop-replicate}
 use Rattle.laws.proofs.Numbers.{length-leBytes}
-use Rattle.json.specs.declared.Skip.{Skip}
-use Rattle.json.specs.declared.Skip.the-variants.{Past, Bad}
-use Rattle.json.specs.Text.{contentAt}
+use Rattle.tokens.specs.declared.Skip.{Skip}
+use Rattle.tokens.specs.declared.Skip.the-variants.{Past, Bad}
+use Rattle.strings.specs.Text.{contentAt}
 use Rattle.base64.specs.Decode.{Decoded, bytes, none, decodeOf}
 use Rattle.quoted.specs.Sized.{plain}
 use Rattle.intake.specs.Entry.{Entry, textPlace, memberOf, held, entryAt, randName, keyName, requestName}

@@ -7,15 +7,15 @@ use native.Mathlib.Omega.{arith}
 use lib.ListN.{length, getD}
 use borrow.Author.Tests.{eqb-true, ne-eqb, not-true, not-false}
 use Rattle.laws.specs.Pick.{pick, either, both}
-use Rattle.json.specs.declared.Step.{Step}
-use Rattle.json.specs.declared.Step.the-variants.{More, End, Wrong}
-use Rattle.json.specs.Scan.{pastWhile, blank}
-use Rattle.json.specs.Walk.{starts}
+use Rattle.tokens.specs.declared.Step.{Step}
+use Rattle.tokens.specs.declared.Step.the-variants.{More, End, Wrong}
+use Rattle.tokens.specs.Scan.{pastWhile, blank}
+use Rattle.tokens.specs.Walk.{starts}
 use Rattle.json.specs.Value.{valueAt, itemStep}
-use Rattle.json.proofs.Picks.{inside}
-use Rattle.json.proofs.Turns.{Forth, turn-falls, starts-more, starts-end, starts-wrong}
+use Rattle.tokens.proofs.Picks.{inside}
+use Rattle.tokens.proofs.Turns.{Forth, turn-falls, starts-more, starts-end, starts-wrong}
 use Rattle.json.proofs.Ahead.{forth-items}
-use Rattle.json.proofs.While.{while-ahead}
+use Rattle.tokens.proofs.While.{while-ahead}
 use Rattle.intake.specs.Entry.{hasAll, entryAt, elementsOf, allOf, entriesAt}
 use Rattle.intake.specs.Read.{isBig, anyBig}
 

@@ -5,12 +5,12 @@ use mathlib.Core.List.{List, [], _∷_, _++_}
 use lib.Dec.{T, eqb}
 use Rattle.laws.specs.Ascii.{ascii}
 use Rattle.laws.specs.Pick.{pick, either, both}
-use Rattle.json.specs.Scan.{then, thenStep, pastWhile, after, pastColon}
-use Rattle.json.specs.Walk.{onward, walk, moreOf, starts}
-use Rattle.json.specs.Number.{someDigits, pastMinus, pastSign, wholeAt, fractionAt, signedAt, exponentAt, integerAt}
-use Rattle.json.specs.Number.{numberAt}
-use Rattle.json.specs.Text.{escapeOf, nibbleOf, nibbleAt, hexAt, escapeAt, leastSecond, mostSecond, secondAt, tailAt}
-use Rattle.json.specs.Text.{longAt, wideAt, unitAt, unitStep, stringAt, codesAt, contentAt, sameList}
+use Rattle.tokens.specs.Scan.{then, thenStep, pastWhile, after, pastColon}
+use Rattle.tokens.specs.Walk.{onward, walk, moreOf, starts}
+use Rattle.tokens.specs.Number.{someDigits, pastMinus, pastSign, wholeAt, fractionAt, signedAt, exponentAt, integerAt}
+use Rattle.tokens.specs.Number.{numberAt}
+use Rattle.strings.specs.Text.{escapeOf, nibbleOf, nibbleAt, hexAt, escapeAt, leastSecond, mostSecond, secondAt, tailAt}
+use Rattle.strings.specs.Text.{longAt, wideAt, unitAt, unitStep, stringAt, codesAt, contentAt, sameList}
 use Rattle.json.specs.Value.{literalAt, plainAt, itemStep, memberStep, arrayOf, objectOf, valueBy, valueAt, endsAt}
 use Rattle.json.specs.Value.{isText}
 use Rattle.json.specs.Members.{membersOf, named, placeOf, valuePlace, answerOf, countOf, tally, foundOf}

@@ -12,15 +12,15 @@ use Rattle.laws.specs.Pasted.{pasted, fronted}
 use Rattle.laws.specs.Written.{written}
 use Rattle.laws.proofs.Picks.{hit, miss, hit-eq, miss-eq}
 use Rattle.laws.proofs.Filled.{Filled, filled-first, filled-next, filled-fit, filled-last}
-use Rattle.json.specs.declared.Skip.{Skip}
-use Rattle.json.specs.declared.Skip.the-variants.{Past, Bad}
-use Rattle.json.specs.declared.Step.{Step}
-use Rattle.json.specs.declared.Step.the-variants.{More, End, Wrong}
+use Rattle.tokens.specs.declared.Skip.{Skip}
+use Rattle.tokens.specs.declared.Skip.the-variants.{Past, Bad}
+use Rattle.tokens.specs.declared.Step.{Step}
+use Rattle.tokens.specs.declared.Step.the-variants.{More, End, Wrong}
 use Rattle.json.specs.declared.Found.{Found}
 use Rattle.json.specs.declared.Found.the-variants.{At, Nothing, Twice}
-use Rattle.json.specs.Scan.{pastWhile, blank}
+use Rattle.tokens.specs.Scan.{pastWhile, blank}
 use Rattle.json.specs.Value.{valueAt, itemStep, isText}
-use Rattle.json.proofs.Picks.{inside}
+use Rattle.tokens.proofs.Picks.{inside}
 use Rattle.base64.specs.Decode.{Decoded, bytes, none}
 use Rattle.intake.specs.declared.Read.the-variants.{Records, NoReport, Amount, Short}
 use Rattle.intake.specs.Entry.{memberOf, held, is32, randGood, hasAll, entryAt, elementsOf, allOf, entriesAt}

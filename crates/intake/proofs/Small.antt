@@ -8,11 +8,11 @@ use lib.Dec.{eqb, ltb}
 use lib.ListN.{length, getD}
 use borrow.Author.Tests.{eq-eqb, ne-eqb, lt-ltb, le-ltb, not-true, not-false}
 use Rattle.laws.specs.Pick.{pick, either, both}
-use Rattle.json.specs.declared.Skip.{Skip}
-use Rattle.json.specs.declared.Skip.the-variants.{Past, Bad}
+use Rattle.tokens.specs.declared.Skip.{Skip}
+use Rattle.tokens.specs.declared.Skip.the-variants.{Past, Bad}
 use Rattle.json.specs.declared.Found.{Found}
 use Rattle.json.specs.declared.Found.the-variants.{At, Nothing, Twice}
-use Rattle.json.specs.Text.{contentAt}
+use Rattle.strings.specs.Text.{contentAt}
 use Rattle.base64.specs.Decode.{Decoded, bytes, none, decodeOf}
 use Rattle.quoted.specs.declared.Size.{Size}
 use Rattle.quoted.specs.declared.Size.the-variants.{Of}

@@ -9,13 +9,13 @@ use lib.Dec.{eqb}
 use lib.ListN.{length, getD, replicate}
 use Rattle.laws.specs.Ascii.{ascii}
 use Rattle.laws.specs.Pick.{pick, either, both}
-use Rattle.json.specs.declared.Skip.{Skip}
-use Rattle.json.specs.declared.Skip.the-variants.{Past, Bad}
+use Rattle.tokens.specs.declared.Skip.{Skip}
+use Rattle.tokens.specs.declared.Skip.the-variants.{Past, Bad}
 use Rattle.json.specs.declared.Found.{Found}
 use Rattle.json.specs.declared.Found.the-variants.{At, Nothing, Twice}
-use Rattle.json.specs.Scan.{pastWhile, blank}
-use Rattle.json.specs.Walk.{starts}
-use Rattle.json.specs.Text.{contentAt}
+use Rattle.tokens.specs.Scan.{pastWhile, blank}
+use Rattle.tokens.specs.Walk.{starts}
+use Rattle.strings.specs.Text.{contentAt}
 use Rattle.json.specs.Value.{valueAt, itemStep, isText}
 use Rattle.json.specs.Members.{foundOf}
 use Rattle.base64.specs.Decode.{Decoded, bytes, none, decodeOf}

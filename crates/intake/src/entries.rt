@@ -8,7 +8,7 @@ ghost use Rattle.intake.specs.Read.{isBig};
 use super::members::bytes_of;
 use super::members::is_32;
 use super::members::is_base64;
-use json::byte;
+use tokens::byte;
 
 // The first entry's rand is not looked at; any other is 32 bytes.
 fn rand_good(s: &[u8], at: usize, first: bool) -> bool

@@ -9,13 +9,13 @@ ghost use Rattle.intake.specs.Read.{anyBig};
 use super::entries::has_all;
 use super::entries::is_big;
 use json::Found;
-use json::Skip;
-use json::Step;
-use json::blanks;
-use json::byte;
 use json::find;
 use json::is_text;
 use json::item;
+use tokens::Skip;
+use tokens::Step;
+use tokens::blanks;
+use tokens::byte;
 
 // The list of response objects of the object at a place.
 fn list_in(s: &[u8], root: usize) -> Skip

@@ -5,11 +5,11 @@ ghost use Prim.Native.Nat.{_+_, _<_};
 ghost use lib.ListN.{length};
 ghost use Rattle.intake.specs.Entry.{textPlace, memberOf, is64, sizeIn, held, is32};
 use json::Found;
-use json::Skip;
-use json::byte;
 use json::find;
 use quoted::Size;
 use quoted::size_of;
+use tokens::Skip;
+use tokens::byte;
 
 // The characters of the string that a member of a response object holds.
 pub fn text_place(s: &[u8], at: usize, w: &[u8]) -> Skip

@@ -14,12 +14,12 @@ use super::lists::any_big;
 use super::lists::count;
 use super::lists::list_place;
 use super::records::put_record;
-use json::Skip;
-use json::Step;
-use json::blanks;
-use json::byte;
 use json::item;
 use pile::RECORD;
+use tokens::Skip;
+use tokens::Step;
+use tokens::blanks;
+use tokens::byte;
 
 // The records of all.
 fn put_all(s: &[u8], v: usize, out: &mut [u8])

@@ -11,12 +11,12 @@ ghost use Rattle.laws.specs.Numbers.{leBytes};
 ghost use Rattle.pile.specs.Recording.{padded};
 use super::members::bytes_of;
 use super::members::text_place;
-use json::Skip;
 use octets::clear;
 use octets::le32_bytes;
 use octets::put;
 use octets::zero;
 use quoted::decode;
+use tokens::Skip;
 
 // The bytes that a member stands for, and zeros past them.
 fn fill_member(s: &[u8], k: usize, w: &[u8], out: &mut [u8])

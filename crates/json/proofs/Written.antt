@@ -8,20 +8,22 @@ use native.Mathlib.Omega.{arith}
 use lib.Dec.{eqb}
 use lib.ListN.{length, getD}
 use Rattle.laws.specs.Pick.{pick, either}
-use Rattle.json.specs.declared.Skip.{Skip}
-use Rattle.json.specs.declared.Skip.the-variants.{Past, Bad}
-use Rattle.json.specs.declared.Step.the-variants.{More, End, Wrong}
+use Rattle.tokens.specs.declared.Skip.{Skip}
+use Rattle.tokens.specs.declared.Skip.the-variants.{Past, Bad}
+use Rattle.tokens.specs.declared.Step.the-variants.{More, End, Wrong}
 use Rattle.json.specs.declared.Found.{Found}
-use Rattle.json.specs.Scan.{then, after, pastColon}
-use Rattle.json.specs.Walk.{starts}
-use Rattle.json.specs.Text.{stringAt, contentAt, sameList}
+use Rattle.tokens.specs.Scan.{then, after, pastColon}
+use Rattle.tokens.specs.Walk.{starts}
+use Rattle.strings.specs.Text.{stringAt, contentAt, sameList}
 use Rattle.json.specs.Value.{valueAt, memberStep}
 use Rattle.json.specs.Members.{named, placeOf, valuePlace, answerOf, countOf, tally}
-use Rattle.json.proofs.Turns.{starts-more, starts-end}
+use Rattle.tokens.proofs.Turns.{starts-more, starts-end}
 use Rattle.json.proofs.Ahead.{forth-members}
 use Rattle.json.proofs.Finds.{tally-more}
-use Rattle.json.proofs.Stands.{Stands, stands-right, stands-next, stands-at, Each, string-reads, string-content}
-use Rattle.json.proofs.Stands.{value-string, colon-reads, close-reads, comma-reads, member-reads}
+use Rattle.tokens.proofs.Stands.{Stands, stands-right, stands-next, stands-at}
+use Rattle.strings.proofs.Plain.{Each, string-reads, string-content}
+use Rattle.json.proofs.Stands.{value-string, member-reads}
+use Rattle.tokens.proofs.Stands.{colon-reads, close-reads, comma-reads}
 
 pub record Member : Type 0 where
   pub name : List ℕ

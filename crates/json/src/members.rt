@@ -5,14 +5,14 @@ ghost use lib.ListN.{length};
 ghost use Rattle.json.specs.Members.{named, valuePlace, answerOf, countOf, foundOf};
 ghost use Rattle.laws.specs.Pick.{pick};
 use super::Found;
-use super::Skip;
-use super::Step;
-use super::scan::blanks;
-use super::scan::byte;
-use super::scan::colon;
-use super::strings::holds;
-use super::strings::string;
 use super::values::member;
+use strings::holds;
+use strings::string;
+use tokens::Skip;
+use tokens::Step;
+use tokens::blanks;
+use tokens::byte;
+use tokens::colon;
 
 fn is_named(s: &[u8], k: usize, w: &[u8]) -> bool
     ensures { λ r. ⌜ r ≡ named (now (s .entry)) (now (w .entry)) k ⌝ }

@@ -2,16 +2,16 @@
 ghost use mathlib.Core.Path.{_≡_};
 ghost use Prim.Native.Nat.{_+_, _≤_, _<_};
 ghost use lib.ListN.{length};
-ghost use Rattle.json.specs.Scan.{startsWith};
+ghost use Rattle.tokens.specs.Scan.{startsWith};
 ghost use Rattle.json.specs.Value.{literalAt, plainAt, valueAt, arrayAt, objectAt, itemStep, memberStep, isText};
-use super::Skip;
-use super::Step;
-use super::numbers::number;
-use super::scan::after_item;
-use super::scan::blanks;
-use super::scan::byte;
-use super::scan::colon;
-use super::strings::string;
+use strings::string;
+use tokens::Skip;
+use tokens::Step;
+use tokens::after_item;
+use tokens::blanks;
+use tokens::byte;
+use tokens::colon;
+use tokens::number;
 
 // The bytes at the front are those of the word.
 fn starts_with(s: &[u8], w: &[u8]) -> bool

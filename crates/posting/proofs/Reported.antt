@@ -9,7 +9,7 @@ use borrow.Author.Tests.{eq-eqb, eqb-true}
 use lib.Dec.{eqb}
 use lib.ListN.{length, getD}
 use Rattle.laws.specs.Pick.{pick, either, both}
-use Rattle.json.specs.declared.Skip.the-variants.{Past, Bad}
+use Rattle.tokens.specs.declared.Skip.the-variants.{Past, Bad}
 use Rattle.json.specs.declared.Found.{Found}
 use Rattle.json.specs.declared.Found.the-variants.{At, Nothing, Twice}
 use Rattle.json.specs.Value.{isText}

@@ -8,8 +8,8 @@ use mathlib.Core.List.{List, [], _∷_, _++_}
 use lib.ListN.{length, getD, replicate}
 use Rattle.json.specs.declared.Found.the-variants.{At}
 use Rattle.json.specs.Members.{named, valuePlace, foundOf}
-use Rattle.json.specs.Scan.{pastWhile, blank}
-use Rattle.json.specs.Text.{contentAt}
+use Rattle.tokens.specs.Scan.{pastWhile, blank}
+use Rattle.strings.specs.Text.{contentAt}
 use Rattle.base64.specs.Decode.{bytes, decodeOf}
 use Rattle.intake.specs.Entry.{Entry, randName, keyName, requestName, responseName, responsesName, elementsOf}
 use Rattle.grammar.specs.Abnf.{JSON-text}

@@ -9,9 +9,9 @@ use lib.Dec.{T, eqb}
 use lib.ListN.{length, replicate, length-replicate}
 use Rattle.laws.specs.Bytes.{Bytes}
 use Rattle.laws.specs.Pick.{pick, either}
-use Rattle.json.specs.declared.Skip.{Skip}
-use Rattle.json.specs.declared.Skip.the-variants.{Past, Bad}
-use Rattle.json.specs.Text.{contentAt}
+use Rattle.tokens.specs.declared.Skip.{Skip}
+use Rattle.tokens.specs.declared.Skip.the-variants.{Past, Bad}
+use Rattle.strings.specs.Text.{contentAt}
 use Rattle.base64.specs.declared.Group.{Group}
 use Rattle.base64.specs.declared.Group.the-variants.{Three, Two, One}
 use Rattle.base64.specs.declared.Group.the-variants.{Bad as BadGroup}

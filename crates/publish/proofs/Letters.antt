@@ -8,7 +8,7 @@ use lib.Dec.{T, T-not, eqb, leb, ltb, leb→le, ltb→lt, eqb-refl}
 use lib.ListN.{getD}
 use Rattle.laws.specs.Bytes.{Bytes}
 use Rattle.digits.proofs.Table.{at, both, both-left, both-right}
-use Rattle.json.proofs.Stands.{Plain, Each, none, one}
+use Rattle.strings.proofs.Plain.{Plain, Each, none, one}
 use Rattle.intake.specs.Entry.{randName, keyName, requestName, responseName, responsesName}
 use Rattle.base64.specs.Alphabet.{letterOf}
 use Rattle.base64.specs.Encode.{encodeOf}

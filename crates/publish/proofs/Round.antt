@@ -9,19 +9,22 @@ use borrow.Author.Tests.{eq-eqb}
 use lib.ListN.{length, drop, replicate, length-drop}
 use lib.Seq.{drop-drop, drop-append-seam}
 use Rattle.laws.specs.Pick.{pick, either, both}
-use Rattle.json.specs.declared.Skip.{Skip}
-use Rattle.json.specs.declared.Skip.the-variants.{Past}
-use Rattle.json.specs.declared.Step.the-variants.{End}
+use Rattle.tokens.specs.declared.Skip.{Skip}
+use Rattle.tokens.specs.declared.Skip.the-variants.{Past}
+use Rattle.tokens.specs.declared.Step.the-variants.{End}
 use Rattle.json.specs.declared.Found.the-variants.{At}
-use Rattle.json.specs.Scan.{then, thenStep, blank, pastWhile, after}
-use Rattle.json.specs.Walk.{walked}
-use Rattle.json.specs.Text.{sameList}
+use Rattle.tokens.specs.Scan.{then, thenStep, blank, pastWhile, after}
+use Rattle.tokens.specs.Walk.{walked}
+use Rattle.strings.specs.Text.{sameList}
 use Rattle.json.specs.Value.{valueAt, arrayAt, objectAt, arrayOf, objectOf, itemStep, memberStep, endsAt, isText}
 use Rattle.json.specs.Members.{membersOf, named, placeOf, valuePlace, answerOf, countOf, tally, foundOf}
-use Rattle.json.proofs.Turns.{walked-more, walked-end, starts-end}
+use Rattle.tokens.proofs.Turns.{walked-more, walked-end, starts-end}
 use Rattle.json.proofs.Ahead.{forth-items, forth-members, value-is}
-use Rattle.json.proofs.Stands.{Stands, stands-at, Each, string-reads, string-content, value-string, no-blank}
-use Rattle.json.proofs.Stands.{colon-reads, close-reads, comma-reads, member-reads}
+use Rattle.tokens.proofs.Stands.{Stands, stands-at, no-blank}
+use Rattle.strings.proofs.Plain.{Each, string-reads, string-content}
+use Rattle.json.proofs.Stands.{value-string}
+use Rattle.tokens.proofs.Stands.{colon-reads, close-reads, comma-reads}
+use Rattle.json.proofs.Stands.{member-reads}
 use Rattle.json.proofs.Written.{Member, membersText, Clean, last, more, tallyText, find-written}
 use Rattle.base64.specs.Encode.{encodeOf}
 use Rattle.base64.specs.Decode.{bytes, decodeOf}

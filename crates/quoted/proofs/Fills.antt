@@ -7,7 +7,7 @@ use native.Mathlib.Omega.{arith}
 use lib.ListN.{length, drop}
 use Rattle.laws.specs.Pasted.{pasted, fronted}
 use Rattle.laws.proofs.Filled.{Filled, filled-first, filled-next, filled-fit, filled-last}
-use Rattle.json.specs.Text.{contentAt}
+use Rattle.strings.specs.Text.{contentAt}
 use Rattle.base64.specs.declared.Group.{Group}
 use Rattle.base64.specs.declared.Group.the-variants.{Three, Two, One}
 use Rattle.base64.specs.declared.Group.the-variants.{Bad as BadGroup}

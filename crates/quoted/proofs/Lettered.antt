@@ -7,10 +7,10 @@ use native.Mathlib.Omega.{arith}
 use lib.Dec.{eqb, ltb}
 use lib.ListN.{length, getD}
 use borrow.Author.Tests.{ne-eqb, lt-ltb, le-ltb, ltb-true, ltb-false}
-use Rattle.json.specs.Scan.{Passes}
-use Rattle.json.specs.Text.{unescaped, contentAt}
-use Rattle.json.proofs.Content.{content-code, content-falls}
-use Rattle.json.proofs.Runs.{unit-unescaped}
+use Rattle.tokens.specs.Scan.{Passes}
+use Rattle.strings.specs.Text.{unescaped, contentAt}
+use Rattle.strings.proofs.Content.{content-code, content-falls}
+use Rattle.strings.proofs.Runs.{unit-unescaped}
 use Rattle.base64.specs.declared.Group.{Group}
 use Rattle.base64.specs.declared.Group.the-variants.{Three}
 use Rattle.base64.specs.Alphabet.{sextetOf, isLetter}

@@ -4,8 +4,8 @@ use mathlib.Core.Path.{_≡_}
 use mathlib.Core.Bool.{Bool, true, false}
 use mathlib.Core.List.{List, [], _∷_}
 use lib.ListN.{length}
-use Rattle.json.specs.Scan.{Passes}
-use Rattle.json.specs.Text.{contentAt}
+use Rattle.tokens.specs.Scan.{Passes}
+use Rattle.strings.specs.Text.{contentAt}
 use Rattle.base64.specs.Alphabet.{isLetter}
 use Rattle.base64.specs.declared.Group.{Group}
 use Rattle.base64.specs.Decode.{Decoded, bytes, none, groupOf, decodeOf}

@@ -3,7 +3,7 @@ ghost use mathlib.Core.Path.{_≡_};
 ghost use Prim.Native.Nat.{_+_, _≤_};
 ghost use lib.ListN.{length};
 ghost use mathlib.Core.Bool.{true};
-ghost use Rattle.json.specs.Text.{contentAt};
+ghost use Rattle.strings.specs.Text.{contentAt};
 ghost use Rattle.base64.specs.Decode.{decodeOf};
 ghost use Rattle.laws.specs.Pasted.{fronted};
 ghost use Rattle.quoted.specs.Sized.{good, plain};

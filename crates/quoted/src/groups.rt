@@ -1,18 +1,18 @@
 // The characters of a string, in groups of four.
 ghost use mathlib.Core.Path.{_≡_};
 ghost use mathlib.Core.Bool.{true};
-ghost use Rattle.json.specs.Text.{contentAt};
+ghost use Rattle.strings.specs.Text.{contentAt};
 ghost use Rattle.quoted.specs.Sized.{CharOf, QuadOf, Lettered, empty};
 use super::Letter;
 use super::Quad;
 use super::stretches::four;
-use json::Unit;
+use strings::Unit;
 
 // Whether the string ends at a place.
 pub fn at_end(s: &[u8], k: usize) -> bool
     ensures { λ r. ⌜ r ≡ empty (contentAt (now (s .entry)) k) ⌝ }
 {
-    match json::unit_of(s, k) {
+    match strings::unit_of(s, k) {
         Unit::Code(_, _) => false,
         Unit::Wide(_) => false,
         Unit::Close(_) => true,
@@ -24,7 +24,7 @@ pub fn at_end(s: &[u8], k: usize) -> bool
 fn letter_at(s: &[u8], k: usize) -> Letter
     ensures { λ r. ⌜ CharOf (now (s .entry)) k r ⌝ }
 {
-    match json::unit_of(s, k) {
+    match strings::unit_of(s, k) {
         Unit::Code(c, j) => Letter::Is(c, j),
         Unit::Wide(j) => Letter::Is(1_114_112, j),
         Unit::Close(_) => Letter::Stop,

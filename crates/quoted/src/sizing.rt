@@ -1,7 +1,7 @@
 // How many bytes a string stands for.
 ghost use mathlib.Core.Path.{_≡_};
 ghost use Prim.Native.Nat.{_+_};
-ghost use Rattle.json.specs.Text.{contentAt};
+ghost use Rattle.strings.specs.Text.{contentAt};
 ghost use Rattle.base64.specs.Decode.{decodeOf};
 ghost use Rattle.quoted.specs.Sized.{sizeOf};
 use super::Quad;

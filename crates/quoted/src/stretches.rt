@@ -4,7 +4,7 @@ ghost use mathlib.Core.Bool.{true};
 ghost use Prim.Native.Nat.{_+_, _≤_};
 ghost use lib.ListN.{length};
 ghost use Rattle.laws.specs.Pick.{pick};
-ghost use Rattle.json.specs.Scan.{Passes};
+ghost use Rattle.tokens.specs.Scan.{Passes};
 ghost use Rattle.base64.specs.Alphabet.{isLetter};
 ghost use Rattle.quoted.specs.Sized.{Lettered};
 use base64::is_letter;

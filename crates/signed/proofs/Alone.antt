@@ -17,7 +17,7 @@ use Rattle.verdict.specs.declared.Verdict.the-variants.{Valid}
 use Rattle.signed.specs.Answers.{ownAnswers}
 use Rattle.signed.specs.Meaning.{SignedRecord, IsSignedReport}
 use Rattle.signed.proofs.Own.{said-delegated, said-responded, own-good}
-use Rattle.signed.proofs.Passing.{with-answers, passes-alone}
+use Rattle.signatures.proofs.Passing.{with-answers, passes-alone}
 
 module _ (pile : List ℕ) where
   module _ (k : ℕ) where

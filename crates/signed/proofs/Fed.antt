@@ -1,37 +1,25 @@
--- Each check that needs no answers answers what the one with lent answers does, when it is given those of our own
+-- Each check of a pile that needs no answers answers what the one with lent answers does, when it is given those of our own
 -- Ed25519: of two results, one that the old operation's contract allows and one that the new one's does, for the same
--- packets, piles and buffers, both are the same, and so is what is left in the buffers.
+-- piles and buffers, both are the same, and so is what is left in the buffers.
 use mathlib.Core.Path.{_≡_, sym, _∙_}
 use denote.Ref.{now}
 use denote.Triple.Clauses.{atExit}
 use borrow.Fn.Kinds.{endedOf}
 use Rattle.report.proofs.Says.{report-once}
 use Rattle.report.proofs.Runs.{takes-once}
-use Rattle.verdict.proofs.check_response.Kinds as check-kinds
-use Rattle.verdict.proofs.check_response.Reads as check-reads
 use Rattle.pile.proofs.judge.Kinds as judge-kinds
 use Rattle.pile.proofs.judge.Reads as judge-reads
 use Rattle.report.proofs.check_report.Kinds as report-kinds
 use Rattle.report.proofs.check_report.Reads as report-reads
 use Rattle.report.proofs.cut_run.Kinds as cut-kinds
 use Rattle.report.proofs.cut_run.Reads as cut-reads
-use Rattle.signed.specs.Answers.{delegated, responded, ownAnswers}
-use Rattle.signed.proofs.checking.check_signed.Kinds as check-signed-kinds
-use Rattle.signed.proofs.checking.check_signed.Reads as check-signed-reads
+use Rattle.signed.specs.Answers.{ownAnswers}
 use Rattle.signed.proofs.judging.judge_signed.Kinds as judge-signed-kinds
 use Rattle.signed.proofs.judging.judge_signed.Reads as judge-signed-reads
 use Rattle.signed.proofs.reporting.check_signed_report.Kinds as report-signed-kinds
 use Rattle.signed.proofs.reporting.check_signed_report.Reads as report-signed-reads
 use Rattle.signed.proofs.cutting.cut_signed_run.Kinds as cut-signed-kinds
 use Rattle.signed.proofs.cutting.cut_signed_run.Reads as cut-signed-reads
-
--- `check_response` and `check_signed`
-pub check-signed-fed : (κs : _) (a : _) (x : _) (u : _) (ιs : _) (b : _) (y : _) (v : _)
-    → check-reads.Learnt κs a x (atExit (endedOf _ check-kinds.ps check-kinds.r) κs a u)
-    → check-signed-reads.Learnt ιs b y (atExit (endedOf _ check-signed-kinds.ps check-signed-kinds.r) ιs b v)
-    → now (a .0) ≡ now (b .1 .0) → now (a .1 .0) ≡ now (b .1 .1 .0)
-    → a .1 .1 .0 ≡ delegated (b .0) (now (b .1 .1 .0)) → a .1 .1 .1 .0 ≡ responded (now (b .1 .1 .0)) → x ≡ y
-check-signed-fed κs a x u ιs b y v p q e f d s = (rw (e, f, d, s) at (p .1)) ∙ sym (q .1)
 
 -- `judge` and `judge_signed`
 pub judge-signed-fed : (κs : _) (a : _) (x : _) (u : _) (ιs : _) (b : _) (y : _) (v : _)

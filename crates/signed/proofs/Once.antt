@@ -6,10 +6,6 @@ use Rattle.laws.proofs.Once.{Settles}
 use Rattle.report.proofs.Says.{report-once}
 use Rattle.report.proofs.Runs.{takes-once}
 use Rattle.writer.proofs.Answered.{leaves-once}
-use Rattle.signed.proofs.verifying.answers.Kinds as answers-kinds
-use Rattle.signed.proofs.verifying.answers.Reads as answers-reads
-use Rattle.signed.proofs.checking.check_signed.Kinds as check-signed-kinds
-use Rattle.signed.proofs.checking.check_signed.Reads as check-signed-reads
 use Rattle.signed.proofs.judging.judge_signed.Kinds as judge-signed-kinds
 use Rattle.signed.proofs.judging.judge_signed.Reads as judge-signed-reads
 use Rattle.signed.proofs.reporting.check_signed_report.Kinds as report-signed-kinds
@@ -20,12 +16,6 @@ use Rattle.signed.proofs.listing.pile_answers.Kinds as pile-answers-kin
 use Rattle.signed.proofs.listing.pile_answers.Reads as pile-answers-reads
 use Rattle.signed.proofs.listing.answer_byte.Kinds as answer-byte-kinds
 use Rattle.signed.proofs.listing.answer_byte.Reads as answer-byte-reads
-
-pub answers-once : Settles answers-kinds.ps answers-kinds.r answers-reads.Learnt
-answers-once κs a x u y v p q = (p ∙ sym q, refl)
-
-pub check-signed-once : Settles check-signed-kinds.ps check-signed-kinds.r check-signed-reads.Learnt
-check-signed-once κs a x u y v p q = (p .1 ∙ sym (q .1), refl)
 
 pub judge-signed-once : Settles judge-signed-kinds.ps judge-signed-kinds.r judge-signed-reads.Learnt
 judge-signed-once κs a x u y v p q = (p .1 ∙ sym (q .1), refl)

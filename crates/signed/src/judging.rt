@@ -5,8 +5,8 @@ ghost use lib.ListN.{length};
 ghost use Rattle.pile.specs.Pile.{keyIn, responsePacket};
 ghost use Rattle.pile.specs.Valid.{recordChecked, checkedAt, nothingAt, judgeCode, judgementOf};
 ghost use Rattle.verdict.specs.Check.{verdictNumber};
-ghost use Rattle.signed.specs.Answers.{delegated, responded, ownAnswers};
-use super::checking::check_signed;
+ghost use Rattle.signatures.specs.Answers.{delegated, responded};
+ghost use Rattle.signed.specs.Answers.{ownAnswers};
 use octets::copy32;
 use pile::Judgement;
 use pile::RECORD;
@@ -17,6 +17,7 @@ use pile::request_of;
 use pile::response_of;
 use refusal::codes;
 use refusal::refuse;
+use signatures::check_signed;
 use verdict::Checked;
 use verdict::Verdict;
 

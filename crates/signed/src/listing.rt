@@ -7,9 +7,8 @@ ghost use Rattle.pile.specs.Meaning.{WholePile};
 ghost use Rattle.pile.specs.Pile.{recordsIn, keyIn, responsePacket, lengthBad};
 ghost use Rattle.refusal.specs.Refusal.{when};
 ghost use Rattle.writer.specs.Answered.{wroteNumber, answered};
-ghost use Rattle.signed.specs.Answers.{answerByte, answersOf, ownAnswer, ownAnswers};
-use super::Verified;
-use super::verifying::answers;
+ghost use Rattle.signatures.specs.Answers.{answersOf};
+ghost use Rattle.signed.specs.Answers.{answerByte, ownAnswer, ownAnswers};
 use octets::copy32;
 use octets::le32;
 use octets::put;
@@ -20,6 +19,8 @@ use pile::response_area;
 use pile::response_of;
 use refusal::codes;
 use refusal::refuse;
+use signatures::Verified;
+use signatures::answers;
 use writer::Wrote;
 
 // Two bytes a record at the front of out, 1 for yes and 0 for no. It is refused with 15 where the pile is not 1 to 16

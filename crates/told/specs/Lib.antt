@@ -1,13 +1,8 @@
 -- What the answers of the library are at the C boundary: each struct, from the answer that it tells. Beside a refusal
--- stand zeros, but for the byte place that it carries and the place of a record; of a key, the zeros that the check
--- itself hands out.
+-- stand zeros, but for the byte place that it carries; of a key, the zeros that the check itself hands out.
 pub mod Building
 pub mod Finding
 pub mod Judging
-pub mod Piling
-pub mod Publishing
 pub mod Reading
-pub mod Signing
 pub mod Stamping
-pub mod Walking
 pub mod Writing

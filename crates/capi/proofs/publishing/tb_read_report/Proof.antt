@@ -2,7 +2,7 @@
 use mathlib.Core.Path.{ap, _∙_}
 use Rattle.intake.specs.Entry.{entriesOf}
 use Rattle.intake.specs.Read.{pileBytes}
-use Rattle.told.specs.Publishing.{tbRecords}
+use Rattle.evidence.specs.Publishing.{tbRecords}
 use Rattle.capi.proofs.ReadNumbers.{read-left}
 use borrow.Author.Needs.{needs}
 use Rattle.capi.proofs.publishing.tb_read_report.Statement.{statement}

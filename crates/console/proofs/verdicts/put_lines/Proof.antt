@@ -8,7 +8,8 @@ use Rattle.verdict.specs.declared.Verdict.{Verdict}
 use Rattle.pile.specs.declared.Judgement.{Judgement}
 use Rattle.report.specs.Report.{judged}
 use Rattle.laws.specs.Written.{Puts}
-use Rattle.console.specs.Text.{recordLine, recordLines}
+use Rattle.lines.specs.Line.{recordLine}
+use Rattle.console.specs.Text.{recordLines}
 use Rattle.laws.proofs.Written.{puts-none, puts-length, puts-more, puts-as}
 use borrow.Author.Needs.{needs}
 use Rattle.console.proofs.verdicts.put_lines.Statement.{statement}

@@ -1,6 +1,6 @@
 use borrow.Author.Needs.{needs}
 use Rattle.intake.proofs.Small.{tests}
-use Rattle.json.proofs.Picks.{inside}
+use Rattle.tokens.proofs.Picks.{inside}
 use Rattle.intake.specs.Entry.{hasAll}
 use Rattle.intake.proofs.entries.has_all.Statement.{statement}
 use Rattle.intake.proofs.entries.has_all.Tie as tie

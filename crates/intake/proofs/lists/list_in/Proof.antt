@@ -1,5 +1,5 @@
 use borrow.Author.Needs.{needs}
-use Rattle.json.proofs.Picks.{picks}
+use Rattle.tokens.proofs.Picks.{picks}
 use Rattle.intake.proofs.Small.{finds}
 use Rattle.intake.proofs.lists.list_in.Statement.{statement}
 use Rattle.intake.proofs.lists.list_in.Tie as tie

@@ -1,6 +1,6 @@
 use borrow.Author.Needs.{needs}
-use Rattle.json.proofs.Picks.{picks}
-use Rattle.json.proofs.Picks.{inside}
+use Rattle.tokens.proofs.Picks.{picks}
+use Rattle.tokens.proofs.Picks.{inside}
 use mathlib.Core.Path.{sym}
 use Rattle.intake.specs.Entry.{listPlace}
 use Rattle.intake.proofs.lists.list_place.Statement.{statement}

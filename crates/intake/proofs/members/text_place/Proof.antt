@@ -1,5 +1,5 @@
 use borrow.Author.Needs.{needs}
-use Rattle.json.proofs.Picks.{picks}
+use Rattle.tokens.proofs.Picks.{picks}
 use Rattle.intake.proofs.Small.{finds}
 use Rattle.intake.specs.Entry.{textPlace}
 use Rattle.intake.proofs.members.text_place.Statement.{statement}

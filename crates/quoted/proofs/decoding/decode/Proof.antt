@@ -1,6 +1,6 @@
 -- `quoted::decoding::decode` meets its contract: what is no base64 stands for no byte.
 use mathlib.Core.Path.{sym, _∙_}
-use Rattle.json.specs.Text.{contentAt}
+use Rattle.strings.specs.Text.{contentAt}
 use Rattle.base64.specs.Decode.{decodeOf}
 use Rattle.quoted.proofs.Fills.{decode-none, decode-good}
 use borrow.Author.Needs.{needs}

@@ -5,7 +5,7 @@ use native.Mathlib.Omega.{arith}
 use Prim.Native.Nat.{_-_}
 use lib.ListN.{length}
 use Rattle.laws.proofs.Filled.{filled-length}
-use Rattle.json.specs.Text.{contentAt}
+use Rattle.strings.specs.Text.{contentAt}
 use Rattle.base64.specs.Decode.{decodeOf}
 use Rattle.quoted.specs.Sized.{plain, Grouped}
 use Rattle.quoted.proofs.Fills.{Filling, filling-first, filling-end, filling-fewer, filling-never}

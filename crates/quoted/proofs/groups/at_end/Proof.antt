@@ -1,7 +1,7 @@
 use borrow.Author.Needs.{needs}
 use mathlib.Core.Path.{refl}
 use denote.Ref.{now}
-use Rattle.json.proofs.Content.{content-code, content-wide, content-close, content-ill}
+use Rattle.strings.proofs.Content.{content-code, content-wide, content-close, content-ill}
 use Rattle.quoted.proofs.groups.at_end.Statement.{statement}
 use Rattle.quoted.proofs.groups.at_end.Tie as tie
 

@@ -1,6 +1,6 @@
 use borrow.Author.Needs.{needs}
 use denote.Ref.{now}
-use Rattle.json.proofs.Content.{content-code, content-wide, content-close, content-ill, content-falls, wide-falls}
+use Rattle.strings.proofs.Content.{content-code, content-wide, content-close, content-ill, content-falls, wide-falls}
 use Rattle.quoted.proofs.groups.letter_at.Statement.{statement}
 use Rattle.quoted.proofs.groups.letter_at.Tie as tie
 

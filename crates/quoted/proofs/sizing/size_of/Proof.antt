@@ -4,7 +4,7 @@ use Prim.Native.Nat.{_+_, _-_, _≤_}
 use mathlib.Core.Path.{_≡_, refl, _∙_}
 use lib.ListN.{length}
 use denote.Ref.{now}
-use Rattle.json.specs.Text.{contentAt}
+use Rattle.strings.specs.Text.{contentAt}
 use Rattle.base64.specs.Decode.{decodeOf}
 use Rattle.quoted.specs.Sized.{sizeOf, Grouped}
 use Rattle.quoted.proofs.Quads.{size-three, size-two, size-two-more, size-one, size-one-more, size-bad, size-end}

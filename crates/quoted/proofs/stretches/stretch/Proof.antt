@@ -5,7 +5,7 @@ use Prim.Native.Nat.{_+_, _-_, _≤_}
 use mathlib.Core.Path.{_≡_, refl, sym, _∙_}
 use lib.ListN.{length}
 use Rattle.base64.specs.Alphabet.{isLetter}
-use Rattle.json.proofs.Counted.{Counted, counted-none, counted-next}
+use Rattle.tokens.proofs.Counted.{Counted, counted-none, counted-next}
 use Rattle.quoted.proofs.stretches.stretch.Statement.{statement}
 use Rattle.quoted.proofs.stretches.stretch.Tie as tie
 

@@ -6,7 +6,7 @@ use native.Mathlib.Omega.{arith}
 use lib.ListN.{length, getD, set, length-set}
 use Rattle.laws.proofs.Fill.{fill-next}
 use Rattle.signed.specs.Answers.{delegatedAt, respondedAt, answerByte, ownAnswer}
-use Rattle.signed.specs.declared.Verified.{Verified}
+use Rattle.signatures.specs.declared.Verified.{Verified}
 use Rattle.signed.proofs.Own.{own-delegation, own-response}
 use borrow.Author.Needs.{needs}
 use Rattle.signed.proofs.listing.answer_bytes.Statement.{statement}

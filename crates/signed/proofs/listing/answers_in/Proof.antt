@@ -4,7 +4,7 @@ use native.Mathlib.Omega.{arith}
 use lib.ListN.{length}
 use lib.Seq.{take-all}
 use Rattle.pile.specs.Pile.{responseLength, responseArea, responsePacket}
-use Rattle.signed.specs.Answers.{answersOf}
+use Rattle.signatures.specs.Answers.{answersOf}
 use borrow.Author.Needs.{needs}
 use Rattle.signed.proofs.listing.answers_in.Statement.{statement}
 use Rattle.signed.proofs.listing.answers_in.Tie as tie

@@ -1,0 +1,7 @@
+-- Laws about the definitions, which the functions' proofs cite.
+pub mod Units
+pub mod Ahead
+pub mod Content
+pub mod Runs
+pub mod Plain
+pub mod Once

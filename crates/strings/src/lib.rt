@@ -1,0 +1,20 @@
+// The strings of JSON texts (RFC 8259, section 7), read where they lie: their characters one after the other, the place
+// past a string, and whether it holds a word.
+mod escapes;
+mod letters;
+mod strings;
+mod unescaped;
+
+pub use strings::holds;
+pub use strings::string;
+pub use strings::unit_of;
+
+// What stands at a place within a string: a character, with the place past it; the closing quote; or what no string may
+// hold.
+pub enum Unit {
+    Code(u32, usize),
+    // written as bytes above 127
+    Wide(usize),
+    Close(usize),
+    Ill,
+}
