@@ -8,7 +8,9 @@
  *
  * The first of the two links the shared library, the second the archive.
  */
+#include <stdint.h>
 #include <stdio.h>
+#include <stdlib.h>
 #include <trawlbeacon.h>
 
 /* Where a record has its key, the lengths of its two packets and the packets. */
@@ -22,21 +24,56 @@ static struct tb_verdict check(const uint8_t *record) {
                            record + RESPONSE, length_at(record + RESPONSE_LENGTH));
 }
 
+/* The same bytes with twice the room, or NULL where there is no more memory. */
+static uint8_t *grow(uint8_t *bytes, size_t *room) {
+    uint8_t *more = NULL;
+    if (*room <= SIZE_MAX / 2) {
+        *room *= 2;
+        more = realloc(bytes, *room);
+    }
+    if (more == NULL) free(bytes);
+    return more;
+}
+
+/* All bytes of a file, which the caller frees, or NULL where they cannot be had. A report may be
+ * longer than those that the library writes: TB_LONGEST_REPORT is no limit to what is read. */
+static uint8_t *read_file(const char *name, size_t *length) {
+    size_t room = 1 << 16;
+    FILE *file = fopen(name, "rb");
+    uint8_t *bytes = file == NULL ? NULL : malloc(room);
+    *length = 0;
+    while (bytes != NULL) {
+        *length += fread(bytes + *length, 1, room - *length, file);
+        if (*length < room) break;
+        bytes = grow(bytes, &room);
+    }
+    if (bytes != NULL && ferror(file)) {
+        free(bytes);
+        bytes = NULL;
+    }
+    if (file != NULL) fclose(file);
+    return bytes;
+}
+
 static int refused(uint32_t code) {
     printf("refused with code %u: %s\n", (unsigned)code, tb_code_text(code));
     return 1;
 }
 
 int main(int argc, char **argv) {
-    static uint8_t text[TB_LONGEST_REPORT + 1], pile[TB_MOST_RECORDS * TB_RECORD_LENGTH];
-    FILE *file = argc == 2 ? fopen(argv[1], "rb") : NULL;
-    if (file == NULL) {
+    static uint8_t pile[TB_MOST_RECORDS * TB_RECORD_LENGTH];
+    if (argc != 2) {
         fprintf(stderr, "usage: first REPORT\n");
         return 2;
     }
-    size_t length = fread(text, 1, sizeof text, file);
-    fclose(file);
+    size_t length;
+    uint8_t *text = read_file(argv[1], &length);
+    if (text == NULL) {
+        fprintf(stderr, "first: '%s' cannot be read\n", argv[1]);
+        return 2;
+    }
     struct tb_records read = tb_read_report(text, length, pile, sizeof pile);
+    free(text);
     if (read.code != TB_PASSED) return refused(read.code);
     struct tb_verdict verdict = check(pile);
     if (verdict.code != TB_PASSED) return refused(verdict.code);
