@@ -73,6 +73,8 @@ fn no_bytes_do_harm() {
     runs.sort_by_key(|run| run.name);
     let calls: usize = runs.iter().map(|run| 2 * run.cases).sum();
     println!("{calls} calls of {} exports", runs.len());
+    // A longer run than the usual one has as many among its own.
+    support::counted(calls.min(any_run::usual_calls()), "calls of the exports on any bytes");
     if plan.seed != KEPT_SEED {
         println!("the digests of this seed are not kept");
         return;

@@ -13,7 +13,7 @@ use independent::{packet, response, write};
 use support::packets::number;
 use support::pairs::Question;
 use support::tally::Tally;
-use support::Xorshift;
+use support::{counted, Xorshift};
 use trawlbeacon::{Checked, Placed, Rooted, Window, MOST_LEAVES, MOST_ROWS_LENGTH, REQUEST_LENGTH};
 
 const SENT: &str = "as sent";
@@ -262,4 +262,5 @@ fn responses_of_a_draft_19_server_are_taken() {
     let full: usize = sizes().filter(|count| count.is_power_of_two()).sum();
     seen.tally.at_least(leaves - 1 + leaves - full, DRAFT_13, [10]);
     seen.tally.at_least(1 + full, DRAFT_13, [0]);
+    counted(seen.tally.answers(), "responses to batches, right and changed");
 }

@@ -13,7 +13,7 @@ use support::damage::{self, set_word};
 use support::packets::{number, radius, versions_near, Kind, Level, ResponseFields};
 use support::pairs::{Pair, Question, RULES};
 use support::tally::Tally;
-use support::{hex, Xorshift};
+use support::{counted, hex, Xorshift};
 use trawlbeacon::Checked;
 
 const CHECKS: &str = "checks";
@@ -388,6 +388,7 @@ fn both_sides_check_alike() {
     seen.depths.at_least(50, VALID, 0..=DEEPEST as u32);
     assert!(low >= 100 && high >= 100, "too few windows were cut");
     assert!(unlisted >= 1_000 && talked_down >= 1_000, "too few versions were wrong");
+    counted(pairs, "requests with their responses");
 }
 
 /// Fields of small and of large numbers alike, so that the ends are not all that is looked at.

@@ -6,11 +6,13 @@ mod support;
 use independent::appendix::{self, Entry};
 use independent::ed25519::Ed25519;
 use support::signed::{self, Case, Maker, DAMAGES};
-use support::{unhex, vectors, Xorshift};
+use support::{counted, unhex, vectors, Xorshift};
 use trawlbeacon::{PacketRefusal, LONGEST_TEXT};
 
 /// How many signatures are made, each verified as it is and damaged in one way.
 const SIGNATURES: usize = 20_000;
+
+const COUNTED: &str = "signatures, right, damaged and at borders";
 
 /// The entries of RFC 8032, section 7.1: key, text and signature.
 fn rfc_8032() -> Vec<(Vec<u8>, Vec<u8>, Vec<u8>)> {
@@ -126,6 +128,7 @@ fn signatures_as_they_are_and_damaged_in_every_way() {
         DAMAGES.len(),
         passed.iter().sum::<usize>(),
     );
+    counted(2 * SIGNATURES, COUNTED);
 }
 
 #[test]
@@ -136,6 +139,7 @@ fn what_stands_at_a_border() {
     let passed = cases.iter().filter(|case| answer(&ed25519, &mut random, case)).count();
     assert!(passed > 20, "{passed}");
     println!("{} signatures at borders, of which {passed} verify, compared", cases.len());
+    counted(cases.len(), COUNTED);
 }
 
 /// R and the key are 64 bytes before the text, so that its blocks end elsewhere than its bytes.
@@ -153,6 +157,7 @@ fn texts_around_the_borders_of_blocks() {
         compared += 2;
     }
     println!("{compared} texts of 0 to 330 bytes and some longer, compared");
+    counted(compared, COUNTED);
 }
 
 /// Every length of a key and of a signature but the right ones is a no.

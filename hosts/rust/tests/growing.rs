@@ -9,11 +9,13 @@ use independent::making::Made;
 use independent::pile::{MOST_RECORDS, RECORD};
 use independent::{pairs, report};
 use support::piles::{self, Truth, Wish, BROKEN};
-use support::Xorshift;
+use support::{counted, Xorshift};
 
 /// How many reports are grown, and how many piles to which any records are added.
 const REPORTS: usize = 20_000;
 const PILES: usize = 10_000;
+
+const COUNTED: &str = "piles that grow record by record";
 
 /// What is said of a pile at one step.
 #[derive(Clone, Copy)]
@@ -143,6 +145,7 @@ fn a_report_that_grows_is_accepted() {
     );
     assert!(seen.steps >= 80_000 && seen.closer >= 4_000 && seen.shorter >= 4_000);
     assert_eq!(seen.lost, 0);
+    counted(seen.piles, COUNTED);
 }
 
 /// Records that are bad or not linked are added too, and a first rand is not always zero, so that
@@ -172,4 +175,5 @@ fn nobody_gets_off_by_adding_a_record() {
         seen.piles, seen.steps, seen.shorter, seen.lost
     );
     assert!(seen.steps >= 40_000 && seen.shorter >= 500 && seen.lost >= 500);
+    counted(seen.piles, COUNTED);
 }

@@ -4,7 +4,12 @@
 mod support;
 
 use independent::hash;
-use support::Xorshift;
+use support::{counted, Xorshift};
+
+const PAIRS: usize = 5_000;
+const KEYS: usize = 5_000;
+
+const COUNTED: &str = "hashes";
 
 /// Lengths around every place of the padding within three blocks, then those of real packets, and
 /// some far beyond any packet.
@@ -23,6 +28,7 @@ fn leaves() {
         compared += 1;
     }
     println!("leaves: {compared} packets, ours compared with independent");
+    counted(compared, COUNTED);
 }
 
 #[test]
@@ -39,12 +45,13 @@ fn links() {
         compared += 1;
     }
     println!("links: {compared} responses, ours compared with independent");
+    counted(compared, COUNTED);
 }
 
 #[test]
 fn parents() {
     let mut random = Xorshift::new(0x5eed_0013);
-    for i in 0..5000 {
+    for i in 0..PAIRS {
         let (left, right) = (random.array(), random.array());
         assert_eq!(trawlbeacon::parent(&left, &right), hash::parent(&left, &right), "pair {i}");
         // The inputs are only read, so both may be one array.
@@ -54,17 +61,19 @@ fn parents() {
             "pair {i}, left twice"
         );
     }
-    println!("parents: 10000 pairs, ours compared with independent");
+    println!("parents: {} pairs, ours compared with independent", 2 * PAIRS);
+    counted(2 * PAIRS, COUNTED);
 }
 
 #[test]
 fn srv_values() {
     let mut random = Xorshift::new(0x5eed_0014);
-    for i in 0..5000 {
+    for i in 0..KEYS {
         let key = random.array();
         assert_eq!(trawlbeacon::srv_value(&key), hash::srv_value(&key), "key {i}");
     }
-    println!("SRV values: 5000 keys, ours compared with independent");
+    println!("SRV values: {KEYS} keys, ours compared with independent");
+    counted(KEYS, COUNTED);
 }
 
 #[test]

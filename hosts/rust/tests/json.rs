@@ -18,7 +18,7 @@ use support::python::Python;
 use support::tally::Tally;
 use support::text_answers::{self as asking, Records};
 use support::texts::{self, Due, Text, Tree, WRONG_SIZE, WRONG_TEXT};
-use support::Xorshift;
+use support::{counted, Xorshift};
 use trawlbeacon::{Refusal, MOST_RECORDS};
 
 const READ: &str = "read";
@@ -214,6 +214,7 @@ fn both_sides_read_the_same() {
     }
     seen.tally.no_difference();
     enough(&seen);
+    counted(seen.texts, "texts to be read as reports");
 }
 
 /// What Python said, which is printed: what is its own is not hidden.

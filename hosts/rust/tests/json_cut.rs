@@ -13,13 +13,15 @@ use support::published::{entries_of, pile_with, text_of, Fault, FAULTS};
 use support::signing::Servers;
 use support::tally::Tally;
 use support::text_answers::buffer;
-use support::{vectors, Xorshift};
+use support::{counted, vectors, Xorshift};
 use trawlbeacon::{Run, LONGEST_REPORT};
 
 const TEXTS: usize = 4_000;
 const SIGNED: usize = 300;
 
 const CUTS: &str = "cut";
+
+const COUNTED: &str = "texts to be cut";
 
 #[test]
 fn both_sides_cut_the_same() {
@@ -65,6 +67,7 @@ fn both_sides_cut_the_same() {
     println!("{}", tally.table("code"));
     tally.no_difference();
     tally.at_least(100, CUTS, [0, 15, 18, 19, 24, 25]);
+    counted(tally.answers(), COUNTED);
 }
 
 /// The text of no entry, or of 17 and more.
@@ -127,4 +130,5 @@ fn both_sides_judge_the_same_signatures() {
     println!("{}", tally.table("code"));
     tally.no_difference();
     tally.at_least(10, CUTS, [0, 18, 19]);
+    counted(tally.answers(), COUNTED);
 }

@@ -13,13 +13,15 @@ use support::published::{pile_with, same_records, Fault, FAULTS};
 use support::signing::Servers;
 use support::tally::Tally;
 use support::text_answers as asking;
-use support::{vectors, Xorshift};
+use support::{counted, vectors, Xorshift};
 use trawlbeacon::{Refusal, LONGEST_REPORT};
 
 const PILES: usize = 4_000;
 const SIGNED: usize = 300;
 
 const WRITTEN: &str = "written";
+
+const COUNTED: &str = "piles to be written as reports";
 
 #[test]
 fn both_sides_write_the_same() {
@@ -57,6 +59,7 @@ fn both_sides_write_the_same() {
     tally.no_difference();
     tally.at_least(5, WRITTEN, 1..=18);
     tally.at_least(100, WRITTEN, [0, 15, 17, 18, 19]);
+    counted(tally.answers(), COUNTED);
 }
 
 /// The report of draft 19, appendix B, as the draft prints it.
@@ -106,6 +109,7 @@ fn both_sides_judge_the_same_signatures() {
     println!("{}", tally.table("code"));
     tally.no_difference();
     tally.at_least(10, WRITTEN, [0, 12, 13, 17, 18, 19]);
+    counted(tally.answers(), COUNTED);
 }
 
 /// What is no pile has no signatures to be judged by.

@@ -8,11 +8,13 @@ use std::fs;
 use std::io::ErrorKind;
 use std::path::{Path, PathBuf};
 use std::process::Command;
-use support::Xorshift;
+use support::{counted, Xorshift};
 
 /// Lengths of packets (1,036 is a request of 1,024 bytes behind its header of 12), and lengths far
 /// beyond any packet's.
 const LONGER: [usize; 5] = [1036, 2001, 2032, 65_536, 1 << 20];
+
+const COUNTED: &str = "hashes";
 
 fn messages() -> Vec<Vec<u8>> {
     let mut random = Xorshift::new(0x5eed_0001);
@@ -74,6 +76,7 @@ fn all_agree_at_every_length() {
     }
     let count = messages.len();
     println!("lengths 0 to 600 and {LONGER:?}: {count} messages, ours compared with independent");
+    counted(count, COUNTED);
     match system_digests(&messages) {
         Some(digests) => {
             for (message, digest) in messages.iter().zip(&digests) {
@@ -124,4 +127,5 @@ fn all_agree_from_unaligned_starts() {
         }
     }
     println!("unaligned starts: {compared} messages, ours compared with independent");
+    counted(compared, COUNTED);
 }

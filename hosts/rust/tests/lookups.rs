@@ -6,7 +6,7 @@ mod support;
 use independent::servers;
 use support::answers::{Both, Said};
 use support::tally::Tally;
-use support::{hex, Xorshift};
+use support::{counted, hex, Xorshift};
 use trawlbeacon::{raw, List};
 
 const LOOKUPS: &str = "lookups";
@@ -247,4 +247,5 @@ fn both_sides_find_alike() {
     seen.tally.no_difference();
     seen.tally.at_least(1_000, LOOKUPS, [0, 21, 22]);
     seen.lists.at_least(1_000, LISTS, [0, 1]);
+    counted(seen.tally.answers(), "lookups in server lists");
 }

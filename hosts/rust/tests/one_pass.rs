@@ -7,7 +7,7 @@ use independent::pairs;
 use independent::report::{self, Time};
 use std::collections::BTreeMap;
 use support::packets::{number, radius};
-use support::Xorshift;
+use support::{counted, Xorshift};
 use trawlbeacon::{raw, Tally};
 
 /// The most windows of a list.
@@ -133,6 +133,7 @@ fn both_sides_say_the_same_of_lists_of_windows() {
     assert_eq!(quiet + contradicting, 1_000_000);
     assert!(quiet.min(contradicting) >= 150_000 && without.min(with) >= 1_000_000);
     assert!((0..=MOST).all(|length| seen.by_length[&length] >= 5_000));
+    counted(quiet + contradicting, "lists of windows");
 }
 
 /// Any state at all is that of some windows, of which one with that MIDP and no radius will do.

@@ -15,7 +15,7 @@ use support::packets::{number, radius, versions_near};
 use support::pile_answers::{Asked, Reported};
 use support::piles::{self, Tie, Wish, BROKEN};
 use support::tally::Tally;
-use support::{hex, Xorshift};
+use support::{counted, hex, Xorshift};
 use trawlbeacon::{Run, Window};
 
 const PILES: &str = "piles";
@@ -451,6 +451,7 @@ fn both_sides_say_the_same_of_piles() {
     println!("{} piles had a first rand of zero, and {} had not", first_rands[1], first_rands[0]);
     seen.tally.no_difference();
     enough(&seen);
+    counted(seen.piles, "piles");
 }
 
 /// A comparison that met a code too seldom says little of it.

@@ -14,7 +14,7 @@ use support::damage::{self, set_word, Damaged};
 use support::packets::LEVELS;
 use support::packets::{samples, versions_near, Kind, Level, Plan, RequestFields, ResponseFields};
 use support::tally::Tally;
-use support::{answers, hex, Xorshift};
+use support::{answers, counted, hex, Xorshift};
 
 const REQUESTS: &str = "requests";
 const RESPONSES: &str = "responses";
@@ -566,6 +566,7 @@ fn both_sides_read_alike() {
     seen.print_causes();
     seen.tally.no_difference();
     enough(&seen, &places);
+    counted(seen.packets, "packets");
 }
 
 /// A comparison that met a code too seldom says little of it.

@@ -12,7 +12,7 @@ use support::answers::{self, Both};
 use support::packets::number;
 use support::replies::{Call, Fault, Frame, CERT_FRAMES, DELE_FRAMES, FAULTS};
 use support::tally::Tally;
-use support::{hex, Xorshift};
+use support::{counted, hex, Xorshift};
 use trawlbeacon::{
     Checked, Placed, Reply, Window, CERT_LENGTH, DELEGATION_CONTEXT, DELE_LENGTH, MOST_LEAVES,
     MOST_ROWS_LENGTH, REQUEST_LENGTH, RESPONSE_CONTEXT, SREP_LENGTH,
@@ -20,6 +20,8 @@ use trawlbeacon::{
 
 const RIGHT: &str = "right calls";
 const FAULTY: &str = "faulty calls";
+
+const COUNTED: &str = "calls of a server's writers";
 
 /// What the other side's checker says of a response, in our types.
 fn checked_there(request: &[u8], packet: &[u8]) -> Result<Checked, u32> {
@@ -73,6 +75,7 @@ fn both_sides_write_the_same_responses() {
     println!("responses, ours compared with independent:\n{}", tally.table("code"));
     tally.no_difference();
     tally.at_least(50_000, RIGHT, [0]);
+    counted(tally.answers(), COUNTED);
 }
 
 /// Some first fault, now and then alone, now and then with the one that comes next in the order, and
@@ -138,6 +141,7 @@ fn both_sides_refuse_the_same_calls() {
     assert!(beside[..FAULTS.len() - 1].iter().all(|count| *count >= 1_000), "{beside:?}");
     assert_eq!(frames.len(), CERT_FRAMES.len() + DELE_FRAMES.len());
     assert!(frames.values().all(|count| *count >= 500), "{frames:?}");
+    counted(tally.answers(), COUNTED);
 }
 
 /// The writers of SREP, DELE and CERT, into buffers of every length up to some beyond what they
@@ -186,6 +190,7 @@ fn both_sides_write_the_same_parts() {
     tally.at_least(1_000, "SREP", [0, 7, 19]);
     tally.at_least(1_000, "DELE", [0, 19]);
     tally.at_least(500, "CERT", [0]);
+    counted(tally.answers(), COUNTED);
 }
 
 /// Beside 7 there is a byte exactly where RADI is not 0.

@@ -17,7 +17,7 @@ use support::pairs::{Pair, Question};
 use support::signed_answers::Exchange;
 use support::signing::{Forgery, Servers, FORGERIES};
 use support::tally::Tally;
-use support::{shortest, Xorshift};
+use support::{counted, shortest, Xorshift};
 use trawlbeacon::Run;
 
 const CHECKS: &str = "checks";
@@ -239,6 +239,7 @@ fn both_sides_say_the_same_of_signed_responses() {
     seen.tally.no_difference();
     seen.tally.at_least(100, CHECKS, 0..=14);
     seen.answers.at_least(300, ANSWERS, [0, 1, 10, 11]);
+    counted(seen.tally.answers(), "responses by their own signatures");
 }
 
 /// Keys of small order: by RFC 8032, whose equation needs no cofactor here, the neutral point as key

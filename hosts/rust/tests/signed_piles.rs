@@ -18,7 +18,7 @@ use support::piles::{self, Wish, BROKEN};
 use support::signed_answers::Alone;
 use support::signing::Servers;
 use support::tally::Tally;
-use support::{hex, shortest, Xorshift};
+use support::{counted, hex, shortest, Xorshift};
 use trawlbeacon::{Record, Refusal, Run, SignedPile};
 
 const RECORDS: &str = "records";
@@ -246,6 +246,7 @@ fn both_sides_say_the_same_of_signed_piles() {
     seen.tally.at_least(100, REPORTS, 0..=18);
     seen.tally.at_least(100, CUTS, [0, 15, 18, 19]);
     seen.runs.at_least(10, RUNS, 2..=3);
+    counted(seen.piles, "piles by their own signatures");
 }
 
 /// Document 01's fifth example, signed by two servers in turn, made of its parts by a host.

@@ -16,7 +16,7 @@ use support::guarded::Guarded;
 use support::signing::{Forgery, Servers, FORGERIES};
 use support::tally::Tally;
 use support::walks::{self, Between, Story, Window, FAULTS};
-use support::{shortest, Xorshift};
+use support::{counted, shortest, Xorshift};
 use trawlbeacon::raw::{tb_took, tb_walk};
 use trawlbeacon::{Answers, Outcome, Pair, Walk};
 
@@ -352,6 +352,7 @@ fn both_sides_walk_alike_by_signatures() {
     // 13 ways for the delegation and the next server, and 15 for the response.
     assert!(seen.forged.len() == 29 && seen.forged.values().all(|met| *met >= 5));
     assert!(seen.ends.iter().all(|walks| *walks >= 50), "an end was met too seldom");
+    counted(seen.ends.iter().sum(), "measuring walks by their own signatures");
 }
 
 #[test]

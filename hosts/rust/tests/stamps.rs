@@ -6,10 +6,12 @@ mod support;
 use independent::stamp;
 use support::answers::{Both, Said};
 use support::tally::Tally;
-use support::Xorshift;
+use support::{counted, Xorshift};
 use trawlbeacon::raw;
 
 const STAMPS: &str = "stamps";
+
+const COUNTED: &str = "old stamps, each with a radius";
 
 const SECOND: u64 = 1_000_000;
 const DAY: u64 = 86_400 * SECOND;
@@ -129,6 +131,7 @@ fn a_million_stamps() {
     seen.tally.at_least(100_000, STAMPS, [0, 29]);
     assert!(seen.stopped >= 10_000 && seen.leaps >= 100_000);
     assert_eq!(seen.tally.answers(), 6_000_000);
+    counted(seen.tally.answers(), COUNTED);
 }
 
 /// Both sides of each border: of the date, of each second at the ends of the day, of the leap second
@@ -157,6 +160,7 @@ fn every_border() {
     seen.say("every border");
     seen.tally.no_difference();
     seen.tally.at_least(1_000, STAMPS, [0, 29]);
+    counted(seen.tally.answers(), COUNTED);
 }
 
 /// What the request says of some stamps, in numbers that were worked out by hand.

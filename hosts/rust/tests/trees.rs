@@ -8,7 +8,7 @@ use independent::hash::Hash;
 use support::answers::{Answer, Both, Written};
 use support::tally::Tally;
 use support::trees::{self, Walk};
-use support::{hex, Xorshift};
+use support::{counted, hex, Xorshift};
 use trawlbeacon::{MOST_LEAVES, MOST_ROWS_LENGTH};
 
 const WALKS: &str = "walks";
@@ -418,4 +418,5 @@ fn both_sides_build_and_check_alike() {
     seen.tally.at_least(100, ROWS, [0, 19, 20]);
     seen.tally.at_least(100, PATHS, [19, 20]);
     seen.tally.at_least(100, PATHS_FROM, [19, 20]);
+    counted(seen.tally.answers(), "roots, rows and paths of trees");
 }

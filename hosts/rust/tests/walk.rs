@@ -15,7 +15,7 @@ use support::guarded::Guarded;
 use support::packets::number;
 use support::tally::Tally;
 use support::walks::{self, Between, Reply, Story, Window, FAULTS};
-use support::Xorshift;
+use support::{counted, Xorshift};
 use trawlbeacon::raw::{tb_took, tb_walk};
 use trawlbeacon::{Outcome, Pair, Walk};
 
@@ -406,6 +406,7 @@ fn both_sides_walk_alike() {
     assert!(seen.lies.len() == 66 && least >= 100);
     assert!(seen.ends.values().flatten().all(|walks| *walks >= 500), "an end was met too seldom");
     assert!(seen.borders.values().all(|met| *met >= 1_000), "a limit was met too seldom");
+    counted(seen.ends.values().flatten().sum(), "measuring walks");
 }
 
 /// What the made-up states are given, in memory that ends at a page nobody may touch.

@@ -76,6 +76,12 @@ impl Xorshift {
     }
 }
 
+/// Says of how many cases a test held that they agree. `tools/counts` adds up the numbers of the
+/// same words, and README's table of them must have just these.
+pub fn counted(cases: usize, what: &str) {
+    println!("counted: {cases} {what}");
+}
+
 /// The shortest of many times of a call.
 pub fn shortest<T>(mut call: impl FnMut() -> T) -> Duration {
     let time = |_| {
