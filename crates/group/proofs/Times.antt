@@ -2,9 +2,9 @@
 use Prim.Native.Nat.{ℕ, zero, suc, _+_, _*_}
 use mathlib.Core.Path.{_≡_, refl, sym, ap, _∙_}
 use native.Mathlib.Omega.{arith}
-use Rattle.complete.specs.Affine.{Affine, sumOf, zeroPoint, timesOf}
-use Rattle.complete.specs.Group.{Point}
-use Rattle.complete.proofs.Group.{zero-point, sum-point, sum-zero, zero-sum, sum-associates}
+use Rattle.group.specs.Affine.{Affine, sumOf, zeroPoint, timesOf}
+use Rattle.group.specs.Group.{Point}
+use Rattle.group.proofs.Group.{zero-point, sum-point, sum-zero, zero-sum, sum-associates}
 
 pub times-zero : (a : Affine) → timesOf 0 a ≡ zeroPoint
 unfolding timesOf

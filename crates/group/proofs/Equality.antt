@@ -11,11 +11,11 @@ use Rattle.field.specs.Field.{p, mulF}
 use Rattle.field.proofs.Elements.{mul-below}
 use Rattle.curve.specs.Points.{Pt, pointEqual}
 use Rattle.primes.proofs.Squares.{times-other}
-use Rattle.complete.specs.Affine.{Affine, sameOf}
-use Rattle.complete.specs.Standing.{Stands}
-use Rattle.complete.proofs.Modulo.{Same, known, same, back, _⨾_, modulo, below}
-use Rattle.complete.proofs.Division.{mul-same, divide}
-use Rattle.complete.proofs.Group.{same-point}
+use Rattle.group.specs.Affine.{Affine, sameOf}
+use Rattle.group.specs.Standing.{Stands}
+use Rattle.group.proofs.Modulo.{Same, known, same, back, _⨾_, modulo, below}
+use Rattle.group.proofs.Division.{mul-same, divide}
+use Rattle.group.proofs.Group.{same-point}
 
 -- one coordinate: u = U/Y and v = W/Z
 module _ (U W u v Y Z : ℕ) (u-below : u < p) (v-below : v < p) (Y-other : Y % p ≡ 0 → ⊥) (Z-other : Z % p ≡ 0 → ⊥)
