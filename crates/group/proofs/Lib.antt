@@ -3,7 +3,7 @@
 -- definitions. Fractions and Associative: sums of three points in either order are the same; Group and Times: the points
 -- are a group, and what holds of multiples there. Standing, Adding and Doubling: what RFC 8032's formulas give stands for
 -- such sums; Multiples, Equality and Verifying: so do multiples, equality is that of points, and a signature verifies as
--- the affine definition says.
+-- the affine definition says; Eightfold: what verifies satisfies the equation with the cofactor, too.
 pub mod Modulo
 pub mod Division
 pub mod Curve
@@ -21,3 +21,4 @@ pub mod Doubling
 pub mod Multiples
 pub mod Equality
 pub mod Verifying
+pub mod Eightfold
