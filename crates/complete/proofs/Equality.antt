@@ -12,6 +12,7 @@ use Rattle.field.proofs.Elements.{mul-below}
 use Rattle.curve.specs.Points.{Pt, pointEqual}
 use Rattle.primes.proofs.Squares.{times-other}
 use Rattle.complete.specs.Affine.{Affine, sameOf}
+use Rattle.complete.specs.Group.{Point}
 use Rattle.complete.specs.Standing.{Stands}
 use Rattle.complete.proofs.Modulo.{Same, known, same, back, _⨾_, modulo, below}
 use Rattle.complete.proofs.Division.{mul-same, divide}
@@ -37,6 +38,16 @@ module _ (U W u v Y Z : ℕ) (u-below : u < p) (v-below : v < p) (Y-other : Y % 
           ne-eqb _ _ (λ h. eqb-false u v e (below u-below v-below
           (divide (Y * Z) (times-other Y Z Y-other Z-other) (back left ⨾ same h ⨾ right))))
 
+-- the test of two points (x, y) says true exactly where they are the same
+pub same-exactly : (a b : Affine) → Point a → Point b → sameOf a b ≡ true ↔ (a ≡ b)
+same-exactly a b pa pb = (λ e. one (both _ _ e), λ e. rw (← e) itself)
+  where
+    one : (eqb (a .x) (b .x) ≡ true) × (eqb (a .y) (b .y) ≡ true) → a ≡ b
+    one e = same-point a b pa pb (same (eqb-true (a .x) (b .x) (e .0))) (same (eqb-true (a .y) (b .y) (e .1)))
+
+    itself : sameOf a a ≡ true
+    itself = rw (eq-eqb (a .x) (a .x) refl, eq-eqb (a .y) (a .y) refl)
+
 module _ (P Q : Pt) (a b : Affine) (s : Stands P a) (t : Stands Q b) where
   pub equal-is : pointEqual P Q ≡ sameOf a b
   unfolding pointEqual
@@ -50,11 +61,6 @@ module _ (P Q : Pt) (a b : Affine) (s : Stands P a) (t : Stands Q b) where
 
   -- so the test says true exactly where they are the same point
   pub equal-exactly : pointEqual P Q ≡ true ↔ (a ≡ b)
-  equal-exactly = (λ e. one (both _ _ (sym equal-is ∙ e)), λ e. equal-is ∙ (rw (← e) itself))
-    where
-      one : (eqb (a .x) (b .x) ≡ true) × (eqb (a .y) (b .y) ≡ true) → a ≡ b
-      one e =
-          same-point a b (s .point) (t .point) (same (eqb-true (a .x) (b .x) (e .0))) (same (eqb-true (a .y) (b .y) (e .1)))
-
-      itself : sameOf a a ≡ true
-      itself = rw (eq-eqb (a .x) (a .x) refl, eq-eqb (a .y) (a .y) refl)
+  equal-exactly =
+      let exactly = same-exactly a b (s .point) (t .point) in
+      (λ e. exactly .0 (sym equal-is ∙ e), λ e. equal-is ∙ exactly .1 e)
