@@ -3,7 +3,8 @@
 -- definitions. Fractions and Associative: sums of three points in either order are the same; Group and Times: the points
 -- are a group, and what holds of multiples there. Standing, Adding and Doubling: what RFC 8032's formulas give stands for
 -- such sums; Multiples, Equality and Verifying: so do multiples, equality is that of points, and a signature verifies as
--- the affine definition says; Eightfold: what verifies satisfies the equation with the cofactor, too.
+-- the affine definition says; Eightfold: what verifies satisfies the equation with the cofactor, too. PrimeOrder and
+-- Order: L is prime, and so the order of the base point; OneS: of a key, a text and an R one S verifies.
 pub mod Modulo
 pub mod Division
 pub mod Curve
@@ -22,3 +23,6 @@ pub mod Multiples
 pub mod Equality
 pub mod Verifying
 pub mod Eightfold
+pub mod PrimeOrder
+pub mod Order
+pub mod OneS
