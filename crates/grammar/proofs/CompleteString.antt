@@ -10,10 +10,10 @@ use lib.ListN.{length, getD}
 use Rattle.laws.specs.Pick.{pick, both}
 use Rattle.tokens.specs.declared.Skip.the-variants.{Bad}
 use Rattle.strings.specs.declared.Unit.{Unit}
-use Rattle.strings.specs.declared.Unit.the-variants.{Code, Wide, Close, Ill}
+use Rattle.strings.specs.declared.Unit.the-variants.{Code, Close, Ill}
 use Rattle.tokens.specs.Walk.{walked}
 use Rattle.strings.specs.Text.{escapeOf, nibbleOf, nibbleAt, hexAt, escapeAt, leastSecond, mostSecond, secondAt, tailAt}
-use Rattle.strings.specs.Text.{longAt, wideAt, unitAt, stepOf, unitStep, stringAt}
+use Rattle.strings.specs.Text.{twoAt, threeAt, longAt, wideAt, unitAt, stepOf, unitStep, stringAt}
 use Rattle.strings.proofs.Ahead.{forth-unit}
 use Rattle.grammar.specs.Rules.{these, within, join, left, right, *_, none, more}
 use Rattle.grammar.specs.Abnf
@@ -24,11 +24,9 @@ use Rattle.grammar.proofs.Spans.{of-pick-cases}
 -- a character ends where t stands
 data Told (s t : List ℕ) : Unit → Type 0 where
   code : {c j : ℕ} → Rest s j t → Told s t (Code c j)
-  wide : {j : ℕ} → Rest s j t → Told s t (Wide j)
 
 told-goes : {s t : List ℕ} {u : Unit} → Told s t u → Goes s t (stepOf u)
 told-goes (code h) = goes h
-told-goes (wide h) = goes h
 
 -- ---- Hexadecimal digits.
 data Hex : List ℕ → Type 0 where
@@ -104,7 +102,7 @@ module _ {s : List ℕ} (k : ℕ) (t : List ℕ) where
       if-false (Told s t) Ill (rw (rest-front h) (le-ltb b 194 l))
       (if-true (Told s t) Ill (second-is k t b c t (least-le b c o (λ e. omega arith) (λ e. omega arith))
       (most-le b c p (λ e. omega arith) (λ e. omega arith)) h)
-      (if-true (Told s t) (longAt s k) (rw (rest-front h) (lt-ltb b 224 m)) (wide (rest-past (b ∷ c ∷ []) t h))))
+      (if-true (Told s t) (longAt s k) (rw (rest-front h) (lt-ltb b 224 m)) (code (rest-past (b ∷ c ∷ []) t h))))
 
   -- past the second byte
   long-told : (b c : ℕ) (u : List ℕ) → 224 ≤ b → leastSecond b ≤ c → c ≤ mostSecond b → Rest s k (b ∷ c ∷ u)
@@ -113,7 +111,7 @@ module _ {s : List ℕ} (k : ℕ) (t : List ℕ) where
   long-told b c u l o p h g =
       if-false (Told s t) Ill (rw (rest-front h) (le-ltb b 194 (omega arith)))
       (if-true (Told s t) Ill (second-is k t b c u o p h)
-      (if-false (Told s t) (Wide (k + 2)) (rw (rest-front h) (le-ltb b 224 l)) g))
+      (if-false (Told s t) (Code (twoAt s k) (k + 2)) (rw (rest-front h) (le-ltb b 224 l)) g))
 
   three-told : (b c d : ℕ) → 224 ≤ b → b < 240 → leastSecond b ≤ c → c ≤ mostSecond b → 128 ≤ d → d ≤ 191
       → Rest s k (b ∷ c ∷ d ∷ t) → Told s t (wideAt s k)
@@ -121,7 +119,7 @@ module _ {s : List ℕ} (k : ℕ) (t : List ℕ) where
   three-told b c d l m o p q r h =
       long-told b c (d ∷ t) l o p h
       (if-true (Told s t) Ill (tail-is (k + 2) d t q r (rest-past (b ∷ c ∷ []) (d ∷ t) h))
-      (if-true (Told s t) _ (rw (rest-front h) (lt-ltb b 240 m)) (wide (rest-past (b ∷ c ∷ d ∷ []) t h))))
+      (if-true (Told s t) _ (rw (rest-front h) (lt-ltb b 240 m)) (code (rest-past (b ∷ c ∷ d ∷ []) t h))))
 
   tails-told : (b c d e : ℕ) → 240 ≤ b → b < 245 → leastSecond b ≤ c → c ≤ mostSecond b → 128 ≤ d → d ≤ 191 → 128 ≤ e
       → e ≤ 191 → Rest s k (b ∷ c ∷ d ∷ e ∷ t) → Told s t (wideAt s k)
@@ -129,9 +127,9 @@ module _ {s : List ℕ} (k : ℕ) (t : List ℕ) where
   tails-told b c d e l m o p q r v w h =
       long-told b c (d ∷ e ∷ t) (omega arith) o p h
       (if-true (Told s t) Ill (tail-is (k + 2) d (e ∷ t) q r (rest-past (b ∷ c ∷ []) (d ∷ e ∷ t) h))
-      (if-false (Told s t) (Wide (k + 3)) (rw (rest-front h) (le-ltb b 240 l))
+      (if-false (Told s t) (Code (threeAt s k) (k + 3)) (rw (rest-front h) (le-ltb b 240 l))
       (if-true (Told s t) Ill (tail-is (k + 3) e t v w (rest-past (b ∷ c ∷ d ∷ []) (e ∷ t) h))
-      (if-true (Told s t) Ill (rw (rest-front h) (lt-ltb b 245 m)) (wide (rest-past (b ∷ c ∷ d ∷ e ∷ []) t h))))))
+      (if-true (Told s t) Ill (rw (rest-front h) (lt-ltb b 245 m)) (code (rest-past (b ∷ c ∷ d ∷ e ∷ []) t h))))))
 
   -- ---- Characters.
   plain-told : (c : ℕ) → 32 ≤ c → c < 128 → (c ≡ 34 → ⊥) → (c ≡ 92 → ⊥) → Rest s k (c ∷ t) → Told s t (unitAt s k)

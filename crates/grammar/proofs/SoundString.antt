@@ -9,7 +9,7 @@ use lib.Dec.{eqb, ltb}
 use lib.ListN.{length, getD}
 use Rattle.laws.specs.Pick.{pick}
 use Rattle.strings.specs.declared.Unit.{Unit}
-use Rattle.strings.specs.declared.Unit.the-variants.{Code, Wide, Ill}
+use Rattle.strings.specs.declared.Unit.the-variants.{Code, Ill}
 use Rattle.strings.specs.Text.{escapeOf, nibbleOf, nibbleAt, hexAt, escapeAt, leastSecond, mostSecond, secondAt, tailAt}
 use Rattle.strings.specs.Text.{longAt, wideAt, unitAt, stepOf, unitStep, stringAt}
 use Rattle.grammar.specs.Rules.{Rule, octet, range, within, _·_, join, _/_, left, right, *_, none, more}
@@ -21,22 +21,18 @@ use Rattle.grammar.proofs.Spans.{sound-join, sound-walk}
 -- a character at k
 data Codes (P : Rule) (s : List ℕ) (k : ℕ) : Unit → Type 0 where
   code : {c j : ℕ} → Spans P s k j → Codes P s k (Code c j)
-  wide : {j : ℕ} → Spans P s k j → Codes P s k (Wide j)
   ill : Codes P s k Ill
 
 codes-by : {P Q : Rule} {s : List ℕ} {k : ℕ} {u : Unit} → ((x : List ℕ) → P x → Q x) → Codes P s k u → Codes Q s k u
 codes-by c (code p) = code (spans-by c p)
-codes-by c (wide p) = wide (spans-by c p)
 codes-by c ill = ill
 
 codes-join : {P Q : Rule} {s : List ℕ} {k e : ℕ} {u : Unit} → Spans P s k e → Codes Q s e u → Codes (P · Q) s k u
 codes-join p (code q) = code (spans-join p q)
-codes-join p (wide q) = wide (spans-join p q)
 codes-join p ill = ill
 
 codes-turn : {P Q : Rule} {s : List ℕ} {k : ℕ} {u : Unit} → Codes P s k u → Turns P Q s k (stepOf u)
 codes-turn (code p) = further p
-codes-turn (wide p) = further p
 codes-turn ill = wrong
 
 -- ---- Escapes.
@@ -253,10 +249,10 @@ module _ (s : List ℕ) where
       let high = leb-true _ _ (p .1) in
       of-pick-cases (Codes Abnf.unescaped s k) _
       (λ t. of-pick-cases (Codes Abnf.unescaped s k) _
-      (λ u. wide (spans-by (λ x q. right (right (right (right (left q))))) (spans-3 k low high l (ltb-true _ _ u) t)))
+      (λ u. code (spans-by (λ x q. right (right (right (right (left q))))) (spans-3 k low high l (ltb-true _ _ u) t)))
       (λ u. of-pick-cases (Codes Abnf.unescaped s k) _
       (λ v. of-pick-cases (Codes Abnf.unescaped s k) _
-      (λ w. wide (spans-by (λ x q. right (right (right (right (right q)))))
+      (λ w. code (spans-by (λ x q. right (right (right (right (right q)))))
       (spans-4 k low high (ltb-false _ _ u) (ltb-true _ _ w) t v)))
       (λ w. ill)) (λ v. ill))) (λ t. ill)
 
@@ -266,7 +262,7 @@ module _ (s : List ℕ) where
       of-pick-cases (Codes Abnf.unescaped s k) _ (λ t. ill)
       (λ t. of-pick-cases (Codes Abnf.unescaped s k) _
       (λ u. of-pick-cases (Codes Abnf.unescaped s k) _
-      (λ v. let p = both-parts _ _ u in wide (spans-by (λ x q. right (right (right (left q))))
+      (λ v. let p = both-parts _ _ u in code (spans-by (λ x q. right (right (right (left q))))
       (spans-2 k (leb-true _ _ (p .0)) (leb-true _ _ (p .1)) (ltb-false _ _ t) (ltb-true _ _ v))))
       (λ v. codes-long k (ltb-false _ _ v) u)) (λ u. ill))
 

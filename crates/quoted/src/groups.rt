@@ -14,19 +14,17 @@ pub fn at_end(s: &[u8], k: usize) -> bool
 {
     match strings::unit_of(s, k) {
         Unit::Code(_, _) => false,
-        Unit::Wide(_) => false,
         Unit::Close(_) => true,
         Unit::Ill => true,
     }
 }
 
-// The character at a place. One that is written as bytes above 127 gets a number that is no letter.
+// The character at a place.
 fn letter_at(s: &[u8], k: usize) -> Letter
     ensures { λ r. ⌜ CharOf (now (s .entry)) k r ⌝ }
 {
     match strings::unit_of(s, k) {
         Unit::Code(c, j) => Letter::Is(c, j),
-        Unit::Wide(j) => Letter::Is(1_114_112, j),
         Unit::Close(_) => Letter::Stop,
         Unit::Ill => Letter::Stop,
     }

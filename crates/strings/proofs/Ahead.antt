@@ -11,13 +11,12 @@ use Rattle.laws.specs.Pick.{pick}
 use Rattle.tokens.proofs.Ahead.{of-pick}
 use Rattle.tokens.proofs.Turns.{Ahead, Forth, ahead-walked}
 use Rattle.strings.specs.declared.Unit.{Unit}
-use Rattle.strings.specs.declared.Unit.the-variants.{Code, Wide, Close, Ill}
+use Rattle.strings.specs.declared.Unit.the-variants.{Code, Close, Ill}
 use Rattle.strings.specs.Text.{hexAt, escapeAt, longAt, wideAt, unitAt, stepOf, unitStep, stringAt}
 
 -- a character ends further on
 abbrev Onto : ℕ → Unit → Type 0
 Onto k (Code c j) = k < j
-Onto k (Wide j) = k < j
 Onto k (Close j) = k < j
 Onto k Ill = T true
 
@@ -54,16 +53,12 @@ ends s k h = rw (List·getD-eq-default s 0 h) refl
 no-code : {c j : ℕ} → Code c j ≡ Ill → ⊥
 no-code e = let z : _≡_ {A = ℕ} 0 1 = cc in omega arith
 
-no-wide : {j : ℕ} → Wide j ≡ Ill → ⊥
-no-wide e = let z : _≡_ {A = ℕ} 0 1 = cc in omega arith
-
 pub forth-unit : (s : List ℕ) (k : ℕ) → Forth (length s) k (unitStep s k)
 unfolding unitStep
 forth-unit s k = by (unitAt s k) (onto-unit s k) (λ h. ends s k h)
   where
     by : (u : Unit) → Onto k u → (length s ≤ k → u ≡ Ill) → Forth (length s) k (stepOf u)
     by (Code c j) o e = (o, by-contra (suc k) (length s) (λ out. no-code (e (le-of-suc-le-suc out))))
-    by (Wide j) o e = (o, by-contra (suc k) (length s) (λ out. no-wide (e (le-of-suc-le-suc out))))
     by (Close j) o e = omega arith
     by Ill o e = tt
 

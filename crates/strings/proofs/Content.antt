@@ -12,7 +12,7 @@ use native.Mathlib.Nat.{add-zero}
 use lib.Seq.{drop-cons, drop-nil, getD-drop}
 use Rattle.laws.specs.Pick.{both}
 use Rattle.strings.specs.declared.Unit.{Unit}
-use Rattle.strings.specs.declared.Unit.the-variants.{Code, Wide, Close, Ill}
+use Rattle.strings.specs.declared.Unit.the-variants.{Code, Close, Ill}
 use Rattle.tokens.specs.Walk.{starts}
 use Rattle.strings.specs.Text.{unitAt, stepOf, unitStep, codesOf, codesAt, contentAt, sameList}
 use Rattle.tokens.proofs.Turns.{starts-more, starts-end, starts-wrong, turn-falls}
@@ -28,11 +28,6 @@ module _ (s : List ℕ) {u : Unit} (k : ℕ) (e : u ≡ unitAt s k) where
   content-code h = rw (starts-more (length s) (unitStep s) (forth-unit s) k refl (turn ∙ ap stepOf h)) (rw (sym e
       ∙ h) refl)
 
-  pub content-wide : {j : ℕ} → u ≡ Wide j → contentAt s k ≡ 1114112 ∷ contentAt s j
-  unfolding contentAt codesAt
-  content-wide h = rw (starts-more (length s) (unitStep s) (forth-unit s) k refl (turn ∙ ap stepOf h)) (rw (sym e
-      ∙ h) refl)
-
   pub content-close : {j : ℕ} → u ≡ Close j → contentAt s k ≡ []
   unfolding contentAt codesAt
   content-close h = rw (starts-end (length s) (unitStep s) k refl (turn ∙ ap stepOf h)) (rw (sym e ∙ h) refl)
@@ -45,15 +40,7 @@ module _ (s : List ℕ) {u : Unit} (k : ℕ) (e : u ≡ unitAt s k) where
   pub content-falls : {c j : ℕ} → u ≡ Code c j → length s - j < length s - k
   content-falls h = turn-falls (length s) (unitStep s) (forth-unit s) k refl (turn ∙ ap stepOf h)
 
-  pub wide-falls : {j : ℕ} → u ≡ Wide j → length s - j < length s - k
-  wide-falls h = turn-falls (length s) (unitStep s) (forth-unit s) k refl (turn ∙ ap stepOf h)
-
 -- ---- A name, compared with a word.
-wide-differs : (l m : List ℕ) → getD m 0 0 < 256 → false ≡ sameList (1114112 ∷ l) m
-unfolding sameList both
-wide-differs l [] g = refl
-wide-differs l (y ∷ ys) g = rw (ne-eqb 1114112 y (λ q. omega arith)) refl
-
 ended : (w : List ℕ) (i : ℕ) → leb (length w) i ≡ sameList [] (drop i w)
 unfolding sameList
 ended [] i = leb·zero i ∙ rw (drop-nil {A = ℕ} i) refl
@@ -74,11 +61,6 @@ module _ (s w : List ℕ) {u : Unit} (k i : ℕ) (e : u ≡ unitAt s k) where
   pub name-longer : {c j : ℕ} → u ≡ Code c j → length w ≤ i → false ≡ sameList (contentAt s k) (drop i w)
   unfolding sameList
   name-longer h g = rw (content-code s k e h, drop-of-length-le w g) refl
-
-  pub name-wide : {j : ℕ} → u ≡ Wide j → getD w i 0 < 256 → false ≡ sameList (contentAt s k) (drop i w)
-  unfolding sameList both
-  name-wide {j} h g =
-      rw (content-wide s k e h) (wide-differs (contentAt s j) (drop i w) (rw getD-drop (rw (add-zero i) g)))
 
   pub name-end : contentAt s k ≡ [] → leb (length w) i ≡ sameList (contentAt s k) (drop i w)
   name-end h = rw h (ended w i)

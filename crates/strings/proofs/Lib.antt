@@ -5,3 +5,4 @@ pub mod Content
 pub mod Runs
 pub mod Plain
 pub mod Once
+pub mod Examples

@@ -1,6 +1,6 @@
 -- string = quotation-mark *char quotation-mark (RFC 8259, section 7). The text is UTF-8 (section 8.1): a byte sequence
 -- that RFC 3629 does not allow is no character.
-use Prim.Native.Nat.{ℕ, zero, suc, _+_, _*_, _-_}
+use Prim.Native.Nat.{ℕ, zero, suc, _+_, _*_, _-_, _%_}
 use mathlib.Core.Bool.{Bool, true, false, not, _&&_}
 use mathlib.Core.List.{List, [], _∷_, _++_}
 use lib.Dec.{eqb, leb, ltb}
@@ -10,7 +10,7 @@ use Rattle.tokens.specs.declared.Skip.the-variants.{Past, Bad}
 use Rattle.tokens.specs.declared.Step.{Step}
 use Rattle.tokens.specs.declared.Step.the-variants.{More, End, Wrong}
 use Rattle.strings.specs.declared.Unit.{Unit}
-use Rattle.strings.specs.declared.Unit.the-variants.{Code, Wide, Close, Ill}
+use Rattle.strings.specs.declared.Unit.the-variants.{Code, Close, Ill}
 use Rattle.laws.specs.Pick.{pick, either, both}
 use Rattle.tokens.specs.Walk.{walked, starts}
 
@@ -58,17 +58,34 @@ secondAt s at =
 unfoldable pub tailAt : List ℕ → ℕ → Bool
 tailAt s at = both (leb 128 (getD s at 0)) (leb (getD s at 0) 191)
 
+-- RFC 3629, section 3: each byte behind the first, 10xxxxxx, has six bits more of the character's number
+unfoldable pub moreBits : ℕ → ℕ → ℕ
+moreBits n b = 64 * n + b % 64
+
+-- 110xxxxx 10xxxxxx
+unfoldable pub twoAt : List ℕ → ℕ → ℕ
+twoAt s at = moreBits (getD s at 0 % 32) (getD s (at + 1) 0)
+
+-- 1110xxxx 10xxxxxx 10xxxxxx
+unfoldable pub threeAt : List ℕ → ℕ → ℕ
+threeAt s at = moreBits (moreBits (getD s at 0 % 16) (getD s (at + 1) 0)) (getD s (at + 2) 0)
+
+-- 11110xxx 10xxxxxx 10xxxxxx 10xxxxxx
+unfoldable pub fourAt : List ℕ → ℕ → ℕ
+fourAt s at =
+    moreBits (moreBits (moreBits (getD s at 0 % 8) (getD s (at + 1) 0)) (getD s (at + 2) 0)) (getD s (at + 3) 0)
+
 -- UTF8-3 (first byte E0-EF), UTF8-4 (F0-F4), past the second byte
 unfoldable pub longAt : List ℕ → ℕ → Unit
 longAt s at =
-    pick (tailAt s (at + 2)) (pick (ltb (getD s at 0) 240) (Wide (at + 3))
-    (pick (tailAt s (at + 3)) (pick (ltb (getD s at 0) 245) (Wide (at + 4)) Ill) Ill)) Ill
+    pick (tailAt s (at + 2)) (pick (ltb (getD s at 0) 240) (Code (threeAt s at) (at + 3))
+    (pick (tailAt s (at + 3)) (pick (ltb (getD s at 0) 245) (Code (fourAt s at) (at + 4)) Ill) Ill)) Ill
 
 -- UTF8-2 (first byte C2-DF), or longer
 unfoldable pub wideAt : List ℕ → ℕ → Unit
 wideAt s at =
     pick (ltb (getD s at 0) 194) Ill
-    (pick (secondAt s at) (pick (ltb (getD s at 0) 224) (Wide (at + 2)) (longAt s at)) Ill)
+    (pick (secondAt s at) (pick (ltb (getD s at 0) 224) (Code (twoAt s at) (at + 2)) (longAt s at)) Ill)
 
 -- one character of a string, or the closing quote
 unfoldable pub unitAt : List ℕ → ℕ → Unit
@@ -84,7 +101,6 @@ unescaped b = ((not (eqb b 34) && not (eqb b 92)) && not (ltb b 32)) && ltb b 12
 
 abbrev pub stepOf : Unit → Step
 stepOf (Code c k) = More k
-stepOf (Wide k) = More k
 stepOf (Close k) = End k
 stepOf Ill = Wrong
 
@@ -96,11 +112,9 @@ unitStep s at = stepOf (unitAt s at)
 unfoldable pub stringAt : List ℕ → ℕ → Skip
 stringAt s at = pick (eqb (getD s at 0) 34) (walked (length s) (unitStep s) (at + 1)) Bad
 
--- a character's number; one that is written as bytes above 127 has a number that nothing here reads, and that equals no
--- other
+-- a character's number
 abbrev pub codesOf : Unit → List ℕ
 codesOf (Code c k) = c ∷ []
-codesOf (Wide k) = 1114112 ∷ []
 codesOf (Close k) = []
 codesOf Ill = []
 
@@ -108,8 +122,9 @@ unfoldable pub codesAt : List ℕ → List ℕ → List ℕ
 codesAt s [] = []
 codesAt s (k ∷ ks) = codesOf (unitAt s k) ++ codesAt s ks
 
--- what a string holds, unescaped (RFC 8259, section 8.3): the numbers of its characters. `at` is past the opening
--- quote.
+-- what a string holds, unescaped (RFC 8259, section 8.3): the numbers of its characters. \u and four digits are one
+-- number, also of a surrogate: a character above U+FFFF is one where it stands as UTF-8, and two where it is escaped
+-- (section 7). `at` is past the opening quote.
 unfoldable pub contentAt : List ℕ → ℕ → List ℕ
 contentAt s at = codesAt s (starts (suc (length s)) (unitStep s) at)
 

@@ -9,12 +9,10 @@ pub use strings::holds;
 pub use strings::string;
 pub use strings::unit_of;
 
-// What stands at a place within a string: a character, with the place past it; the closing quote; or what no string may
-// hold.
+// What stands at a place within a string: a character by its number, with the place past it; the closing quote; or what
+// no string may hold.
 pub enum Unit {
     Code(u32, usize),
-    // written as bytes above 127
-    Wide(usize),
     Close(usize),
     Ill,
 }

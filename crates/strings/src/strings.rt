@@ -39,7 +39,6 @@ fn unit_step(s: &[u8], at: usize) -> Step
 {
     match unit_of(s, at) {
         Unit::Code(_, k) => Step::More(k),
-        Unit::Wide(k) => Step::More(k),
         Unit::Close(k) => Step::End(k),
         Unit::Ill => Step::Wrong,
     }
@@ -99,9 +98,6 @@ pub fn holds(s: &[u8], at: usize, w: &[u8]) -> bool
                 }
                 k = j;
                 i += 1;
-            }
-            Unit::Wide(_) => {
-                return false;
             }
             Unit::Close(_) => {
                 return w.len() <= i;

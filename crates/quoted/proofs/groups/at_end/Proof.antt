@@ -1,7 +1,7 @@
 use borrow.Author.Needs.{needs}
 use mathlib.Core.Path.{refl}
 use denote.Ref.{now}
-use Rattle.strings.proofs.Content.{content-code, content-wide, content-close, content-ill}
+use Rattle.strings.proofs.Content.{content-code, content-close, content-ill}
 use Rattle.quoted.proofs.groups.at_end.Statement.{statement}
 use Rattle.quoted.proofs.groups.at_end.Tie as tie
 
@@ -12,18 +12,13 @@ returns c =
 
 returns-2 : tie.Need-returns-2
 returns-2 c =
-    rw (content-wide (now (c .before .before .before .before .args .s)) (c .before .before .before .before .args .k)
+    rw (content-close (now (c .before .before .before .before .args .s)) (c .before .before .before .before .args .k)
     (c .before .before .unit-of .ensures) (c .enum-told2 .given .1)) refl
 
 returns-3 : tie.Need-returns-3
 returns-3 c =
-    rw (content-close (now (c .before .before .before .before .args .s)) (c .before .before .before .before .args .k)
-    (c .before .before .unit-of .ensures) (c .enum-told3 .given .1)) refl
-
-returns-4 : tie.Need-returns-4
-returns-4 c =
     rw (content-ill (now (c .before .before .before .before .args .s)) (c .before .before .before .before .args .k)
-    (c .before .before .unit-of .ensures) (c .enum-told4 .given .1)) refl
+    (c .before .before .unit-of .ensures) (c .enum-told3 .given .1)) refl
 
 pub at-end-spec : {M : Type 1} → statement M
 at-end-spec =
@@ -33,8 +28,6 @@ at-end-spec =
     (λ c. search needs)
     (λ c. search needs)
     (λ c. search needs)
-    (λ c. search needs)
     returns
     returns-2
-    returns-3
-    returns-4)
+    returns-3)

@@ -1,6 +1,6 @@
 use borrow.Author.Needs.{needs}
 use denote.Ref.{now}
-use Rattle.strings.proofs.Content.{content-code, content-wide, content-close, content-ill, content-falls, wide-falls}
+use Rattle.strings.proofs.Content.{content-code, content-close, content-ill, content-falls}
 use Rattle.quoted.proofs.groups.letter_at.Statement.{statement}
 use Rattle.quoted.proofs.groups.letter_at.Tie as tie
 
@@ -18,23 +18,11 @@ returns c =
 
 returns-2 : tie.Need-returns-2
 returns-2 c =
-    record {
-      text = content-wide (now (c .before .before .before .before .before .args .s))
-          (c .before .before .before .before .before .args .k) (c .before .before .before .unit-of .ensures)
-          (c .before .j .given .1);
-      on =
-          wide-falls (now (c .before .before .before .before .before .args .s))
-          (c .before .before .before .before .before .args .k) (c .before .before .before .unit-of .ensures)
-          (c .before .j .given .1);
-    }
-
-returns-3 : tie.Need-returns-3
-returns-3 c =
     content-close (now (c .before .before .before .before .args .s)) (c .before .before .before .before .args .k)
     (c .before .before .unit-of .ensures) (c .enum-told .given .1)
 
-returns-4 : tie.Need-returns-4
-returns-4 c =
+returns-3 : tie.Need-returns-3
+returns-3 c =
     content-ill (now (c .before .before .before .before .args .s)) (c .before .before .before .before .args .k)
     (c .before .before .unit-of .ensures) (c .enum-told2 .given .1)
 
@@ -46,8 +34,6 @@ letter-at-spec =
     (λ c. search needs)
     (λ c. search needs)
     (λ c. search needs)
-    (λ c. search needs)
     returns
     returns-2
-    returns-3
-    returns-4)
+    returns-3)

@@ -1,4 +1,5 @@
 use borrow.Author.Needs.{needs}
+use mathlib.Core.Path.{sym}
 use Rattle.strings.specs.Text.{longAt}
 use Rattle.strings.proofs.Units.{units}
 use Rattle.strings.proofs.letters.long.Statement.{statement}
@@ -18,7 +19,7 @@ returns-3 c = search (units, needs) depth 8
 
 returns-4 : tie.Need-returns-4
 unfolding longAt
-returns-4 c = search (units, needs) depth 8
+returns-4 c = rw (sym (c .four .ensures)) (search (units, needs) depth 8)
 
 returns-5 : tie.Need-returns-5
 unfolding longAt
@@ -32,11 +33,13 @@ long-spec =
     (λ c. search needs)
     (λ c κs. search needs)
     returns
+    (λ c κs. search needs)
     (λ c. search needs)
     returns-2
     (λ c. search needs)
     (λ c κs. search needs)
     returns-3
+    (λ c κs. search needs)
     (λ c. search needs)
     returns-4
     returns-5)

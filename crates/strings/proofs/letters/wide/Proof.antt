@@ -28,6 +28,7 @@ wide-spec =
     returns
     (λ c κs. search needs)
     returns-2
+    (λ c κs. search needs)
     (λ c. search needs)
     (λ c κs. search needs)
     returns-3

@@ -6,7 +6,7 @@ use lib.ListN.{length, drop}
 use denote.Ref.{now}
 use Rattle.strings.specs.Text.{contentAt, sameList}
 use Rattle.strings.proofs.Content.{content-close, content-ill, content-falls, name-more, name-differs, name-longer}
-use Rattle.strings.proofs.Content.{name-wide, name-end}
+use Rattle.strings.proofs.Content.{name-end}
 use Rattle.strings.proofs.strings.holds.Statement.{statement}
 use Rattle.strings.proofs.strings.holds.Tie as tie
 
@@ -59,12 +59,11 @@ loop-again c =
 
 returns-3 : tie.Need-returns-3 Inv-loop μ-loop
 returns-3 c =
-    name-wide (now (c .before .before .before .before .before .before .args .s))
+    name-end (now (c .before .before .before .before .before .before .args .s))
     (now (c .before .before .before .before .before .before .args .w)) (c .before .before .before .loop .k)
-    (c .before .before .before .loop .i) (c .before .before .unit-of .ensures) (c .enum-told .given .1) (omega (
-      arith,
-      c .before .before .before .before .shared-slice-known2 .given (c .before .before .before .loop .i),
-    ))
+    (c .before .before .before .loop .i) (c .before .before .unit-of .ensures)
+    (content-close (now (c .before .before .before .before .before .before .args .s))
+    (c .before .before .before .loop .k) (c .before .before .unit-of .ensures) (c .enum-told .given .1))
     ∙ c .before .before .before .loop .inv
 
 returns-4 : tie.Need-returns-4 Inv-loop μ-loop
@@ -72,17 +71,8 @@ returns-4 c =
     name-end (now (c .before .before .before .before .before .before .args .s))
     (now (c .before .before .before .before .before .before .args .w)) (c .before .before .before .loop .k)
     (c .before .before .before .loop .i) (c .before .before .unit-of .ensures)
-    (content-close (now (c .before .before .before .before .before .before .args .s))
-    (c .before .before .before .loop .k) (c .before .before .unit-of .ensures) (c .enum-told2 .given .1))
-    ∙ c .before .before .before .loop .inv
-
-returns-5 : tie.Need-returns-5 Inv-loop μ-loop
-returns-5 c =
-    name-end (now (c .before .before .before .before .before .before .args .s))
-    (now (c .before .before .before .before .before .before .args .w)) (c .before .before .before .loop .k)
-    (c .before .before .before .loop .i) (c .before .before .unit-of .ensures)
     (content-ill (now (c .before .before .before .before .before .before .args .s))
-    (c .before .before .before .loop .k) (c .before .before .unit-of .ensures) (c .enum-told3 .given .1))
+    (c .before .before .before .loop .k) (c .before .before .unit-of .ensures) (c .enum-told2 .given .1))
     ∙ c .before .before .before .loop .inv
 
 pub holds-spec : {M : Type 1} → statement M
@@ -104,6 +94,4 @@ holds-spec =
     (λ c. search needs)
     returns-3
     (λ c. search needs)
-    returns-4
-    (λ c. search needs)
-    returns-5)
+    returns-4)

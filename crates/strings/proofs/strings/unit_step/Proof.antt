@@ -16,10 +16,6 @@ enum-known-k-2 : tie.Need-enum-known-k-2
 unfolding unitStep
 enum-known-k-2 c = search needs
 
-enum-known-k-3 : tie.Need-enum-known-k-3
-unfolding unitStep
-enum-known-k-3 c = search needs
-
 enum-told : tie.Need-enum-told
 unfolding unitStep
 enum-told c = search needs
@@ -34,11 +30,7 @@ returns-2 c = ap stepOf (sym (c .before .k2 .given .1) ∙ c .before .before .be
 
 returns-3 : tie.Need-returns-3
 unfolding unitStep
-returns-3 c = ap stepOf (sym (c .before .k3 .given .1) ∙ c .before .before .before .unit-of .ensures)
-
-returns-4 : tie.Need-returns-4
-unfolding unitStep
-returns-4 c = ap stepOf (sym (c .enum-told .given .1) ∙ c .before .before .unit-of .ensures)
+returns-3 c = ap stepOf (sym (c .enum-told .given .1) ∙ c .before .before .unit-of .ensures)
 
 pub unit-step-spec : {M : Type 1} → statement M
 unit-step-spec =
@@ -47,9 +39,7 @@ unit-step-spec =
     unit-of-requires
     enum-known-k
     enum-known-k-2
-    enum-known-k-3
     enum-told
     returns
     returns-2
-    returns-3
-    returns-4)
+    returns-3)
