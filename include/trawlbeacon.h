@@ -747,8 +747,8 @@ struct tb_records {
 /* Reads a text into records, and writes these: TB_RECORD_LENGTH bytes each, as many as are told.
  * The codes are 24, 25 and 19.
  *   24: the text is not JSON (RFC 8259): not UTF-8, with a byte order mark, with more than blanks
- *       behind its value, or nested deeper than 16, the outermost counted; a needed member is
- *       missing, repeated or of the wrong kind; a string is not base64 (RFC 4648, section 4: its
+ *       behind its value, or with more than 16 objects and arrays one within another; a needed
+ *       member is missing, repeated or of the wrong kind; a string is not base64 (RFC 4648, 4: its
  *       padding left out, spare bits that are not zero and line breaks too); or a key or a rand is
  *       not 32 bytes. It is judged for every entry before 25 is, past the 16th too.
  *   25: there is no entry or more than 16, or a packet has more than 2,000 bytes.
