@@ -53,8 +53,8 @@ extern "C" {
 #endif
 
 /* The version of this header: a change of the first number breaks callers. */
-#define TB_VERSION_MAJOR 0
-#define TB_VERSION_MINOR 15
+#define TB_VERSION_MAJOR 1
+#define TB_VERSION_MINOR 0
 
 /* ---- Codes ---- */
 
@@ -464,11 +464,21 @@ struct tb_verdict tb_check_signed(const uint8_t key[32], const uint8_t *request,
  * tb_judged; of a refused one the answer is no at every time. */
 bool tb_may_use(uint32_t code, uint64_t maxt, uint64_t time);
 
-/* Whether two answers come from one delegation: both codes are 0, and the keys are equal. code and
- * pubk are those of a tb_verdict or a tb_judged; refused ones have equal keys, zeros, and come from
- * none. */
-bool tb_same_delegation(uint32_t first_code, const uint8_t first_pubk[32], uint32_t second_code,
-                        const uint8_t second_pubk[32]);
+/* What the function below calls, with the fields of two answers one by one: call that instead. */
+bool tb_same_delegation_fields(uint32_t first_code, const uint8_t first_pubk[32],
+                               uint64_t first_mint, uint64_t first_maxt, uint32_t second_code,
+                               const uint8_t second_pubk[32], uint64_t second_mint,
+                               uint64_t second_maxt);
+
+/* Whether two answers come from one delegation: both codes are 0, and pubk, mint and maxt, which is
+ * all that DELE holds (draft 19, 5.2.6), are equal. Refused answers have equal fields, zeros, and
+ * come from none. Which long-term key signed a DELE does not stand in an answer: that both were
+ * checked under one is the caller's to compare, too. tb_verdict_of takes what was said of a record
+ * of a pile. */
+static inline bool tb_same_delegation(struct tb_verdict first, struct tb_verdict second) {
+    return tb_same_delegation_fields(first.code, first.pubk, first.mint, first.maxt, second.code,
+                                     second.pubk, second.mint, second.maxt);
+}
 
 /* ---- Trees ----
  *
@@ -628,6 +638,22 @@ struct tb_judged {
     uint64_t maxt;
     uint8_t pubk[32];
 };
+
+/* The same without the place, as tb_check_response tells it, for what is asked of answers that were
+ * kept. */
+static inline struct tb_verdict tb_verdict_of(struct tb_judged judged) {
+    struct tb_verdict verdict;
+    verdict.code = judged.code;
+    verdict.radi = judged.radi;
+    verdict.at = judged.at;
+    verdict.midp = judged.midp;
+    verdict.low = judged.low;
+    verdict.high = judged.high;
+    verdict.mint = judged.mint;
+    verdict.maxt = judged.maxt;
+    for (int i = 0; i < 32; i++) verdict.pubk[i] = judged.pubk[i];
+    return verdict;
+}
 
 /* Judges the record at a place. Links and rands play no part. The codes are 15, also where there is
  * no such record, 16, 14 and 1 to 13. */

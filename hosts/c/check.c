@@ -585,8 +585,9 @@ static void expect_old_windows(void) {
 }
 
 /* Document 01's fifth example: what four records say of the time. The last contradicts the two
- * before it, and the run is 2 to 3. The first and the third come from one delegation, by their
- * keys; the last one's key is zeros, as the one that stands beside a refusal. */
+ * before it, and the run is 2 to 3. The first and the third have one key, and come from two
+ * delegations, by their times; the last one's key is zeros, as the one that stands beside a
+ * refusal. */
 enum { RECORDS = 4, PILE_LENGTH = RECORDS * TB_RECORD_LENGTH };
 static const struct tb_verdict TIMES[RECORDS] = {
     {0, 10, 0, 1000, 990, 1010, 0, 2000, {1}},
@@ -720,6 +721,33 @@ static void expect_records(const uint8_t *pile) {
                   0);
 }
 
+/* Whether a valid answer comes from one delegation with itself, and with itself where something of
+ * it is another: of what DELE holds, of the window, or a refusal. */
+static void expect_delegation(struct tb_verdict is) {
+    struct tb_verdict other = is;
+    other.radi++, other.midp++, other.low++, other.high++;
+    expect_number("tb_same_delegation of two windows", tb_same_delegation(is, other), 1);
+    for (size_t i = 0; i < sizeof other.pubk; i++) {
+        other.pubk[i] ^= 1;
+        expect_number("tb_same_delegation with another PUBK", tb_same_delegation(is, other), 0);
+        other.pubk[i] ^= 1;
+    }
+    for (unsigned bit = 0; bit < 64; bit++) {
+        other.mint ^= UINT64_C(1) << bit;
+        expect_number("tb_same_delegation with another MINT", tb_same_delegation(is, other), 0);
+        expect_number("tb_same_delegation of another MINT", tb_same_delegation(other, is), 0);
+        other.mint = is.mint;
+        other.maxt ^= UINT64_C(1) << bit;
+        expect_number("tb_same_delegation with another MAXT", tb_same_delegation(is, other), 0);
+        expect_number("tb_same_delegation of another MAXT", tb_same_delegation(other, is), 0);
+        other.maxt = is.maxt;
+    }
+    other.code = 13;
+    expect_number("tb_same_delegation of a refused answer", tb_same_delegation(is, other), 0);
+    expect_number("tb_same_delegation after a refused answer", tb_same_delegation(other, is), 0);
+    expect_number("tb_same_delegation of two refused", tb_same_delegation(other, other), 0);
+}
+
 /* Until when each of the four windows may be used, and which two come from one delegation; a
  * refused answer, with the same key and MAXT in its place, is never used and comes from none. */
 static void expect_reuse(const uint8_t *pile) {
@@ -732,21 +760,18 @@ static void expect_reuse(const uint8_t *pile) {
         if (is.maxt < UINT64_MAX)
             expect_number("tb_may_use past MAXT", tb_may_use(is.code, is.maxt, is.maxt + 1), 0);
         expect_number("tb_may_use of a refused answer", tb_may_use(13, is.maxt, 0), 0);
+        expect_verdict("tb_verdict_of", tb_verdict_of(is), TIMES[k]);
+        expect_delegation(tb_verdict_of(is));
         for (size_t i = 0; i < RECORDS; i++) {
             struct tb_judged other = tb_judge(pile, PILE_LENGTH, YES, 2 * RECORDS, i);
-            bool one = i == k || i + k == 2;
             expect_number("tb_same_delegation",
-                          tb_same_delegation(is.code, is.pubk, other.code, other.pubk), one);
-            expect_number("tb_same_delegation of a refused answer",
-                          tb_same_delegation(is.code, is.pubk, 13, is.pubk), 0);
-            expect_number("tb_same_delegation after a refused answer",
-                          tb_same_delegation(12, is.pubk, other.code, is.pubk), 0);
+                          tb_same_delegation(tb_verdict_of(is), tb_verdict_of(other)), i == k);
         }
     }
-    struct tb_judged refused = tb_judge(pile, PILE_LENGTH, YES, 2 * RECORDS, RECORDS);
+    struct tb_judged none = tb_judge(pile, PILE_LENGTH, YES, 2 * RECORDS, RECORDS);
+    struct tb_verdict refused = tb_verdict_of(none);
     expect_number("tb_may_use of no record", tb_may_use(refused.code, refused.maxt, 0), 0);
-    expect_number("tb_same_delegation of no record",
-                  tb_same_delegation(refused.code, refused.pubk, refused.code, refused.pubk), 0);
+    expect_number("tb_same_delegation of no record", tb_same_delegation(refused, refused), 0);
 }
 
 /* Windows of document 01's examples 1 to 7, in the order in which they were told, and whether some

@@ -52,10 +52,14 @@ pub fn usable(answer: &Result<Valid, Refusal>, second: u64) -> bool {
     }
 }
 
-/// Whether two answers were both signed under one delegated key.
-pub fn one_key(answer: &Result<Valid, Refusal>, other: &Result<Valid, Refusal>) -> bool {
-    let keys = [answer, other].map(|answer| answer.ok().map(|valid| valid.pubk));
-    keys[0].is_some() && keys[0] == keys[1]
+/// Whether two answers come from one delegation: neither was refused, and what their DELE hold, PUBK,
+/// MINT and MAXT (draft 19, section 5.2.6), is the same.
+pub fn one_delegation(answer: &Result<Valid, Refusal>, other: &Result<Valid, Refusal>) -> bool {
+    let dele = |Valid { window, pubk }: Valid| (pubk, window.mint, window.maxt);
+    match (answer, other) {
+        (Ok(valid), Ok(other)) => dele(*valid) == dele(*other),
+        _ => false,
+    }
 }
 
 /// What `response_packet` tells, where it is a valid answer to `request_packet`.
@@ -143,19 +147,29 @@ mod tests {
     }
 
     #[test]
-    fn one_key_signs_two_answers_where_both_are_valid() {
+    fn two_valid_answers_come_from_one_delegation_where_dele_is_the_same() {
         let (request, mut response) = pair();
         let told = |response: &Pieces, signature| {
             check(&request, &response.clone().packet(), true, signature)
         };
         let (first, refused) = (told(&response, true), told(&response, false));
-        assert!(one_key(&first, &first));
-        assert!(!one_key(&first, &refused) && !one_key(&refused, &first));
-        assert!(!one_key(&refused, &refused));
-        put(&mut response.dele, MAXT, &300u64.to_le_bytes());
-        assert!(one_key(&first, &told(&response, true)));
-        put(&mut response.dele, PUBK, &[16; 32]);
-        assert!(!one_key(&first, &told(&response, true)));
+        assert!(one_delegation(&first, &first));
+        assert!(!one_delegation(&first, &refused) && !one_delegation(&refused, &first));
+        assert!(!one_delegation(&refused, &refused));
+        put(&mut response.srep, RADI, &7u32.to_le_bytes());
+        assert!(one_delegation(&first, &told(&response, true)));
+        let dele = response.dele.clone();
+        let others = [
+            (PUBK, [16; 32].to_vec()),
+            (MINT, 200u64.to_le_bytes().to_vec()),
+            (MAXT, 300u64.to_le_bytes().to_vec()),
+        ];
+        for (tag, value) in others {
+            put(&mut response.dele, tag, &value);
+            let other = told(&response, true);
+            assert!(other.is_ok() && !one_delegation(&first, &other));
+            response.dele = dele.clone();
+        }
     }
 
     #[test]

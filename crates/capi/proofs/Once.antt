@@ -67,8 +67,8 @@ use Rattle.capi.proofs.judging.tb_check_response.Kinds as tb-check-resp
 use Rattle.capi.proofs.judging.tb_check_response.Reads as tb-check-response-reads
 use Rattle.capi.proofs.reusing.tb_may_use.Kinds as tb-may-use-kinds
 use Rattle.capi.proofs.reusing.tb_may_use.Reads as tb-may-use-reads
-use Rattle.capi.proofs.reusing.tb_same_delegation.Kinds as tb-same-delegation-kinds
-use Rattle.capi.proofs.reusing.tb_same_delegation.Reads as tb-same-delegation-reads
+use Rattle.capi.proofs.reusing.tb_same_delegation_fields.Kinds as tb-same-delegation-fields-kinds
+use Rattle.capi.proofs.reusing.tb_same_delegation_fields.Reads as tb-same-delegation-fields-reads
 use Rattle.capi.proofs.finding.tb_find_server.Kinds as tb-find-server-kinds
 use Rattle.capi.proofs.finding.tb_find_server.Reads as tb-find-server-reads
 use Rattle.capi.proofs.stamping.tb_old_window.Kinds as tb-old-window-kinds
@@ -209,9 +209,9 @@ tb-check-response-once κs a x u y v p q = (p ∙ sym q, refl)
 pub tb-may-use-once : Settles tb-may-use-kinds.ps tb-may-use-kinds.r tb-may-use-reads.Learnt
 tb-may-use-once κs a x u y v p q = (p ∙ sym q, refl)
 
-pub tb-same-delegation-once :
-    Settles tb-same-delegation-kinds.ps tb-same-delegation-kinds.r tb-same-delegation-reads.Learnt
-tb-same-delegation-once κs a x u y v p q = (p ∙ sym q, refl)
+pub tb-same-delegation-fields-once :
+    Settles tb-same-delegation-fields-kinds.ps tb-same-delegation-fields-kinds.r tb-same-delegation-fields-reads.Learnt
+tb-same-delegation-fields-once κs a x u y v p q = (p ∙ sym q, refl)
 
 pub tb-find-server-once : Settles tb-find-server-kinds.ps tb-find-server-kinds.r tb-find-server-reads.Learnt
 tb-find-server-once κs a x u y v p q = (p ∙ sym q, refl)

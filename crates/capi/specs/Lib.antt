@@ -4,5 +4,6 @@ pub mod Building
 pub mod Pieces
 pub mod Piling
 pub mod Publishing
+pub mod Reusing
 pub mod Tallying
 pub mod Walking

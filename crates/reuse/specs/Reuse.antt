@@ -2,15 +2,21 @@
 -- where it is valid, and by what the question reads.
 use Prim.Native.Nat.{ℕ}
 use mathlib.Core.Bool.{Bool, _&&_}
-use mathlib.Core.List.{List}
 use lib.Dec.{eqb, leb}
 use Rattle.laws.specs.Same.{same}
+use Rattle.reuse.specs.declared.Delegation.{Delegation}
 
 -- The window of an answer may still be used at a time: there is a window, and the time is not past MAXT. MAXT itself
 -- counts as not past, since it is the maximum timestamp for which the key is trusted (draft 19, 5.2.6).
 unfoldable pub mayUse : ℕ → ℕ → ℕ → Bool
 mayUse number maxt time = eqb number 0 && leb time maxt
 
--- Two answers come from one delegation: both are valid, and their delegated keys are equal.
-unfoldable pub sameDelegation : ℕ → List ℕ → ℕ → List ℕ → Bool
-sameDelegation first pubk second other = eqb first 0 && (eqb second 0 && same pubk other)
+-- Two DELE hold the same. DELE is a message with the tags PUBK, MINT and MAXT (draft 19, 5.2.6): the key, and the first
+-- and the last second for which it is trusted.
+unfoldable pub sameDele : Delegation → Delegation → Bool
+sameDele dele other =
+    eqb (dele .mint) (other .mint) && (eqb (dele .maxt) (other .maxt) && same (dele .pubk) (other .pubk))
+
+-- Two answers come from one delegation: both are valid, and their DELE hold the same.
+unfoldable pub sameDelegation : ℕ → Delegation → ℕ → Delegation → Bool
+sameDelegation first dele second other = eqb first 0 && (eqb second 0 && sameDele dele other)

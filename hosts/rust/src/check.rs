@@ -87,9 +87,35 @@ pub fn may_use(window: &Window, time: u64) -> bool {
     unsafe { raw::tb_may_use(0, window.maxt, time) }
 }
 
-/// Whether two valid answers come from one delegation: their keys are equal.
+/// Whether two valid answers come from one delegation: PUBK, MINT and MAXT, which is all that DELE
+/// holds (draft 19, 5.2.6), are equal. Which long-term key signed a DELE does not stand in an
+/// answer: that both were checked under one is the caller's to compare, too.
+///
+/// ```
+/// use trawlbeacon::{same_delegation, Checked, Window};
+///
+/// let window = Window { midp: 1000, radi: 10, low: 990, high: 1010, mint: 0, maxt: 2000 };
+/// let first = Checked { window, pubk: [1; 32] };
+/// let later = Window { midp: 1500, low: 1490, high: 1510, ..window };
+/// assert!(same_delegation(&first, &Checked { window: later, ..first }));
+/// // One key, and a delegation that ends at another second.
+/// let longer = Window { maxt: 3000, ..later };
+/// assert!(!same_delegation(&first, &Checked { window: longer, ..first }));
+/// ```
 #[must_use]
 pub fn same_delegation(first: &Checked, second: &Checked) -> bool {
+    let [Window { mint, maxt, .. }, other] = [first.window, second.window];
     // SAFETY: see raw.
-    unsafe { raw::tb_same_delegation(0, &first.pubk, 0, &second.pubk) }
+    unsafe {
+        raw::tb_same_delegation_fields(
+            0,
+            &first.pubk,
+            mint,
+            maxt,
+            0,
+            &second.pubk,
+            other.mint,
+            other.maxt,
+        )
+    }
 }

@@ -466,12 +466,17 @@ extern "C" {
     ) -> tb_verdict;
     /// Whether the window of an answer may still be used at a time.
     pub fn tb_may_use(code: u32, maxt: u64, time: u64) -> bool;
-    /// Whether two answers come from one delegation.
-    pub fn tb_same_delegation(
+    /// Whether two answers come from one delegation: PUBK, MINT and MAXT are compared, and the
+    /// long-term keys are the caller's to compare.
+    pub fn tb_same_delegation_fields(
         first_code: u32,
         first_pubk: &[u8; 32],
+        first_mint: u64,
+        first_maxt: u64,
         second_code: u32,
         second_pubk: &[u8; 32],
+        second_mint: u64,
+        second_maxt: u64,
     ) -> bool;
 
     /// Whether a path leads from a leaf to a root.

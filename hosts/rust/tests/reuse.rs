@@ -2,8 +2,8 @@
 //! implementation: whether a window may still be used, and whether two answers come from one
 //! delegation. Last, that neither when a key may sign nor which it is has a say in what is cut.
 //!
-//! An answer is asked about as C tells it, by its code, MAXT and key, once out of the check of a
-//! response and once out of a pile of one record.
+//! An answer is asked about as C tells it, by its code, MINT, MAXT and key, once out of the check of
+//! a response and once out of a pile of one record.
 
 mod support;
 
@@ -11,7 +11,7 @@ use independent::check::{self, Valid};
 use independent::making::{self, Link, Made};
 use independent::refusal::Refusal;
 use independent::{pile, report};
-use support::packets::number;
+use support::packets::{number, ResponseFields};
 use support::pairs::{Pair, Question, RULES};
 use support::Xorshift;
 use trawlbeacon::{raw, Checked, Record, Window};
@@ -20,8 +20,48 @@ use trawlbeacon::{raw, Checked, Record, Window};
 #[derive(Clone, Copy, Debug, PartialEq, Eq)]
 struct Told {
     code: u32,
-    maxt: u64,
+    dele: Dele,
+}
+
+/// What DELE holds.
+#[derive(Clone, Copy, Debug, PartialEq, Eq)]
+struct Dele {
     pubk: [u8; 32],
+    mint: u64,
+    maxt: u64,
+}
+
+impl Dele {
+    /// Any, with a second before it and one behind it.
+    fn random(random: &mut Xorshift) -> Dele {
+        let mut times = [number(random), number(random)].map(|time| time.clamp(1, u64::MAX - 1));
+        times.sort_unstable();
+        Dele { pubk: random.array(), mint: times[0], maxt: times[1] }
+    }
+
+    fn of(checked: &Checked) -> Dele {
+        Dele { pubk: checked.pubk, mint: checked.window.mint, maxt: checked.window.maxt }
+    }
+
+    /// The same but for one of the three, by one bit or by one second, or for the zeros that stand
+    /// beside a refusal.
+    fn others(self, random: &mut Xorshift) -> [Dele; 6] {
+        let Dele { mut pubk, mint, maxt } = self;
+        pubk[random.below(32)] ^= 1 << random.below(8);
+        [
+            Dele { pubk, ..self },
+            Dele { pubk: [0; 32], ..self },
+            Dele { mint: mint - 1, ..self },
+            Dele { mint: mint & (mint - 1), ..self },
+            Dele { maxt: maxt + 1, ..self },
+            Dele { maxt: maxt | (maxt + 1), ..self },
+        ]
+    }
+
+    /// Which of the three is another's: PUBK, MINT, MAXT.
+    fn differs(&self, other: &Dele) -> [bool; 3] {
+        [self.pubk != other.pubk, self.mint != other.mint, self.maxt != other.maxt]
+    }
 }
 
 /// An answer that was kept, as each side has it, and the fields that it was made of where it is
@@ -45,16 +85,21 @@ fn keep(question: &Question, due: Option<Checked>) -> Kept {
             raw::tb_judge(pile.as_ptr(), pile.len(), answers.as_ptr(), 2, 0),
         )
     };
-    let told = Told { code: verdict.code, maxt: verdict.maxt, pubk: verdict.pubk };
-    assert_eq!(told, Told { code: judged.code, maxt: judged.maxt, pubk: judged.pubk });
+    let (mint, maxt) = (verdict.mint, verdict.maxt);
+    let told = Told { code: verdict.code, dele: Dele { pubk: verdict.pubk, mint, maxt } };
+    let (mint, maxt) = (judged.mint, judged.maxt);
+    let dele = Dele { pubk: judged.pubk, mint, maxt };
+    assert_eq!(told, Told { code: judged.code, dele });
     let independent = check::check(request, response, *delegation, *signature);
     Kept { told, independent, due }
 }
 
-/// An answer to a pair that is valid two times of three, with one of these keys.
-fn any(random: &mut Xorshift, keys: &[[u8; 32]]) -> Kept {
+/// An answer to a pair that is valid two times of three, with one of these delegations.
+fn any(random: &mut Xorshift, delegations: &[Dele]) -> Kept {
     let mut pair = Pair::random(random, 0);
-    pair.response.pubk = random.pick(keys);
+    let Dele { pubk, mint, maxt } = random.pick(delegations);
+    let midp = pair.response.midp.clamp(mint, maxt);
+    pair.response = ResponseFields { pubk, mint, maxt, midp, ..pair.response };
     let valid = !random.once_in(3);
     if !valid {
         let rule = random.pick(&RULES);
@@ -66,7 +111,7 @@ fn any(random: &mut Xorshift, keys: &[[u8; 32]]) -> Kept {
 /// Whether the window may be used, as our two forms and the independent one say it.
 fn usable(kept: &Kept, time: u64) -> bool {
     // SAFETY: no pointer is passed.
-    let ours = unsafe { raw::tb_may_use(kept.told.code, kept.told.maxt, time) };
+    let ours = unsafe { raw::tb_may_use(kept.told.code, kept.told.dele.maxt, time) };
     let due = kept.due.map_or(false, |checked| time <= checked.window.maxt);
     assert_eq!(ours, due, "{:?} at {time}", kept.told);
     assert_eq!(ours, check::usable(&kept.independent, time), "{:?} at {time}", kept.told);
@@ -76,13 +121,31 @@ fn usable(kept: &Kept, time: u64) -> bool {
     ours
 }
 
-fn one_delegation(first: &Kept, second: &Kept) -> bool {
-    let (a, b) = (first.told, second.told);
+/// What C is asked of two answers.
+fn asked(first: &Told, second: &Told) -> bool {
+    let (a, b) = (first.dele, second.dele);
     // SAFETY: the library only reads both keys.
-    let ours = unsafe { raw::tb_same_delegation(a.code, &a.pubk, b.code, &b.pubk) };
+    unsafe {
+        raw::tb_same_delegation_fields(
+            first.code,
+            &a.pubk,
+            a.mint,
+            a.maxt,
+            second.code,
+            &b.pubk,
+            b.mint,
+            b.maxt,
+        )
+    }
+}
+
+fn one_delegation(first: &Kept, second: &Kept) -> bool {
+    let ours = asked(&first.told, &second.told);
     let due = first.due.zip(second.due);
-    assert_eq!(ours, due.map_or(false, |(a, b)| a.pubk == b.pubk), "{a:?} and {b:?}");
-    assert_eq!(ours, check::one_key(&first.independent, &second.independent), "{a:?} and {b:?}");
+    let how = || format!("{:?} and {:?}", first.told, second.told);
+    assert_eq!(ours, due.map_or(false, |(a, b)| Dele::of(&a) == Dele::of(&b)), "{}", how());
+    let theirs = check::one_delegation(&first.independent, &second.independent);
+    assert_eq!(ours, theirs, "{}", how());
     if let Some((first, second)) = due {
         assert_eq!(ours, trawlbeacon::same_delegation(&first, &second));
     }
@@ -94,8 +157,8 @@ fn a_window_may_be_used_up_to_maxt() {
     let mut random = Xorshift::new(0x5eed_0901);
     let (mut asked, mut yes, mut refused) = (0, 0, 0);
     for _ in 0..5_000 {
-        let key = random.array();
-        let kept = any(&mut random, &[key]);
+        let dele = Dele::random(&mut random);
+        let kept = any(&mut random, &[dele]);
         refused += usize::from(kept.due.is_none());
         let Window { midp, low, high, mint, maxt, .. } = kept
             .due
@@ -114,40 +177,47 @@ fn a_window_may_be_used_up_to_maxt() {
     assert!(yes >= 10_000 && asked - yes >= 10_000 && refused >= 1_000);
 }
 
-/// Keys that differ in one bit, the zeros that stand beside a refusal, and others.
+/// Delegations that differ in one bit of one of the three, the zeros that stand beside a refusal,
+/// and others.
 #[test]
 fn two_answers_come_from_one_delegation() {
     let mut random = Xorshift::new(0x5eed_0902);
-    let (mut asked, mut yes) = (0, 0);
+    let (mut asked, mut yes, mut alone) = (0, 0, [0; 3]);
     for _ in 0..300 {
-        let key = random.array();
-        let mut near = key;
-        near[random.below(32)] ^= 1 << random.below(8);
-        let keys = [key, key, near, [0; 32], random.array()];
-        let kept: Vec<Kept> = (0..12).map(|_| any(&mut random, &keys)).collect();
-        for first in &kept {
-            for second in &kept {
-                yes += usize::from(one_delegation(first, second));
-                asked += 1;
+        let dele = Dele::random(&mut random);
+        let other = Dele::random(&mut random);
+        let delegations = [&[dele, dele, dele, other], &dele.others(&mut random)[..]].concat();
+        let kept: Vec<Kept> = (0..12).map(|_| any(&mut random, &delegations)).collect();
+        for (first, second) in kept.iter().flat_map(|one| kept.iter().map(move |two| (one, two))) {
+            yes += usize::from(one_delegation(first, second));
+            asked += 1;
+            let Some((first, second)) = first.due.zip(second.due) else { continue };
+            match Dele::of(&first).differs(&Dele::of(&second)) {
+                [true, false, false] => alone[0] += 1,
+                [false, true, false] => alone[1] += 1,
+                [false, false, true] => alone[2] += 1,
+                _ => (),
             }
         }
     }
     println!("do two answers come from one delegation: {asked} pairs, {yes} times yes");
+    println!("valid pairs that differ in PUBK, MINT or MAXT alone: {alone:?}");
     assert!(yes >= 3_000 && asked - yes >= 3_000);
+    assert!(alone.iter().all(|pairs| *pairs >= 1_000));
 }
 
 /// The codes of a refusal are no answers of a valid one, with whatever key and MAXT beside them.
 #[test]
 fn a_refused_answer_is_never_used() {
     for code in (1..=u32::from(u8::MAX)).chain([256, 1 << 16, 1 << 24, u32::MAX]) {
-        let key = [7; 32];
-        // SAFETY: the library only reads the key.
-        unsafe {
-            assert!(!raw::tb_may_use(code, u64::MAX, 0), "code {code}");
-            assert!(!raw::tb_same_delegation(code, &key, 0, &key), "code {code}");
-            assert!(!raw::tb_same_delegation(0, &key, code, &key), "code {code}");
-            assert!(!raw::tb_same_delegation(code, &key, code, &key), "code {code}");
+        let dele = Dele { pubk: [7; 32], mint: 0, maxt: u64::MAX };
+        let [valid, refused] = [0, code].map(|code| Told { code, dele });
+        // SAFETY: no pointer is passed.
+        assert!(!unsafe { raw::tb_may_use(code, u64::MAX, 0) }, "code {code}");
+        for (first, second) in [(refused, valid), (valid, refused), (refused, refused)] {
+            assert!(!asked(&first, &second), "code {code}");
         }
+        assert!(asked(&valid, &valid));
     }
 }
 

@@ -18,9 +18,10 @@ returns-2 c =
 returns-3 : tie.Need-returns-3
 unfolding sameDelegation
 returns-3 c =
-    let t = c .before .before .before in
+    let t = c .before in
     let a = t .before .before .args in
-    rw (eq-eqb (a .first-code) 0 (t .before .if1 .left), eq-eqb (a .second-code) 0 (t .if2 .left)) (c .equal .ensures)
+    rw (eq-eqb (a .first-code) 0 (t .before .if1 .left), eq-eqb (a .second-code) 0 (t .if2 .left))
+    (c .same-dele .ensures)
 
 pub same-delegation-spec : {M : Type 1} → statement M
 same-delegation-spec =
@@ -28,7 +29,5 @@ same-delegation-spec =
     (tie.spec
     returns
     returns-2
-    (λ c. search needs)
-    (λ c. search needs)
     (λ c κs. search needs)
     returns-3)

@@ -17,7 +17,7 @@ pub const EXPORTS: &[Export] = &[
     export("tb_answers", Verify, 3_000, &[(0, 3)], answers),
     export("tb_check_signed", Verify, 4_000, &[(0, 14)], check_signed),
     export("tb_may_use", Least, 100_000, YES_OR_NO, may_use),
-    export("tb_same_delegation", Least, 100_000, YES_OR_NO, same_delegation),
+    export("tb_same_delegation_fields", Least, 100_000, YES_OR_NO, same_delegation),
 ];
 
 fn read_request(t: &mut Trial) {
@@ -146,11 +146,26 @@ fn same_delegation(t: &mut Trial) {
     let [first_code, second_code] = [0; 2].map(|_| t.make.random.pick(&[0, 0, 0, 7, u32::MAX]));
     let (one, another) = (t.make.array::<32>(), t.make.array::<32>());
     let other = t.make.mostly(&one, &another);
+    let [(mint, other_mint), (maxt, other_maxt)] = [0; 2].map(|_| {
+        let (time, other) = (t.make.number(), t.make.number());
+        (time, t.make.random.pick(&[time, time, time, time ^ 1, other]))
+    });
     let (first, second) =
         (t.read(one), t.read(if other.len() == 32 { other } else { another.into() }));
     t.call(|c| {
         let (first, second) = (c.array(first), c.array(second));
-        let said = unsafe { raw::tb_same_delegation(first_code, first, second_code, second) };
+        let said = unsafe {
+            raw::tb_same_delegation_fields(
+                first_code,
+                first,
+                mint,
+                maxt,
+                second_code,
+                second,
+                other_mint,
+                other_maxt,
+            )
+        };
         Answer::yes_or_no(said)
     });
 }
