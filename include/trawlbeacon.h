@@ -535,10 +535,14 @@ struct tb_placed tb_path_from(const uint8_t *rows, size_t rows_len, size_t count
  * What a server writes, of which the caller makes the two signatures, with an Ed25519 of its own.
  *   1. Once for each delegated key: tb_write_dele; sign TB_DELEGATION_CONTEXT and then those bytes
  *      with the long-term key; tb_write_cert.
- *   2. For each batch of good requests: tb_leaf of each, tb_rows, and the root, which is the last
- *      32 bytes of the rows; tb_write_srep once; sign TB_RESPONSE_CONTEXT and then those bytes with
+ *   2. Of each packet that comes: tb_read_request. What is refused is ignored; so is what names
+ *      another server, that is, has with_srv 1 and an srv that is not tb_srv_value of the long-term
+ *      key (draft 19, 5.2). No writer below looks at that. A server with several long-term keys
+ *      takes the key that srv names, and ignores what has with_srv 0.
+ *   3. For each batch of the others: tb_leaf of each, tb_rows, and the root, which is the last 32
+ *      bytes of the rows; tb_write_srep once; sign TB_RESPONSE_CONTEXT and then those bytes with
  *      the delegated key.
- *   3. For each request: tb_path_from, and tb_write_response.
+ *   4. For each request: tb_path_from, and tb_write_response.
  * One signature serves the whole batch, and each response passes tb_check_response for its own
  * request where the client finds both signatures right. */
 

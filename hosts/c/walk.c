@@ -12,6 +12,7 @@
 
 #include <stdio.h>
 #include <stdlib.h>
+#include <string.h>
 
 enum { SERVERS = 3, RADIUS = 3, LONGEST_DELAY = 5 };
 static const uint8_t KEYS[32 * SERVERS] = {[0] = 1, [32] = 2, [64] = 3};
@@ -21,7 +22,11 @@ static uint64_t now = 1773685571, lag;
  * response's length. */
 static size_t exchange(uint64_t server, const uint8_t *request, uint8_t *response, size_t room) {
     static const uint8_t pubk[32], signature[64];
-    uint8_t cert[TB_CERT_LENGTH] = {0}, root[32] = {0};
+    uint8_t cert[TB_CERT_LENGTH] = {0}, root[32] = {0}, srv[32] = {0};
+    struct tb_request asked = tb_read_request(request, TB_REQUEST_LENGTH);
+    tb_srv_value(KEYS + 32 * server, srv);
+    if (asked.code != TB_PASSED || (asked.with_srv && memcmp(asked.srv, srv, 32) != 0))
+        return 0; /* a server ignores what is no request, or names another */
     uint64_t time = ++now - (server == SERVERS - 1 ? lag : 0);
     tb_write_cert(pubk, 0, UINT64_MAX, signature, cert, sizeof cert);
     tb_leaf(request, TB_REQUEST_LENGTH, root);

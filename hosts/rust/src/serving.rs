@@ -82,6 +82,10 @@ pub fn write_srep(root: &Hash, midp: u64, radi: u32, out: &mut [u8]) -> Result<u
 /// [`response_length`] of its path and CERT. What follows them stays. The refusals are 14; 7, where
 /// RADI is 0; 4 to 7 of CERT, then of its DELE; 10; 11; 23; 19; and then all of `out` stays. A place
 /// is one in the value of CERT, counted from its first byte; a RADI of 0 has none.
+///
+/// Whether the request is meant for this server is not looked at: one that names another, by an SRV
+/// that is not [`srv_value`](crate::srv_value) of the long-term key, a server must ignore (draft 19,
+/// 5.2). [`read_request`](crate::read_request) has its SRV.
 pub fn write_response(reply: &Reply, out: &mut [u8]) -> Result<usize, PacketRefusal> {
     let Reply { request, indx, root, path, midp, radi, cert, signature } = *reply;
     // SAFETY: see raw.

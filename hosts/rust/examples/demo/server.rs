@@ -2,7 +2,7 @@
 
 use super::keys::TestSigner;
 use super::running::{self, Running};
-use super::serving::{Batch, Delegated};
+use super::serving::{is_meant, Batch, Delegated};
 use std::io;
 use std::net::{SocketAddr, UdpSocket};
 use std::sync::atomic::{AtomicU64, Ordering};
@@ -101,7 +101,7 @@ impl Post {
         let _ = self.socket.set_nonblocking(true);
         while let Ok((length, from)) = next {
             received += 1;
-            if self.is_ours(&packet[..length]) {
+            if is_meant(&packet[..length], &self.srv) {
                 asked.push(Asked { from, packet: packet[..length].to_vec() });
             }
             if received == MOST_LEAVES {
@@ -111,12 +111,6 @@ impl Post {
         }
         let _ = self.socket.set_nonblocking(false);
         (asked, received)
-    }
-
-    /// Whether this is a good request, and names no other server (draft 19, section 5.2).
-    fn is_ours(&self, packet: &[u8]) -> bool {
-        trawlbeacon::read_request(packet)
-            .map_or(false, |request| request.srv.map_or(true, |srv| srv == self.srv))
     }
 
     /// Signs once and answers each, but where the answer would be longer than its request. Tells

@@ -2,10 +2,10 @@
 //!
 //!     cargo run --release -p trawlbeacon --features openssl --example server [TIME]
 //!
-//! delegates a key, takes 900 requests into one batch, signs once, writes a response to each
-//! request, and then does what 900 clients do: each verifies both signatures and checks the
-//! response against its own request. TIME is in seconds since 1970; without it the clock of the
-//! machine is asked.
+//! delegates a key, looks which of 1,000 packets are requests to it, takes these 900 into one batch,
+//! signs once, writes a response to each, and then does what 900 clients do: each verifies both
+//! signatures and checks the response against its own request. TIME is in seconds since 1970;
+//! without it the clock of the machine is asked.
 //!
 //! A server would keep its long-term key on another machine, which only ever signs DELE, would take
 //! random seeds for both keys, and would take requests and send responses over UDP.
@@ -18,14 +18,15 @@ mod serving;
 #[path = "../../tests/openssl/signer.rs"]
 mod signer;
 
-use serving::{Batch, Delegated, Sign};
+use serving::{is_meant, Batch, Delegated, Sign};
 use signer::Signer;
 use std::process::ExitCode;
 use std::time::{SystemTime, UNIX_EPOCH};
 use trawlbeacon::{Checked, PacketRefusal, LONGEST_PACKET, LONGEST_TEXT, REQUEST_LENGTH};
 
-/// How many requests one batch has.
+/// How many requests one batch has, and how many others come with them.
 const BATCH: usize = 900;
+const OTHERS: usize = 100;
 
 /// How long a delegated key may sign, in seconds.
 const DAY: u64 = 86_400;
@@ -40,15 +41,17 @@ impl Sign for Signer {
     }
 }
 
-/// Requests from so many clients to the server with this long-term key.
-fn requests(key: &[u8; 32]) -> Result<Vec<Vec<u8>>, PacketRefusal> {
+/// What arrives at the server with this long-term key: requests to it, and every tenth to another.
+fn packets(key: &[u8; 32]) -> Result<Vec<Vec<u8>>, PacketRefusal> {
+    let another = [3; 32];
     let request = |client: usize| {
+        let key = if client % 10 == 0 { &another } else { key };
         let nonce = trawlbeacon::leaf(&client.to_le_bytes());
         let mut request = vec![0; REQUEST_LENGTH];
         trawlbeacon::write_request(key, &nonce, &mut request)?;
         Ok(request)
     };
-    (0..BATCH).map(request).collect()
+    (0..BATCH + OTHERS).map(request).collect()
 }
 
 /// What a client learns from a response to its request, from the server with this long-term key.
@@ -62,12 +65,15 @@ fn check(key: &[u8; 32], request: &[u8], response: &[u8]) -> Result<Checked, Pac
     trawlbeacon::check_response(request, response, delegation, signature)
 }
 
-/// Serves 900 requests at this second, with one signature, and says what their clients learnt.
+/// Serves the requests to it at this second, with one signature, and says what their clients learnt.
 fn serve(now: u64) -> Result<String, PacketRefusal> {
     let long_term = Signer::new(&[1; 32]);
     let (key, times) = (long_term.key(), (now, now.saturating_add(DAY)));
     let delegated = Delegated::new(&long_term, Signer::new(&[2; 32]), times)?;
-    let requests = requests(&key)?;
+    let srv = trawlbeacon::srv_value(&key);
+    // What names another server is not for this one to answer (draft 19, section 5.2).
+    let requests: Vec<Vec<u8>> =
+        packets(&key)?.into_iter().filter(|packet| is_meant(packet, &srv)).collect();
     let batch = Batch::sign(&delegated, now, requests.iter().map(Vec::as_slice))?;
     let (mut response, mut learnt) = ([0; LONGEST_PACKET], Vec::new());
     for (place, request) in requests.iter().enumerate() {
@@ -76,8 +82,8 @@ fn serve(now: u64) -> Result<String, PacketRefusal> {
     }
     learnt.dedup();
     let [(bytes, window)] = learnt[..] else { panic!("one SREP has one window") };
-    let (low, high) = (window.low, window.high);
-    Ok(format!("{BATCH} responses of {bytes} bytes are valid: the time is from {low} to {high}"))
+    let (count, low, high) = (requests.len(), window.low, window.high);
+    Ok(format!("{count} responses of {bytes} bytes are valid: the time is from {low} to {high}"))
 }
 
 /// The second that the argument names, or that it is now.

@@ -3,6 +3,8 @@
 
 mod batch;
 mod delegation;
+mod meant;
 
 pub use batch::Batch;
 pub use delegation::{Delegated, Sign};
+pub use meant::is_meant;
