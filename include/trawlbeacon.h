@@ -834,7 +834,18 @@ struct tb_forwarded tb_cut_signed_text(const uint8_t *text, size_t text_len, uin
  * order again. The walk says whom to ask and what, takes each response, writes its record, and
  * after the last says whether the servers contradict each other:
  *
- *     start; then, until the walk has ended: ask, send the request, receive, take.
+ *     struct tb_took took = {0};
+ *     uint32_t code = tb_walk_start(&walk, ..);
+ *     while (code == TB_PASSED) {
+ *         struct tb_asked asked = tb_walk_ask(&walk, request, sizeof request);
+ *         code = asked.code;                       TB_ENDED, once the walk has ended
+ *         if (code != TB_PASSED) break;
+ *         send request to asked.server, and receive the response;
+ *         took = tb_walk_take_signed(&walk, ..);   where it is refused: wait, and ask again
+ *     }
+ *
+ * The loop goes by the code of tb_walk_ask, so that it ends, too, for a walk that had ended before
+ * it, as one that was kept: took.outcome is then still TB_NOTHING_SAID.
  *
  * tb_walk_take_signed verifies the two signatures of a response by itself, under the key of the
  * server that was asked. tb_walk_take is for a caller with an Ed25519 of its own.
@@ -878,17 +889,19 @@ struct tb_asked {
 
 /* How the walk stands once a response is taken: it goes on; or it has ended, and the servers'
  * answers are consistent, or some two contradict each other; or the pile is not what it wrote,
- * since the buffer was altered, and then nothing is said of the servers. */
+ * since the buffer was altered, and then nothing is said of the servers. Where a response is
+ * refused, also since the walk has ended, nothing is said of the walk. */
 enum tb_outcome {
-    TB_GOES_ON = 0,
-    TB_CONSISTENT = 1,
-    TB_MALFEASANCE = 2,
-    TB_PILE_ALTERED = 3
+    TB_NOTHING_SAID = 0,
+    TB_GOES_ON = 1,
+    TB_CONSISTENT = 2,
+    TB_MALFEASANCE = 3,
+    TB_PILE_ALTERED = 4
 };
 
-/* What is said of a response: a code, or how the walk stands. first and second are the places of
- * two records that contradict each other, as tb_check_report names them, on TB_MALFEASANCE only. at
- * is a byte of the response packet. */
+/* What is said of a response: a code, beside which the outcome is TB_NOTHING_SAID, or how the walk
+ * stands. first and second are the places of two records that contradict each other, as
+ * tb_check_report names them, on TB_MALFEASANCE only. at is a byte of the response packet. */
 struct tb_took {
     uint32_t code;
     uint32_t outcome;

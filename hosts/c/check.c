@@ -1213,6 +1213,30 @@ static void start_walk(struct tb_walk *walk, size_t servers) {
     expect_bytes("a pile at the start", walk_pile, walk_should, sizeof walk_pile);
 }
 
+/* How often a host that goes on with an ended walk asks or takes before its loop ends: one that
+ * goes by the code of tb_walk_ask not once, one that goes by the outcome once. */
+static void expect_loops_end(struct tb_walk *walk) {
+    enum { MANY = 10 };
+    uint8_t request[TB_REQUEST_LENGTH] = {0};
+    const uint8_t rand[32] = {9};
+    struct tb_took took = {.outcome = TB_NOTHING_SAID};
+    uint32_t code = TB_PASSED;
+    int turns = 0;
+    while (turns < MANY) {
+        code = tb_walk_ask(walk, request, sizeof request).code;
+        if (code != TB_PASSED) break;
+        turns++;
+    }
+    expect_number("turns of a loop over an ended walk", (uint64_t)turns, 0);
+    expect_number("the code of a loop over an ended walk", code, TB_ENDED);
+    for (took.outcome = TB_GOES_ON; took.outcome == TB_GOES_ON && turns < MANY; turns++)
+        took = tb_walk_take_signed(walk, 0, 0, rand, RESPONSE, RESPONSE_LENGTH, walk_pile,
+                                   sizeof walk_pile);
+    expect_number("turns of a loop by the outcome", (uint64_t)turns, 1);
+    expect_number("the code of a loop by the outcome", took.code, TB_ENDED);
+    expect_number("the outcome beside a refusal", took.outcome, TB_NOTHING_SAID);
+}
+
 /* A walk whose last server lags behind by so much at its last answer, and whose pile is altered
  * before that, or not. */
 static void expect_walk(size_t servers, uint64_t lag, bool altered, struct tb_took end) {
@@ -1229,6 +1253,7 @@ static void expect_walk(size_t servers, uint64_t lag, bool altered, struct tb_to
     expect_took("the end of a walk", expect_step(&walk, last, late), end);
     expect_untaken("a walk that has ended", &walk, 0, 1, 0, walk_pile, 0, 0, TB_ENDED, 0);
     expect_number("a walk that has ended", tb_walk_ask(&walk, run, 0).code, TB_ENDED);
+    expect_loops_end(&walk);
     if (altered) return;
     bool lied = end.outcome == TB_MALFEASANCE;
     expect_reported("the report of a walk", tb_check_report(walk_pile, room, YES, 4 * servers),

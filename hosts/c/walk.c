@@ -40,19 +40,23 @@ int main(int argc, char **argv) {
         response[TB_LONGEST_PACKET + 1];
     const uint8_t nonce[32] = {4}, rand[32] = {5};
     struct tb_walk walk = {{0}, 0, 0, {0}, {0}, 0, 0};
-    struct tb_took took = {0, TB_GOES_ON, 0, 0, 0};
+    struct tb_took took = {0, TB_NOTHING_SAID, 0, 0, 0};
     lag = argc > 1 ? strtoull(argv[1], NULL, 10) : 0;
 
-    took.code = tb_walk_start(&walk, KEYS, sizeof KEYS, nonce, LONGEST_DELAY, pile, sizeof pile);
-    while (took.code == TB_PASSED && took.outcome == TB_GOES_ON) {
+    uint32_t code =
+        tb_walk_start(&walk, KEYS, sizeof KEYS, nonce, LONGEST_DELAY, pile, sizeof pile);
+    while (code == TB_PASSED) {
         struct tb_asked asked = tb_walk_ask(&walk, request, sizeof request);
+        code = asked.code; /* TB_ENDED, once the walk has ended */
+        if (code != TB_PASSED) break;
         uint64_t sent = now;
         size_t n = exchange(asked.server, request, response, sizeof response);
         took = tb_walk_take(&walk, 1, 1, sent, now, rand, response, n, pile, sizeof pile);
+        code = took.code; /* a console would wait, and ask the same again */
     }
 
-    if (took.code != TB_PASSED)
-        printf("refused with code %u: %s\n", (unsigned)took.code, tb_code_text(took.code));
+    if (code != TB_ENDED)
+        printf("refused with code %u: %s\n", (unsigned)code, tb_code_text(code));
     else if (took.outcome == TB_MALFEASANCE)
         printf("malfeasance: records %u and %u contradict each other\n", (unsigned)took.first,
                (unsigned)took.second);
@@ -60,5 +64,5 @@ int main(int argc, char **argv) {
         printf("consistent\n");
     else
         printf("the pile was altered\n");
-    return took.code == TB_PASSED ? 0 : 1;
+    return code == TB_ENDED ? 0 : 1;
 }

@@ -20,12 +20,13 @@ pub fn asked_told(a: Asked) -> TbAsked
     }
 }
 
-// The answer on a response, as a struct.
+// The answer on a response, as a struct. Beside a refusal nothing is said of the walk, which is 0: no number that stands
+// beside a refusal reads as "go on".
 pub fn took_told(s: Said) -> TbTook
     ensures { λ r. ⌜ r ≡ tbTook s ⌝ }
 {
     match s {
-        Said::Next => stands_at(0),
+        Said::Next => stands_at(1),
         Said::Ended(r) => end_told(r),
         Said::Refused(why) => TbTook {
             code: why.code as u32,
@@ -44,15 +45,15 @@ fn end_told(r: Report) -> TbTook
     match r {
         Report::Pair(i, j) => TbTook {
             code: 0,
-            outcome: 2,
+            outcome: 3,
             at: 0,
             first: i as u64,
             second: j as u64,
         },
-        Report::Clear => stands_at(1),
-        Report::Bad => stands_at(3),
-        Report::Record(_, _) => stands_at(3),
-        Report::Unlinked(_) => stands_at(3),
+        Report::Clear => stands_at(2),
+        Report::Bad => stands_at(4),
+        Report::Record(_, _) => stands_at(4),
+        Report::Unlinked(_) => stands_at(4),
     }
 }
 

@@ -294,14 +294,24 @@ pub struct tb_asked {
     pub nonce: [u8; 32],
 }
 
+/// How a walk stands: nothing is said of it, since the response was refused.
+pub const TB_NOTHING_SAID: u32 = 0;
+/// It goes on.
+pub const TB_GOES_ON: u32 = 1;
+/// It has ended, and the servers' answers are consistent.
+pub const TB_CONSISTENT: u32 = 2;
+/// It has ended, and two of its records contradict each other.
+pub const TB_MALFEASANCE: u32 = 3;
+/// It has ended, and its pile was altered.
+pub const TB_PILE_ALTERED: u32 = 4;
+
 /// What [`tb_walk_take_fields`] and [`tb_walk_take_signed_fields`] answer.
 #[repr(C)]
 #[derive(Clone, Copy, Debug, PartialEq, Eq)]
 pub struct tb_took {
     /// 0, or a refusal; then all else but `at` is 0.
     pub code: u32,
-    /// How the walk stands: 0 it goes on, 1 it ended consistent, 2 in malfeasance, 3 its pile was
-    /// altered.
+    /// How the walk stands: [`TB_NOTHING_SAID`] beside a refusal, else one of the four after it.
     pub outcome: u32,
     /// The byte of the response at which it is bad, with codes 4 to 7; else 0.
     pub at: u64,

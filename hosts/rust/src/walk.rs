@@ -85,6 +85,8 @@ pub enum Outcome {
 ///     }
 /// }
 /// assert_eq!(outcome, Outcome::Consistent);
+/// // A walk that has ended asks nothing more, so that the same loop ends for it, too.
+/// assert_eq!(walk.ask(), Err(trawlbeacon::Refusal::Ended));
 /// # assert_eq!(walk.pile().len(), 6 * trawlbeacon::RECORD_LENGTH);
 /// # Ok::<(), trawlbeacon::PacketRefusal>(())
 /// ```
@@ -343,9 +345,9 @@ fn outcome(took: tb_took) -> Result<Outcome, PacketRefusal> {
     PacketRefusal::check(took.code, took.at)?;
     // A pair is of two records of the pile, so that nothing is lost.
     Ok(match took.outcome {
-        0 => Outcome::GoesOn,
-        1 => Outcome::Consistent,
-        2 => {
+        raw::TB_GOES_ON => Outcome::GoesOn,
+        raw::TB_CONSISTENT => Outcome::Consistent,
+        raw::TB_MALFEASANCE => {
             Outcome::Malfeasance(Pair { first: took.first as usize, second: took.second as usize })
         }
         _ => Outcome::PileAltered,

@@ -17,7 +17,7 @@ use support::signing::{Forgery, Servers, FORGERIES};
 use support::tally::Tally;
 use support::walks::{self, Between, Story, Window, FAULTS};
 use support::{counted, shortest, Xorshift};
-use trawlbeacon::raw::{tb_took, tb_walk};
+use trawlbeacon::raw::{self, tb_took, tb_walk};
 use trawlbeacon::{Answers, Outcome, Pair, Walk};
 
 const WALKS: usize = 300;
@@ -35,8 +35,6 @@ const TAKES: &str = "take";
 const ROOM: u32 = 19;
 const CLOCK: u32 = 26;
 const DELAY: u32 = 27;
-
-const NONE: tb_took = tb_took { code: 0, outcome: 0, at: 0, first: 0, second: 0 };
 
 /// What a call answered and left.
 #[derive(Clone, Debug, PartialEq)]
@@ -70,10 +68,12 @@ fn safe_is(left: &Left, state: &tb_walk, pile: &[u8], arrived: &Arrived) -> bool
     let pair = Pair { first: first as usize, second: second as usize };
     let same = match said {
         Err(why) => (why.code(), why.at.unwrap_or(0) as u64) == (code, at),
-        Ok(Outcome::GoesOn) => (code, outcome) == (0, 0),
-        Ok(Outcome::Consistent) => (code, outcome) == (0, 1),
-        Ok(Outcome::Malfeasance(named)) => (code, outcome) == (0, 2) && named == pair,
-        Ok(Outcome::PileAltered) => (code, outcome) == (0, 3),
+        Ok(Outcome::GoesOn) => (code, outcome) == (0, raw::TB_GOES_ON),
+        Ok(Outcome::Consistent) => (code, outcome) == (0, raw::TB_CONSISTENT),
+        Ok(Outcome::Malfeasance(named)) => {
+            (code, outcome) == (0, raw::TB_MALFEASANCE) && named == pair
+        }
+        Ok(Outcome::PileAltered) => (code, outcome) == (0, raw::TB_PILE_ALTERED),
     };
     same && walk.state() == left.state && left.pile.starts_with(walk.pile())
 }
@@ -256,7 +256,7 @@ impl Comparison {
         let code = if before { all[first] } else { code };
         let rand = self.random.array();
         let arrived = Arrived { response: &response, sent, received, rand };
-        let due = tb_took { code, ..NONE };
+        let due = tb_took { code, ..walks::NOTHING };
         let left = self.take(&pace.state, &pace.pile[..room], &arrived, Some(due));
         let stays = left.state == pace.state && left.pile == pace.pile[..room];
         assert!(stays, "a refused call changed something");
@@ -270,11 +270,7 @@ impl Comparison {
         let (sent, received) = self.right_times(&pace.state);
         let rand = self.random.array();
         let arrived = Arrived { response: &response, sent, received, rand };
-        let due = match walks::contradiction(&story.windows) {
-            _ if step + 1 < story.windows.len() => NONE,
-            None => tb_took { outcome: 1, ..NONE },
-            Some((i, j)) => tb_took { outcome: 2, first: i as u64, second: j as u64, ..NONE },
-        };
+        let due = walks::due(&story.windows, step);
         let left = self.take(&pace.state, &pace.pile, &arrived, Some(due));
         assert_eq!(left.state.step as usize, step + 1, "a right response was not accepted");
         (pace.state, pace.pile) = (left.state, left.pile);
@@ -305,7 +301,8 @@ impl Comparison {
             self.accepted(&mut pace, &story);
         }
         let nothing = Arrived { response: &[], sent: 1, received: 0, rand: [0; 32] };
-        self.take(&pace.state, &pace.pile, &nothing, Some(tb_took { code: 28, ..NONE }));
+        let due = tb_took { code: 28, ..walks::NOTHING };
+        self.take(&pace.state, &pace.pile, &nothing, Some(due));
         self.reported(&pace, &story);
     }
 

@@ -16,7 +16,7 @@ use support::packets::number;
 use support::tally::Tally;
 use support::walks::{self, Between, Reply, Story, Window, FAULTS};
 use support::{counted, Xorshift};
-use trawlbeacon::raw::{tb_took, tb_walk};
+use trawlbeacon::raw::{self, tb_took, tb_walk};
 use trawlbeacon::{Outcome, Pair, Walk};
 
 const WALKS: usize = 50_000;
@@ -261,7 +261,7 @@ impl Comparison {
             rand: self.random.array(),
         };
         let (state, pile) = (pace.state, pace.pile.clone());
-        let due = tb_took { code, outcome: 0, at: 0, first: 0, second: 0 };
+        let due = tb_took { code, ..walks::NOTHING };
         self.take(pace, &heard, room, due);
         assert!(pace.state == state && pace.pile == pile, "a refused call changed something");
         self.border("26: received a second before it was sent", sent > 0 && received == sent - 1);
@@ -289,12 +289,7 @@ impl Comparison {
             received,
             rand: self.random.array(),
         };
-        let none = tb_took { code: 0, outcome: 0, at: 0, first: 0, second: 0 };
-        let due = match walks::contradiction(&story.windows) {
-            _ if step + 1 < story.windows.len() => none,
-            None => tb_took { outcome: 1, ..none },
-            Some((i, j)) => tb_took { outcome: 2, first: i as u64, second: j as u64, ..none },
-        };
+        let due = walks::due(&story.windows, step);
         let room = pace.pile.len();
         self.take(pace, &heard, room, due);
         let server = step % pace.state.count as usize;
@@ -326,7 +321,7 @@ impl Comparison {
         let [delegation, signature] = [self.random.once_in(2), self.random.once_in(2)];
         let response = self.random.pick(&[old, &[]]);
         let heard = Heard { response, delegation, signature, sent, received, rand };
-        let due = tb_took { code: 28, outcome: 0, at: 0, first: 0, second: 0 };
+        let due = tb_took { code: 28, ..walks::NOTHING };
         self.take(pace, &heard, room, due);
     }
 
@@ -524,7 +519,7 @@ fn made_up_states_do_no_harm() {
     tally.no_difference();
     tally.at_least(500, ASKS, [0, 19, 28]);
     tally.at_least(20, TAKES, (0..=13).chain([19, 26, 27, 28]));
-    tally.at_least(200, OUTCOMES, 0..=3);
+    tally.at_least(200, OUTCOMES, raw::TB_NOTHING_SAID..=raw::TB_PILE_ALTERED);
 }
 
 /// Bits of the pile are turned before the last response is taken. What stands where nothing is read
@@ -564,12 +559,13 @@ fn an_altered_pile_is_told_as_that() {
             assert!(pile == their_pile);
             if step + 1 == 2 * count {
                 tally.count(OUTCOMES, took.outcome);
-                assert!(at % RECORD < 32 || took.outcome == 3, "byte {at} was altered");
+                let told = took.outcome == raw::TB_PILE_ALTERED;
+                assert!(at % RECORD < 32 || told, "byte {at} was altered");
             }
         }
     }
     println!("{ALTERED} walks whose pile was altered:\n{}", tally.table("end"));
-    tally.at_least(200, OUTCOMES, 1..=3);
+    tally.at_least(200, OUTCOMES, raw::TB_CONSISTENT..=raw::TB_PILE_ALTERED);
 }
 
 /// Keys of every number of bytes, which end at a fence, and a buffer that is only as long as said.
@@ -665,6 +661,65 @@ fn the_safe_walk_is_the_lent_one() {
     println!("{SAFE} walks by the safe type, with {refused} refused calls, as with a lent pile");
 }
 
+/// What a host loops over: the code at which it stops, how often it asked, and what was last said.
+fn looped(
+    state: &mut tb_walk,
+    pile: &mut [u8],
+    answer: &mut dyn FnMut(&[u8], &Hash) -> Vec<u8>,
+) -> (u32, usize, tb_took) {
+    let (mut took, mut turns) = (walks::NOTHING, 0);
+    loop {
+        let mut request = [0; trawlbeacon::REQUEST_LENGTH];
+        let asked = state.ask(&mut request);
+        if asked.code != 0 {
+            return (asked.code, turns, took);
+        }
+        turns += 1;
+        let response = answer(&request, &asked.nonce);
+        took = state.take([1, 1], [turns as u64; 2], &[7; 32], &response, pile);
+    }
+}
+
+/// A loop that is gone on with once its walk has ended ends at once, whether it goes by the code of
+/// what is asked or by the outcome: nothing that stands beside a refusal says that the walk goes on.
+#[test]
+fn a_loop_over_a_walk_that_has_ended_ends() {
+    let mut random = Xorshift::new(0x5eed_1006);
+    for count in 3..=8 {
+        let keys: Vec<[u8; 32]> = (0..count).map(|_| random.array()).collect();
+        let mut pile = vec![0; 2 * count * RECORD];
+        let mut state = tb_walk::NONE;
+        assert_eq!(state.start(&keys.concat(), &[3; 32], 0, &pile), 0);
+        let mut tries = 0;
+        let mut answer = |request: &[u8], nonce: &Hash| {
+            tries += 1;
+            let mut packet = walks::answer(&mut random, request, nonce, (1_000, 5)).packet();
+            // One response in two is refused, and the same is asked again.
+            packet[0] ^= tries % 2;
+            packet
+        };
+        let said = looped(&mut state, &mut pile, &mut answer);
+        assert_eq!(said, (28, 4 * count, walks::ended(None)));
+        let mut nobody = |_: &[u8], _: &Hash| panic!("a walk that has ended asks");
+        let again = looped(&mut state, &mut pile, &mut nobody);
+        assert_eq!(again, (28, 0, walks::NOTHING));
+        // By the outcome.
+        let (mut outcome, mut turns) = (raw::TB_GOES_ON, 0);
+        while outcome == raw::TB_GOES_ON {
+            turns += 1;
+            let took = state.take([1, 1], [u64::MAX; 2], &[7; 32], &pile[2096..2500], &mut []);
+            assert_eq!(took, tb_took { code: 28, ..walks::NOTHING });
+            outcome = took.outcome;
+        }
+        assert_eq!(turns, 1);
+        // The safe walk.
+        let mut walk = Walk::resume(state, pile);
+        assert_eq!(walk.ask(), Err(trawlbeacon::Refusal::Ended));
+        let taken = walk.take_signed(&[], 0, 0, &[0; 32]);
+        assert_eq!(taken.map_err(|why| why.refusal), Err(trawlbeacon::Refusal::Ended));
+    }
+}
+
 /// The pile of a walk in a buffer for all of it.
 fn pile_of(walk: &Walk, count: usize) -> Vec<u8> {
     let mut pile = walk.pile().to_vec();
@@ -674,9 +729,9 @@ fn pile_of(walk: &Walk, count: usize) -> Vec<u8> {
 
 fn same_outcome(took: tb_took) -> Outcome {
     match took.outcome {
-        0 => Outcome::GoesOn,
-        1 => Outcome::Consistent,
-        2 => {
+        raw::TB_GOES_ON => Outcome::GoesOn,
+        raw::TB_CONSISTENT => Outcome::Consistent,
+        raw::TB_MALFEASANCE => {
             let (first, second) = (took.first as usize, took.second as usize);
             Outcome::Malfeasance(Pair { first, second })
         }

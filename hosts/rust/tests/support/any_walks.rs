@@ -8,7 +8,8 @@ use independent::pile;
 use trawlbeacon::raw::{self, tb_walk};
 
 /// The codes of taking a response, and the outcomes.
-const TAKING: &[Codes] = &[(1, 13), (19, 19), (26, 28), (OUTCOME, OUTCOME + 3)];
+const TAKING: &[Codes] =
+    &[(1, 13), (19, 19), (26, 28), (OUTCOME + raw::TB_GOES_ON, OUTCOME + raw::TB_PILE_ALTERED)];
 
 pub const EXPORTS: &[Export] = &[
     export("tb_walk_start_fields", Least, 40_000, &[(0, 0), (19, 19), (31, 31)], start),

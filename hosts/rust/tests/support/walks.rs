@@ -10,7 +10,7 @@ use independent::place;
 use independent::refusal::Refusal;
 use independent::tree;
 use independent::walk::{Arrived, Asked, Heard, Stand, Walk};
-use trawlbeacon::raw::{tb_asked, tb_took, tb_walk};
+use trawlbeacon::raw::{self, tb_asked, tb_took, tb_walk};
 
 /// A window, by its MIDP and RADI.
 pub type Window = (u64, u32);
@@ -83,20 +83,44 @@ pub fn asked(answer: Result<Asked, Refusal>) -> tb_asked {
     }
 }
 
-/// The same of a response that was taken.
-pub fn took(answer: Result<Stand, Refusal>, response: &[u8]) -> tb_took {
-    let none = tb_took { code: 0, outcome: 0, at: 0, first: 0, second: 0 };
-    match answer {
-        Ok(Stand::GoesOn) => none,
-        Ok(Stand::Consistent) => tb_took { outcome: 1, ..none },
-        Ok(Stand::Malfeasance(first, second)) => {
-            tb_took { outcome: 2, first: first as u64, second: second as u64, ..none }
+/// What stands beside the code of a refusal, but for its place.
+pub const NOTHING: tb_took =
+    tb_took { code: 0, outcome: raw::TB_NOTHING_SAID, at: 0, first: 0, second: 0 };
+
+/// What ours must answer where the walk goes on.
+const GOES_ON: tb_took = tb_took { outcome: raw::TB_GOES_ON, ..NOTHING };
+
+/// Where it ends with windows of which these two contradict each other, or none do.
+pub fn ended(contradict: Option<(usize, usize)>) -> tb_took {
+    match contradict {
+        None => tb_took { outcome: raw::TB_CONSISTENT, ..NOTHING },
+        Some((first, second)) => {
+            let (first, second) = (first as u64, second as u64);
+            tb_took { outcome: raw::TB_MALFEASANCE, first, second, ..NOTHING }
         }
-        Ok(Stand::Altered) => tb_took { outcome: 3, ..none },
+    }
+}
+
+/// Where the response of this step is taken, in a walk whose servers tell these windows.
+pub fn due(windows: &[Window], step: usize) -> tb_took {
+    if step + 1 < windows.len() {
+        GOES_ON
+    } else {
+        ended(contradiction(windows))
+    }
+}
+
+/// Where the independent side answered that to a response.
+pub fn took(answer: Result<Stand, Refusal>, response: &[u8]) -> tb_took {
+    match answer {
+        Ok(Stand::GoesOn) => GOES_ON,
+        Ok(Stand::Consistent) => ended(None),
+        Ok(Stand::Malfeasance(first, second)) => ended(Some((first, second))),
+        Ok(Stand::Altered) => tb_took { outcome: raw::TB_PILE_ALTERED, ..NOTHING },
         Err(refusal) => {
             let code = refusal.code();
             let at = (4..=7).contains(&code).then(|| place::in_response(response)).flatten();
-            tb_took { code, at: at.map_or(0, |place| place.at as u64), ..none }
+            tb_took { code, at: at.map_or(0, |place| place.at as u64), ..NOTHING }
         }
     }
 }
