@@ -12,7 +12,7 @@ use Rattle.laws.specs.First.{firstOf, whenOf}
 use Rattle.laws.specs.Least.{least, somewhere}
 use Rattle.laws.specs.Numbers.{le}
 use Rattle.refusal.specs.declared.Refusal.{Refusal}
-use Rattle.message.specs.Frame.{lengthBad, countBad, edge, frameCode}
+use Rattle.message.specs.Frame.{offset, lengthBad, countBad, frameCode}
 use Rattle.tree.specs.Tree.{depthOf}
 use Rattle.batch.specs.Leaves.{countOf}
 use Rattle.runs.specs.Clash.{windowsClash}
@@ -102,5 +102,5 @@ each (r ∷ rs) t = let u = and-yes (test r) (all-pass rs) t in (passes r (u .0)
 
 -- every row of the table holds
 pub starred : (why : Refusal) → Each (table why)
-unfolding whenOf firstOf any least somewhere le countOf depthOf frameCode lengthBad countBad edge
+unfolding whenOf firstOf any least somewhere le countOf depthOf frameCode lengthBad countBad offset
 starred why = each (table why) tt

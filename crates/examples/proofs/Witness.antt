@@ -15,7 +15,7 @@ use Rattle.laws.specs.Numbers.{le, leBytes}
 use Rattle.refusal.specs.Refusal.{refusal}
 use Rattle.refusal.specs.declared.Refusal.{Refusal}
 use Rattle.message.specs.Encode.{words}
-use Rattle.message.specs.Frame.{lengthBad, countBad, edge, frameCode}
+use Rattle.message.specs.Frame.{offset, lengthBad, countBad, frameCode}
 use Rattle.message.specs.Rules.{messageCode}
 use Rattle.message.specs.Tags.{NONC}
 use Rattle.message.proofs.Codes.{code-5}
@@ -111,7 +111,7 @@ abbrev twice : List ℕ
 twice = words (2 ∷ 4 ∷ NONC ∷ NONC ∷ 0 ∷ 0 ∷ [])
 
 some-twice : SomeBytes (λ m. EqualTags m × (length (packetOf m) ≤ 2000))
-unfolding firstOf whenOf any least somewhere le leBytes words messageCode frameCode lengthBad countBad edge
+unfolding firstOf whenOf any least somewhere le leBytes words messageCode frameCode lengthBad countBad offset
 some-twice = record {
   it = twice;
   bytes = bytes-test twice tt .each;

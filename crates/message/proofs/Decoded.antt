@@ -10,15 +10,16 @@ use native.Mathlib.Omega.{arith}
 use lib.ListN.{length, getD, take, drop, length-drop, take-append-drop}
 use lib.Seq.{take-add, drop-drop, ext-getD, getD-drop, take-all, length-take-le}
 use Rattle.laws.specs.Bytes.{Bytes}
+use Rattle.laws.specs.Numbers.{le}
 use Rattle.laws.specs.Upto.{upto}
 use Rattle.laws.proofs.Numbers.{leBytes-le, le-bound}
 use Rattle.laws.proofs.Upto.{upto-length, upto-at}
 use Rattle.message.specs.Encode.{Field, Fields, Encoded, words, starts, offsets, tags, values, encode, field}
-use Rattle.message.specs.Frame.{word, count, tagAt, section, edge, offset, frameCode}
+use Rattle.message.specs.Frame.{word, count, tagAt, section, edge, frameCode}
 use Rattle.message.specs.Sentences.{Good, TagsRise}
 use Rattle.message.specs.Values.{valueAt}
 use Rattle.message.proofs.Codes.{frame-0}
-use Rattle.message.proofs.Edges.{edge-first, edge-inner, edge-last, value-in, edge-within}
+use Rattle.message.proofs.Edges.{offset-word, edge-first, edge-inner, edge-last, value-in, edge-within}
 use Rattle.message.proofs.Positions.{blank, words-append, tags-append, values-append, length-starts, starts-more}
 use Rattle.message.proofs.Encoded.{count-encoded, tag-encoded, value-at-encoded}
 
@@ -79,7 +80,7 @@ module _ (m : List ℕ) (g : Good m) where
   -- the first k values are what stands before edge k
   pub values-upto : (k : ℕ) → k ≤ count m → values (upto (fieldAt m) k) ≡ take (edge m k) (drop (8 * count m) m)
   unfolding values upto valueAt
-  values-upto zero h = rw (edge-first m)
+  values-upto zero h = rw (edge-first m (g .head .one))
   values-upto (suc k) h =
       let e : edge m (suc k) ≡ edge m k + (edge m (k + 1) - edge m k) =
       rw (← add-one k) (omega (arith, value-in m g k h)) in
@@ -96,11 +97,12 @@ module _ (m : List ℕ) (g : Good m) where
   starts-upto (suc k) h = rw (starts-more, starts-upto k (omega arith), zero-add, length-upto k (omega arith))
 
   -- their offsets are those of the message,
-  pub offset-at : (k : ℕ) → suc k < count m → getD (drop 1 (upto (edge m) (count m))) k 0 ≡ offset m (suc k)
+  pub offset-at : (k : ℕ) → suc k < count m → getD (drop 1 (upto (edge m) (count m))) k 0 ≡ le 4 m (4 * suc k)
   offset-at k h =
       let one : 1 + k ≡ suc k = omega arith in
       getD-drop 1 (upto (edge m) (count m)) k 0
-      ∙ rw one (upto-at (edge m) (count m) (suc k) 0 h ∙ edge-inner m (suc k) (omega arith) h)
+      ∙ rw one
+      (upto-at (edge m) (count m) (suc k) 0 h ∙ edge-inner m (suc k) h ∙ offset-word m (suc k) (omega arith))
 
   -- and with N in front they are its first N words
   pub front : _≡_ {A = List ℕ} (count m ∷ drop 1 (upto (edge m) (count m))) (upto (word m 0) (count m))
@@ -136,20 +138,15 @@ module _ (m : List ℕ) (bytes : Bytes m) (e : frameCode m .code ≡ 0) where
       (words-upto m bytes (4 * n) n (omega arith))
       ∙ sym (take-add (4 * n) (4 * n) m) ∙ ap (λ (k : ℕ). take k m) two in
       let rest : take (edge m n) (drop (8 * n) m) ≡ drop (8 * n) m =
-      rw (edge-last m (fine .head .one)) (take-all (section m) (drop (8 * n) m) (le-of-eq (length-drop (8 * n) m))) in
+      rw (edge-last m) (take-all (section m) (drop (8 * n) m) (le-of-eq (length-drop (8 * n) m))) in
       rw (upto-length, starts-upto m fine n (le-refl n), tags-upto m n, values-upto m fine n (le-refl n), header, rest)
       (take-append-drop (8 * n) m)
 
   -- the edges of a good frame are multiples of four
   edge-four : (k : ℕ) → k ≤ count m → edge m k % 4 ≡ 0
-  edge-four zero h = rw (edge-first m)
-  edge-four (suc k) h = ⊎-elim last inner (eq-or-lt-of-le h)
-    where
-      last : suc k ≡ count m → edge m (suc k) % 4 ≡ 0
-      last q = rw (q, edge-last m (fine .head .one)) (omega (arith, fine .size, fine .head))
-
-      inner : suc k < count m → edge m (suc k) % 4 ≡ 0
-      inner l = rw (edge-inner m (suc k) (omega arith) l) (fine .offsets .four (suc k) (omega arith) l)
+  edge-four k h =
+      ⊎-elim (λ (q : k ≡ count m). rw (q, edge-last m) (omega (arith, fine .size, fine .head)))
+      (λ (l : k < count m). rw (edge-inner m k l) (fine .offsets .four k l)) (eq-or-lt-of-le h)
 
   -- and are ones that a message may hold
   pub decode-fields : Fields (decode m)

@@ -1,16 +1,17 @@
 -- Where the values of a message begin and end, and that each value of a good one stands in the value section.
 use Prim.Native.Nat.{ℕ, zero, suc, zero-le, suc-le-suc, _+_, _-_, _*_, _≤_, _<_}
-use mathlib.Core.Path.{_≡_, refl}
+use mathlib.Core.Path.{_≡_, refl, _∙_}
 use native.Mathlib.Nat.{le-refl, eq-or-lt-of-le}
 use native.Mathlib.Numerals.{add-one}
 use mathlib.Core.Logic.{⊎-elim}
 use native.Mathlib.Omega.{arith}
-use borrow.Author.Tests.{lt-ltb, le-ltb, ne-eqb}
+use borrow.Author.Tests.{lt-ltb, le-ltb}
 use mathlib.Core.List.{List, [], _∷_}
 use mathlib.Core.Bool.{Bool, true, false, cond}
 use lib.ListN.{length, take, drop, length-drop}
 use lib.Dec.{ltb}
 use Rattle.laws.specs.Bytes.{Bytes}
+use Rattle.laws.specs.Numbers.{le}
 use Rattle.laws.proofs.Bytes.{bytes-drop, bytes-take}
 use Rattle.laws.proofs.Least.{least-le}
 use Rattle.message.specs.Frame.{count, offset, section, edge}
@@ -18,21 +19,31 @@ use Rattle.message.specs.Sentences.{Good}
 use Rattle.message.specs.Values.{isTag, indexOf, has, valueAt, valueOf, valueStart}
 
 module _ (m : List ℕ) where
-  pub edge-first : edge m 0 ≡ 0
-  unfolding edge
-  edge-first = refl
+  -- offset[0] is 0, and the others are words of the message
+  pub offset-first : offset m 0 ≡ 0
+  unfolding offset
+  offset-first = refl
 
-  pub edge-inner : (k : ℕ) → 0 < k → k < count m → edge m k ≡ offset m k
-  unfolding edge
-  edge-inner k p q = simp (ne-eqb k 0 (omega arith), lt-ltb k (count m) q)
+  pub offset-word : (i : ℕ) → 0 < i → offset m i ≡ le 4 m (4 * i)
+  unfolding offset
+  offset-word zero h = absurd (omega arith)
+  offset-word (suc i) h = refl
 
-  pub edge-last : 0 < count m → edge m (count m) ≡ section m
+  -- value i begins at offset[i], and the last one ends with the message
+  pub edge-inner : (i : ℕ) → i < count m → edge m i ≡ offset m i
   unfolding edge
-  edge-last p = simp (ne-eqb (count m) 0 (omega arith), le-ltb (count m) (count m) (le-refl (count m)))
+  edge-inner i h = simp (lt-ltb i (count m) h)
 
--- value k stands in the value section
+  pub edge-last : edge m (count m) ≡ section m
+  unfolding edge
+  edge-last = simp (le-ltb (count m) (count m) (le-refl (count m)))
+
+  pub edge-first : 0 < count m → edge m 0 ≡ 0
+  edge-first h = edge-inner 0 h ∙ offset-first
+
+-- value i stands in the value section
 abbrev pub Inside : List ℕ → ℕ → Type 0
-Inside m k = (edge m k ≤ edge m (k + 1)) × (edge m (k + 1) ≤ section m)
+Inside m i = (edge m i ≤ edge m (i + 1)) × (edge m (i + 1) ≤ section m)
 
 -- the place of a tag is at most the number of tags
 pub index-in : (m : List ℕ) (tag : ℕ) → indexOf m tag ≤ count m
@@ -40,35 +51,23 @@ unfolding indexOf
 index-in m tag = least-le (isTag m tag) (count m)
 
 module _ (m : List ℕ) (g : Good m) where
-  -- each edge before the last is within the value section
-  edge-in : (k : ℕ) → k < count m → edge m k ≤ section m
-  edge-in zero h = rw (edge-first m) zero-le
-  edge-in (suc k) h = rw (edge-inner m (suc k) (omega arith) h) (g .offsets .inside (suc k) (omega arith) h)
-
-  -- and not above the offset behind it
-  edge-order : (k : ℕ) → k + 1 < count m → edge m k ≤ offset m (k + 1)
-  edge-order zero h = rw (edge-first m) zero-le
-  edge-order (suc k) h =
-      rw (edge-inner m (suc k) (omega arith) (omega arith)) (g .offsets .order (suc k) (omega arith) h)
-
-  -- so each value stands in the value section
-  pub value-in : (k : ℕ) → k < count m → Inside m k
-  value-in k h = ⊎-elim at-last inner (eq-or-lt-of-le h)
+  -- each value stands in the value section
+  pub value-in : (i : ℕ) → i < count m → Inside m i
+  value-in i h = rw (edge-inner m i h) (⊎-elim at-last inner (eq-or-lt-of-le h))
     where
-      at-last : suc k ≡ count m → Inside m k
-      at-last e = rw (add-one k, e, edge-last m (g .head .one)) (edge-in k h, le-refl (section m))
+      at-last : suc i ≡ count m → (offset m i ≤ edge m (i + 1)) × (edge m (i + 1) ≤ section m)
+      at-last e = rw (add-one i, e, edge-last m) (g .offsets .inside i h, le-refl (section m))
 
-      inner : suc k < count m → Inside m k
+      inner : suc i < count m → (offset m i ≤ edge m (i + 1)) × (edge m (i + 1) ≤ section m)
       inner l =
-          rw (edge-inner m (k + 1) (omega arith) (omega arith))
-          (edge-order k (omega arith), g .offsets .inside (k + 1) (omega arith) (omega arith))
+          rw (edge-inner m (i + 1) (omega arith))
+          (g .offsets .order i (omega arith), g .offsets .inside (i + 1) (omega arith))
 
   -- so does each start, the end of the last one too,
-  pub edge-within : (k : ℕ) → k ≤ count m → edge m k ≤ section m
-  edge-within k h = ⊎-elim at-last (edge-in k) (eq-or-lt-of-le h)
-    where
-      at-last : k ≡ count m → edge m k ≤ section m
-      at-last e = rw (e, edge-last m (g .head .one)) (le-refl (section m))
+  pub edge-within : (i : ℕ) → i ≤ count m → edge m i ≤ section m
+  edge-within i h =
+      ⊎-elim (λ (e : i ≡ count m). rw (e, edge-last m) (le-refl (section m)))
+      (λ (l : i < count m). rw (edge-inner m i l) (g .offsets .inside i l)) (eq-or-lt-of-le h)
 
   -- and so the value of a tag starts in the message, or at its end
   pub start-in : (tag : ℕ) → valueStart m tag ≤ length m

@@ -20,7 +20,7 @@ use Rattle.message.specs.Frame.{count, tagAt, section, edge, offset, fra
 use Rattle.message.specs.Sentences.{Good}
 use Rattle.message.specs.Values.{isTag, indexOf, has, valueAt, valueOf}
 use Rattle.message.proofs.Codes.{frame-0, frame-passed}
-use Rattle.message.proofs.Edges.{edge-first, edge-inner, edge-last}
+use Rattle.message.proofs.Edges.{offset-first, offset-word, edge-inner, edge-last}
 use Rattle.message.proofs.Positions.{blank, reach, length-words, word-at, length-tags, tag-of, length-offsets}
 use Rattle.message.proofs.Positions.{offset-of, reach-next, reach-in, reach-all, value-of-field}
 
@@ -44,14 +44,16 @@ module _ (fs : List Field) (ok : Fields fs) where
   pub count-encoded : count (encode fs) ≡ length fs
   count-encoded = header-word 0 (length fs) (omega (arith, ok .one)) refl (omega (arith, ok .few))
 
-  -- the offset of value k is where it starts,
-  pub offset-encoded : (k : ℕ) → 0 < k → k < length fs → offset (encode fs) k ≡ reach fs k
-  offset-encoded (suc k) p h =
+  -- offset[i] is where value i starts,
+  pub offset-encoded : (i : ℕ) → i < length fs → offset (encode fs) i ≡ reach fs i
+  unfolding values
+  offset-encoded zero h = offset-first (encode fs)
+  offset-encoded (suc k) h =
       let i : k < length (offsets fs) = rw (length-offsets fs) (omega arith) in
       let e : getD (offsets fs) k 0 ≡ reach fs (suc k) = offset-of fs k h in
-      header-word (suc k) (reach fs (suc k)) (omega arith) (List·getD-append (offsets fs) (tags fs) 0 k i ∙ e)
+      offset-word (encode fs) (suc k) (omega arith)
+      ∙ header-word (suc k) (reach fs (suc k)) (omega arith) (List·getD-append (offsets fs) (tags fs) 0 k i ∙ e)
       (rw (← e) (ok .near k i))
-  offset-encoded zero p h = absurd (omega arith)
 
   -- and tag k is the tag of field k
   pub tag-encoded : (k : ℕ) → k < length fs → tagAt (encode fs) k ≡ field fs k .tag
@@ -73,19 +75,15 @@ module _ (fs : List Field) (ok : Fields fs) where
 
   -- each edge is where a value starts or the last one ends,
   pub edge-encoded : (k : ℕ) → k ≤ length fs → edge (encode fs) k ≡ reach fs k
-  unfolding values
-  edge-encoded zero h = edge-first (encode fs)
-  edge-encoded (suc k) h = ⊎-elim last inner (eq-or-lt-of-le h)
+  edge-encoded k h = ⊎-elim last inner (eq-or-lt-of-le h)
     where
-      last : suc k ≡ length fs → edge (encode fs) (suc k) ≡ reach fs (suc k)
+      last : k ≡ length fs → edge (encode fs) k ≡ reach fs k
       last e =
           rw e
-          (ap (edge (encode fs)) (sym count-encoded) ∙ edge-last (encode fs) (rw count-encoded (ok .one))
-          ∙ section-encoded ∙ sym (reach-all fs))
+          (ap (edge (encode fs)) (sym count-encoded) ∙ edge-last (encode fs) ∙ section-encoded ∙ sym (reach-all fs))
 
-      inner : suc k < length fs → edge (encode fs) (suc k) ≡ reach fs (suc k)
-      inner l =
-          edge-inner (encode fs) (suc k) (omega arith) (rw count-encoded l) ∙ offset-encoded (suc k) (omega arith) l
+      inner : k < length fs → edge (encode fs) k ≡ reach fs k
+      inner l = edge-inner (encode fs) k (rw count-encoded l) ∙ offset-encoded k l
 
   -- and value k is the value of field k
   pub value-at-encoded : (k : ℕ) → k < length fs → valueAt (encode fs) k ≡ field fs k .value
@@ -111,23 +109,22 @@ module _ (fs : List Field) (ok : Fields fs) where
         size = record { four = omega (arith, ok .one); whole = omega arith };
         head = record { one = rw c (ok .one); few = rw c (ok .few); fits = omega arith };
         offsets = record {
-          four = λ k o h. four k o (rw c at h);
-          order = λ k o h. order k o (rw c at h);
-          inside = λ k o h. inside k o (rw c at h);
+          four = λ k h. four k (rw c at h);
+          order = λ k h. order k (rw c at h);
+          inside = λ k h. inside k (rw c at h);
         };
       } in
       frame-passed (encode fs) (frame-0 (encode fs) .1 (g, λ k h. rise k (rw c at h)))
     where
-      four : (k : ℕ) → 1 ≤ k → k < length fs → offset (encode fs) k % 4 ≡ 0
-      four k o h = rw (offset-encoded k o h) (reach-four k (omega arith))
+      four : (k : ℕ) → k < length fs → offset (encode fs) k % 4 ≡ 0
+      four k h = rw (offset-encoded k h) (reach-four k (omega arith))
 
-      order : (k : ℕ) → 1 ≤ k → k + 1 < length fs → offset (encode fs) k ≤ offset (encode fs) (k + 1)
-      order k o h =
-          rw (offset-encoded k o (omega arith), offset-encoded (k + 1) (omega arith) h)
-          (omega (arith, reach-next fs k (omega arith)))
+      order : (k : ℕ) → k + 1 < length fs → offset (encode fs) k ≤ offset (encode fs) (k + 1)
+      order k h =
+          rw (offset-encoded k (omega arith), offset-encoded (k + 1) h) (omega (arith, reach-next fs k (omega arith)))
 
-      inside : (k : ℕ) → 1 ≤ k → k < length fs → offset (encode fs) k ≤ section (encode fs)
-      inside k o h = rw (offset-encoded k o h, section-encoded) (reach-in fs k h)
+      inside : (k : ℕ) → k < length fs → offset (encode fs) k ≤ section (encode fs)
+      inside k h = rw (offset-encoded k h, section-encoded) (reach-in fs k h)
 
       rise : (k : ℕ) → k + 1 < length fs → tagAt (encode fs) k < tagAt (encode fs) (k + 1)
       rise k h = rw (tag-encoded k (omega arith), tag-encoded (k + 1) h) (ok .rise k h)

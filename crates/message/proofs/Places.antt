@@ -22,8 +22,8 @@ use Rattle.message.specs.Scans.{firstAbsent}
 use Rattle.message.specs.Values.{isTag, indexOf, has, valueAt, valueOf, valueStart}
 use Rattle.message.proofs.Cases.{frame-by, message-by}
 use Rattle.message.proofs.Codes.{frame-good}
-use Rattle.message.proofs.Edges.{start-in}
-use Rattle.message.proofs.Tests.{length-test, count-test, offset-test, and-test, value-test}
+use Rattle.message.proofs.Edges.{offset-word, start-in}
+use Rattle.message.proofs.Tests.{length-test, count-test, offset-test, first-right, and-test, value-test}
 
 -- a test decides each of n things: the least at which it holds is the first that is not right
 first-wrong : (p : ℕ → Bool) (Right : ℕ → Type 0) → ((k : ℕ) → p k ≡ false ↔ Right k) → (n : ℕ) → somewhere p n ≡ true
@@ -52,16 +52,24 @@ module _ (m : List ℕ) where
       frame-by m At4 (λ e. absurd (omega arith))
       (λ t e. by-length (record { wrong = refuted (length-test m) t; is = refl }))
       (λ s t e. by-count (record { size = s; wrong = refuted (count-test m) t; is = refl; word = refl }))
-      (λ s h t e. by-offset
+      (λ s h t e.
+      let f : FirstWrong (OffsetRight m) (count m) (firstBadOffset m) =
+      first-wrong (offsetBad m) (OffsetRight m) (offset-test m) (count m) t in
+      by-offset
       (record {
         size = s;
         head = h;
         place = firstBadOffset m;
-        first = first-wrong (offsetBad m) (OffsetRight m) (offset-test m) (count m - 1) t;
+        first = f;
         is = refl;
-        word = refl;
+        word = sym (offset-word m (firstBadOffset m) (behind-first (firstBadOffset m) (f .wrong)));
       }))
       (λ s h o t e. absurd (omega arith))
+    where
+      -- offset[0] is right
+      behind-first : (i : ℕ) → (OffsetRight m i → ⊥) → 0 < i
+      behind-first zero w = absurd (w (offset-test m 0 .0 (first-right m)))
+      behind-first (suc i) w = omega arith
 
   At5 : Refusal → Type 0
   At5 r = r .code ≡ 5 → Wrong5 m (r .at)
@@ -91,7 +99,7 @@ module _ (m : List ℕ) where
   frame-in : frameCode m .at ≤ length m
   frame-in =
       frame-by m (λ r. r .at ≤ length m) zero-le (λ t. zero-le) (λ s t. zero-le)
-      (λ s h t. omega (arith, h .fits, somewhere-at (offsetBad m) (count m - 1) t .0))
+      (λ s h t. omega (arith, h .fits, somewhere-at (offsetBad m) (count m) t .0))
       (λ s h o t. omega (arith, h .fits, somewhere-at (notAbove m (4 * count m)) (count m - 1) t .0))
 
 -- ---- laws for codes 6 and 7

@@ -4,6 +4,7 @@ use mathlib.Core.Path.{_≡_, refl, sym, ap, _∙_}
 use mathlib.Core.Logic.{_↔_}
 use mathlib.Core.List.{List}
 use mathlib.Core.Bool.{Bool, true, false, not, _&&_, true≢false}
+use native.Mathlib.Nat.{le-refl}
 use native.Mathlib.Numerals.{add-one}
 use native.Mathlib.Omega.{arith}
 use borrow.Author.Tests.{le-ltb, eq-eqb, ne-eqb, lt-leb, ltb-false, leb-false, eqb-true, eqb-false, not-false}
@@ -12,7 +13,7 @@ use Rattle.laws.specs.Least.{somewhere}
 use Rattle.laws.specs.Numbers.{le}
 use Rattle.laws.proofs.Any.{any-not, any-none, any-parts}
 use Rattle.laws.proofs.Least.{nowhere, nowhere-at}
-use Rattle.message.specs.Frame.{word, notAbove, count, offset, section, edge, lengthBad, countBad, offsetBad}
+use Rattle.message.specs.Frame.{word, notAbove, count, offset, lengthBad, countBad, offsetBad}
 use Rattle.message.specs.Frame.{offsetsBad, tagsBad}
 use Rattle.message.specs.Places.{OffsetRight}
 use Rattle.message.specs.Rules.{Rule, bytes, nonzero, versions, siblings, message, Row, nonzeroBad, versionsBad}
@@ -20,7 +21,7 @@ use Rattle.message.specs.Rules.{siblingsBad, valueBad, absent, broken, r
 use Rattle.message.specs.Rules.{someBroken}
 use Rattle.message.specs.Sentences.{LengthGood, CountGood, OffsetsGood, TagsRise, TagsThere, NonzeroNumber}
 use Rattle.message.specs.Sentences.{VersionList, SiblingList, KeepsRule, ValuesRight}
-use Rattle.message.proofs.Edges.{edge-first, edge-inner}
+use Rattle.message.proofs.Edges.{offset-first}
 
 -- the n words from `at` rise where none of them is followed by one that is not above it
 pub words-rise : (s : List ℕ) (at n : ℕ)
@@ -33,6 +34,9 @@ words-rise s at n = (
 -- a number that is not 0 is above it
 positive : {n : ℕ} → (n ≡ 0 → ⊥) → 0 < n
 positive {n} h = omega arith
+
+before : (i : ℕ) → suc i - 1 ≡ i
+before i = omega arith
 
 module _ (m : List ℕ) where
   -- ---- codes 4 and 5
@@ -74,9 +78,9 @@ module _ (m : List ℕ) where
   pub tags-test : tagsBad m ≡ false ↔ TagsRise m
   tags-test = words-rise m (4 * count m) (count m)
 
-  -- the test of one offset: its order is told from the edge before it
-  pub offset-test : (k : ℕ) → offsetBad m k ≡ false ↔ OffsetRight m k
-  offset-test k = (
+  -- the test of one offset
+  pub offset-test : (i : ℕ) → offsetBad m i ≡ false ↔ OffsetRight m i
+  offset-test i = (
     λ e.
         let a = any-parts _ _ e in
         let b = any-parts _ _ (a .1) in
@@ -91,32 +95,32 @@ module _ (m : List ℕ) where
         (any-not _ (le-ltb _ _ (p .order)) (any-not _ (le-ltb _ _ (p .inside)) any-none)),
   )
 
-  placed-good : ((k : ℕ) → k + 1 < count m → OffsetRight m k) → OffsetsGood m
-  placed-good p = record { four = four; order = order; inside = inside }
-    where
-      four : (k : ℕ) → 1 ≤ k → k < count m → offset m k % 4 ≡ 0
-      four (suc k) o h = rw (← add-one k) (p k (omega arith) .four)
-      four zero o h = absurd (omega arith)
+  -- of offset[0] nothing is wrong
+  pub first-right : offsetBad m 0 ≡ false
+  first-right =
+      offset-test 0 .1
+      (record { four = rw (offset-first m); order = le-refl (offset m 0); inside = rw (offset-first m) zero-le })
 
-      order : (k : ℕ) → 1 ≤ k → k + 1 < count m → offset m k ≤ offset m (k + 1)
-      order k o h = rw (← edge-inner m k o (omega arith)) (p k h .order)
-
-      inside : (k : ℕ) → 1 ≤ k → k < count m → offset m k ≤ section m
-      inside (suc k) o h = rw (← add-one k) (p k (omega arith) .inside)
-      inside zero o h = absurd (omega arith)
-
-  good-placed : OffsetsGood m → (k : ℕ) → k + 1 < count m → OffsetRight m k
-  good-placed g k h =
-      record { four = g .four (k + 1) (omega arith) h; order = order k h; inside = g .inside (k + 1) (omega arith) h }
-    where
-      order : (k : ℕ) → k + 1 < count m → edge m k ≤ offset m (k + 1)
-      order zero h = rw (edge-first m) zero-le
-      order (suc k) h = rw (edge-inner m (suc k) (omega arith) (omega arith)) (g .order (suc k) (omega arith) h)
+  good-placed : OffsetsGood m → (i : ℕ) → i < count m → OffsetRight m i
+  good-placed g zero h = offset-test 0 .0 first-right
+  good-placed g (suc i) h =
+      record {
+        four = g .four (suc i) h;
+        order = rw (before i, ← add-one i) (g .order i (omega arith));
+        inside = g .inside (suc i) h;
+      }
 
   pub offsets-test : offsetsBad m ≡ false ↔ OffsetsGood m
   offsets-test = (
-    λ e. placed-good (λ k h. offset-test k .0 (nowhere-at (offsetBad m) (count m - 1) k e (omega arith))),
-    λ g. nowhere (offsetBad m) (count m - 1) (λ k h. offset-test k .1 (good-placed g k (omega arith))),
+    λ e.
+        let right : (i : ℕ) → i < count m → OffsetRight m i =
+        λ i h. offset-test i .0 (nowhere-at (offsetBad m) (count m) i e h) in
+        record {
+          four = λ i h. right i h .four;
+          order = λ i h. rw (before i, ← add-one i) at (right (suc i) (omega arith) .order);
+          inside = λ i h. right i h .inside;
+        },
+    λ g. nowhere (offsetBad m) (count m) (λ i h. offset-test i .1 (good-placed g i h)),
   )
 
 -- ---- codes 6 and 7

@@ -1,7 +1,7 @@
 -- Reading a message (draft 19, section 4; document 01, "Bytes of a message"): codes 4 and 5. All of its header is words
 -- of four bytes. The place of a refusal (request P8) is counted from the message's first byte here; wire counts on from
 -- the packet's.
-use Prim.Native.Nat.{ℕ, _+_, _-_, _*_, _%_}
+use Prim.Native.Nat.{ℕ, zero, suc, _+_, _-_, _*_, _%_}
 use mathlib.Core.List.{List, [], _∷_}
 use mathlib.Core.Bool.{Bool, not, cond}
 use lib.ListN.{length}
@@ -12,34 +12,41 @@ use Rattle.laws.specs.Numbers.{le}
 use Rattle.refusal.specs.Refusal.{first, whenAt}
 use Rattle.refusal.specs.declared.Refusal.{Refusal}
 
--- word k of those that stand from `at`
+-- word i of those that stand from `at`
 abbrev pub word : List ℕ → ℕ → ℕ → ℕ
-word s at k = le 4 s (at + 4 * k)
+word s at i = le 4 s (at + 4 * i)
 
--- word k + 1 is not above word k
+-- word i + 1 is not above word i
 abbrev pub notAbove : List ℕ → ℕ → ℕ → Bool
-notAbove s at k = leb (word s at (k + 1)) (word s at k)
+notAbove s at i = leb (word s at (i + 1)) (word s at i)
 
--- N, the number of tags
+-- ---- the header (4.2), by its own i: tags and values are counted from 0
+
+-- "the first four bytes of the header is the uint32 number of tags N"
 abbrev pub count : List ℕ → ℕ
 count m = le 4 m 0
 
--- the offset of value k, from 1 on
-abbrev pub offset : List ℕ → ℕ → ℕ
-offset m k = le 4 m (4 * k)
+-- offset[i]: "The offsets array is considered to have an implicitly encoded value of 0 as its zeroth entry"; the others
+-- stand behind N, so that offset[i] is word i of the message
+unfoldable pub offset : List ℕ → ℕ → ℕ
+offset m zero = 0
+offset m (suc i) = le 4 m (4 * suc i)
 
--- tag k
+-- "and the last 4*N bytes in the header are tags": tag i
 abbrev pub tagAt : List ℕ → ℕ → ℕ
-tagAt m k = word m (4 * count m) k
+tagAt m i = word m (4 * count m) i
 
 -- how many bytes the value section has; it stands behind the 8 N bytes of the header
 abbrev pub section : List ℕ → ℕ
 section m = length m - 8 * count m
 
--- where value k begins in the value section: the first at 0, each next at its offset; and of k = N, where the last one
--- ends
+-- where value i begins in the value section; and of i = N, where the last one ends. "The value associated with the ith
+-- tag begins at offset[i] and ends at offset[i+1]-1, with the exception of the last value which ends at the end of the
+-- message."
 unfoldable pub edge : List ℕ → ℕ → ℕ
-edge m k = cond (eqb k 0) 0 (cond (ltb k (count m)) (offset m k) (section m))
+edge m i = cond (ltb i (count m)) (offset m i) (section m)
+
+-- ---- the tests of codes 4 and 5
 
 -- the length is under 4 bytes or no multiple of 4
 unfoldable pub lengthBad : List ℕ → Bool
@@ -49,18 +56,19 @@ lengthBad m = any (ltb (length m) 4 ∷ not (eqb (length m % 4) 0) ∷ [])
 unfoldable pub countBad : List ℕ → Bool
 countBad m = any (eqb (count m) 0 ∷ ltb 32 (count m) ∷ ltb (length m) (8 * count m) ∷ [])
 
--- offset k + 1 is no multiple of 4, falls, or leaves the value section
+-- offset[i] is no multiple of 4, is below the one before it, or leaves the value section. offset[0] is never wrong: it
+-- is 0, and is compared with itself, since a difference stops at 0.
 abbrev pub offsetBad : List ℕ → ℕ → Bool
-offsetBad m k =
+offsetBad m i =
     any
-    (not (eqb (offset m (k + 1) % 4) 0)
-    ∷ ltb (offset m (k + 1)) (edge m k)
-    ∷ ltb (section m) (offset m (k + 1))
+    (not (eqb (offset m i % 4) 0)
+    ∷ ltb (offset m i) (offset m (i - 1))
+    ∷ ltb (section m) (offset m i)
     ∷ [])
 
 -- some offset is wrong
 abbrev pub offsetsBad : List ℕ → Bool
-offsetsBad m = somewhere (offsetBad m) (count m - 1)
+offsetsBad m = somewhere (offsetBad m) (count m)
 
 -- some tag is not above the one before it
 abbrev pub tagsBad : List ℕ → Bool
@@ -75,17 +83,17 @@ messageStart = 0
 abbrev pub countPlace : ℕ
 countPlace = 0
 
--- the first k at which offset k + 1 is no multiple of 4, falls, or leaves the value section; N - 1 where there is none
+-- the first i at which offset[i] is wrong; N where there is none
 abbrev pub firstBadOffset : List ℕ → ℕ
-firstBadOffset m = least (offsetBad m) (count m - 1)
+firstBadOffset m = least (offsetBad m) (count m)
 
--- the first k at which tag k + 1 is not above tag k; N - 1 where there is none
+-- the first i at which tag i + 1 is not above tag i; N - 1 where there is none
 abbrev pub firstLowTag : List ℕ → ℕ
 firstLowTag m = least (notAbove m (4 * count m)) (count m - 1)
 
--- the word of the first wrong offset: N stands before the offsets
+-- the word of the first wrong offset: offset[i] is word i
 abbrev pub badOffsetPlace : List ℕ → ℕ
-badOffsetPlace m = 4 * (firstBadOffset m + 1)
+badOffsetPlace m = 4 * firstBadOffset m
 
 -- the word of the first tag that is not above the one before it: N words stand before the tags
 abbrev pub lowTagPlace : List ℕ → ℕ

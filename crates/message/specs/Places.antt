@@ -7,7 +7,7 @@ use mathlib.Core.List.{List}
 use lib.ListN.{length, take, drop}
 use Rattle.laws.specs.Numbers.{le}
 use Rattle.refusal.specs.declared.Refusal.{Refusal}
-use Rattle.message.specs.Frame.{count, offset, tagAt, section, edge}
+use Rattle.message.specs.Frame.{count, offset, tagAt, section}
 use Rattle.message.specs.Rules.{Row, row}
 use Rattle.message.specs.Sentences.{LengthGood, CountGood, Good, KeepsRule}
 use Rattle.message.specs.Values.{has, valueOf, valueStart}
@@ -20,12 +20,11 @@ pub record FirstWrong (Right : ℕ → Type 0) (n k : ℕ) : Type 0 where
 
 -- ---- code 4
 
--- offset k + 1 is a multiple of 4, does not fall below where the value before it starts, and stays within the value
--- section
-pub record OffsetRight (m : List ℕ) (k : ℕ) : Type 0 where
-  pub four : offset m (k + 1) % 4 ≡ 0
-  pub order : edge m k ≤ offset m (k + 1)
-  pub inside : offset m (k + 1) ≤ section m
+-- offset[i] is a multiple of 4, is not below the one before it, and stays within the value section
+pub record OffsetRight (m : List ℕ) (i : ℕ) : Type 0 where
+  pub four : offset m i % 4 ≡ 0
+  pub order : offset m (i - 1) ≤ offset m i
+  pub inside : offset m i ≤ section m
 
 -- the length is wrong: the start of the message
 pub record WrongLength (m : List ℕ) (at : ℕ) : Type 0 where
@@ -44,9 +43,9 @@ pub record WrongOffset (m : List ℕ) (at : ℕ) : Type 0 where
   pub size : LengthGood m
   pub head : CountGood m
   pub place : ℕ
-  pub first : FirstWrong (OffsetRight m) (count m - 1) place
-  pub is : at ≡ 4 * (place + 1)
-  pub word : le 4 m at ≡ offset m (place + 1)
+  pub first : FirstWrong (OffsetRight m) (count m) place
+  pub is : at ≡ 4 * place
+  pub word : le 4 m at ≡ offset m place
 
 -- one of the three
 pub data Wrong4 (m : List ℕ) (at : ℕ) : Type 0 where

@@ -25,12 +25,11 @@ pub record CountGood (m : List ℕ) : Type 0 where
   pub few : count m ≤ 32
   pub fits : 8 * count m ≤ length m
 
--- the offsets, which are those of the values 1 to N - 1, are multiples of 4, never fall, and stay within the value
--- section
+-- the offsets are multiples of 4, never fall, and stay within the value section
 pub record OffsetsGood (m : List ℕ) : Type 0 where
-  pub four : (k : ℕ) → 1 ≤ k → k < count m → offset m k % 4 ≡ 0
-  pub order : (k : ℕ) → 1 ≤ k → k + 1 < count m → offset m k ≤ offset m (k + 1)
-  pub inside : (k : ℕ) → 1 ≤ k → k < count m → offset m k ≤ section m
+  pub four : (i : ℕ) → i < count m → offset m i % 4 ≡ 0
+  pub order : (i : ℕ) → i + 1 < count m → offset m i ≤ offset m (i + 1)
+  pub inside : (i : ℕ) → i < count m → offset m i ≤ section m
 
 -- all of these; it is also what the functions that look up a tag ask of their callers
 pub record Good (m : List ℕ) : Type 0 where

@@ -61,9 +61,9 @@ fn offsets_code(m: &[u8]) -> Refusal
     ensures { λ r. ⌜ r ≡ whenAt (offsetsBad (now (m .entry))) 4 (badOffsetPlace (now (m .entry))) ⌝ }
 {
     let n = le32(m, 0) as usize;
-    let k = first_bad_offset(m, n);
-    if k < n - 1 {
-        return refuse_at(codes::FRAME, 4 * (k + 1));
+    let i = first_bad_offset(m, n);
+    if i < n {
+        return refuse_at(codes::FRAME, 4 * i);
     }
     PASSED
 }
@@ -81,29 +81,29 @@ fn tags_code(m: &[u8]) -> Refusal
     PASSED
 }
 
-// The first k below n - 1 at which offset k + 1 is wrong; n - 1 where there is none.
+// The first i below n at which offset[i] is wrong, which offset[0] isn't; n where there is none.
 fn first_bad_offset(m: &[u8], n: usize) -> usize
     requires { ⌜ (n ≡ count (now m)) × (0 < n) × (8 * n ≤ length (now m)) ⌝ }
     ensures { λ r. ⌜ r ≡ firstBadOffset (now (m .entry)) ⌝ }
 {
     let section = m.len() - 8 * n;
     let mut last = 0;
-    let mut k = 0;
-    while k < n - 1 {
-        let o = le32(m, 4 * (k + 1)) as usize;
+    let mut i = 1;
+    while i < n {
+        let o = le32(m, 4 * i) as usize;
         if o % 4 != 0 {
-            return k;
+            return i;
         }
         if o < last {
-            return k;
+            return i;
         }
         if section < o {
-            return k;
+            return i;
         }
         last = o;
-        k += 1;
+        i += 1;
     }
-    k
+    i
 }
 
 // The first k below n - 1 at which word k + 1 of those from `at` isn't above word k; n - 1 where they all rise.

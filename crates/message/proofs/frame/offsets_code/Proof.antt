@@ -1,5 +1,5 @@
 -- `message::frame::offsets_code` meets its contract. The place is that of the first wrong offset.
-use Prim.Native.Nat.{ℕ, _+_, _-_, _*_}
+use Prim.Native.Nat.{ℕ, _*_}
 use mathlib.Core.Path.{ap, _∙_}
 use native.Mathlib.Omega.{arith}
 use borrow.Author.Needs.{needs}
@@ -16,15 +16,15 @@ returns : tie.Need-returns
 unfolding whenOf somewhere
 returns c =
     let m = now (c .before .before .before .before .before .args .m) in
-    rw (lt-ltb (firstBadOffset m) (count m - 1) (omega arith))
+    rw (lt-ltb (firstBadOffset m) (count m) (omega arith))
     (c .refuse-at .ensures
-    ∙ ap (λ (k : ℕ). refusalAt 4 (4 * (k + 1))) (c .before .before .first-bad-offset .ensures))
+    ∙ ap (λ (i : ℕ). refusalAt 4 (4 * i)) (c .before .before .first-bad-offset .ensures))
 
 returns-2 : tie.Need-returns-2
 unfolding whenOf somewhere
 returns-2 c =
     let m = now (c .before .before .before .before .args .m) in
-    rw (le-ltb (firstBadOffset m) (count m - 1) (omega arith))
+    rw (le-ltb (firstBadOffset m) (count m) (omega arith))
 
 pub offsets-code-spec : {M : Type 1} → statement M
 offsets-code-spec =
@@ -33,8 +33,6 @@ offsets-code-spec =
     (λ c κs. search needs)
     (λ c. search needs)
     (λ c κs. search needs)
-    (λ c. search needs)
-    (λ c. search needs)
     (λ c. search needs)
     (λ c κs. search needs)
     returns
