@@ -20,6 +20,7 @@ use Rattle.refusal.specs.Refusal.{refusals}
 use Rattle.respond.specs.Refusing.{deleOf, replyCode}
 use Rattle.respond.specs.Response.{Reply, responseBytes}
 use Rattle.respond.proofs.Replied.{sized}
+use Rattle.tree.proofs.Exactly.{leads-exactly}
 use Rattle.verdict.specs.Check.{checkCode, agreementCode, pathLeads, pathMisses, timeOutside}
 use Rattle.wire.specs.Packet.{body}
 use Rattle.wire.specs.Request.{requestBad, requestCode}
@@ -85,7 +86,7 @@ module _ (a : Reply) where
           request = request-good (a .request) q-bytes (lent-good (a .request) refl (g .request));
           radius = omega (arith, g .radius);
           delegation = cert-good (a .cert) c-bytes (g .certified, g .delegated);
-          leads = g .leads;
+          leads = leads-exactly _ _ _ _ .0 (g .leads);
           from = g .from;
           to = g .to;
           short = g .short;
@@ -98,7 +99,7 @@ module _ (a : Reply) where
           radius = omega (arith, s .radius);
           certified = c .0;
           delegated = c .1;
-          leads = s .leads;
+          leads = leads-exactly _ _ _ _ .1 (s .leads);
           from = s .from;
           to = s .to;
           short = s .short;

@@ -1,5 +1,4 @@
 -- When a response is written, as requests P1 and P4 say it: all of these at once. No code stands in it.
-use mathlib.Core.Bool.{true}
 use mathlib.Core.List.{List}
 use mathlib.Core.Path.{_≡_}
 use Prim.Native.Nat.{ℕ, _^_, _≤_, _<_}
@@ -13,7 +12,7 @@ use Rattle.message.specs.Values.{valueOf}
 use Rattle.message.specs.Tags.{PATH, ROOT}
 use Rattle.respond.specs.Refusing.{mintOf, maxtOf}
 use Rattle.respond.specs.Response.{Reply, responseBytes}
-use Rattle.tree.specs.PathCheck.{leadsOf}
+use Rattle.tree.specs.Leads.{Leads}
 use Rattle.wire.specs.Good.{GoodRequest}
 use Rattle.wire.specs.Packet.{body}
 use Rattle.wire.specs.Response.{srep, cert, indxIn, midpIn, radiIn}
@@ -47,7 +46,7 @@ pub record Answerable (a : Reply) : Type 0 where
   -- CERT and its DELE are good
   pub delegation : GoodCert (a .cert)
   -- the path is 0 to 32 whole siblings and leads, with INDX, from the request's leaf to the root
-  pub leads : leadsOf (leafOf (a .request)) (a .indx) (a .path) (a .root) ≡ true
+  pub leads : Leads (leafOf (a .request)) (a .indx) (a .path) (a .root)
   -- MINT <= MIDP <= MAXT
   pub from : mintOf (a .cert) ≤ a .midp
   pub to : a .midp ≤ maxtOf (a .cert)

@@ -1,4 +1,4 @@
--- The check of a path (draft 19, 5.3.1; document 01, "Hash and tree", and request P2).
+-- The check of a path (draft 19, 5.3.1; document 01, "Hash and tree", and request P2). Leads is the same as a sentence.
 use mathlib.Core.Bool.{Bool, _&&_}
 use mathlib.Core.List.{List, [], _∷_}
 use Prim.Native.Nat.{ℕ, zero, suc, _/_, _%_, _^_}

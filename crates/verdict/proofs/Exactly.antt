@@ -14,6 +14,7 @@ use Rattle.laws.proofs.First.{says-0, is-last, test-false, is-empty, none-quiet
 use Rattle.laws.proofs.Same.{same-refl, same-true}
 use Rattle.message.specs.Tags.{NONC}
 use Rattle.message.specs.Values.{valueOf}
+use Rattle.tree.proofs.Exactly.{leads-exactly}
 use Rattle.wire.specs.Blank.{zeros32}
 use Rattle.wire.specs.Packet.{body}
 use Rattle.wire.specs.Request.{requestBad, requestCode}
@@ -51,7 +52,7 @@ module _ (q p : List ℕ) (d s : Bool) where
         nonce = same-true _ _ (not-false _ (test-quiet refusals _ _ tt (c9 .0)));
         version = version-test _ _ .0 (test-quiet refusals _ _ tt (c8 .0));
         highest = no-downgrade _ _ _ .0 (test-quiet refusals _ _ tt (high .0));
-        path = not-false _ (test-quiet refusals _ _ tt (c10 .0));
+        path = leads-exactly _ _ _ _ .0 (not-false _ (test-quiet refusals _ _ tt (c10 .0)));
         from = ltb-false _ _ (times .0);
         to = ltb-false _ _ (any-parts _ _ (times .1) .0);
         delegation = not-false _ (test-quiet refusals _ _ tt (c12 .0));
@@ -69,7 +70,7 @@ module _ (q p : List ℕ) (d s : Bool) where
 
     path-leads : false ≡ pathMisses q (body p)
     unfolding pathMisses
-    path-leads = sym (ap not (ok .path))
+    path-leads = sym (ap not (leads-exactly _ _ _ _ .1 (ok .path)))
 
     time-inside : false ≡ timeOutside (body p)
     unfolding timeOutside

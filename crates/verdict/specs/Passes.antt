@@ -4,13 +4,14 @@ use Prim.Native.Nat.{ℕ, _≤_}
 use mathlib.Core.Path.{_≡_}
 use mathlib.Core.Bool.{Bool, true}
 use mathlib.Core.List.{List}
-use Rattle.message.specs.Tags.{VER, NONC}
+use Rattle.hash.specs.Hashes.{leafOf}
+use Rattle.message.specs.Tags.{VER, NONC, PATH, ROOT}
 use Rattle.message.specs.Values.{valueOf}
+use Rattle.tree.specs.Leads.{Leads}
 use Rattle.wire.specs.Good.{GoodRequest, GoodResponse}
 use Rattle.wire.specs.Packet.{body}
-use Rattle.wire.specs.Response.{verIn, versIn, midpIn, mintIn, maxtIn}
+use Rattle.wire.specs.Response.{srep, indxIn, verIn, versIn, midpIn, mintIn, maxtIn}
 use Rattle.wire.specs.Versions.{HoldsVersion}
-use Rattle.verdict.specs.Check.{pathLeads}
 use Rattle.verdict.specs.Downgrade.{Downgrade}
 
 -- the response packet p to the request packet q, where d and s say whether the delegation's and the response's
@@ -26,8 +27,8 @@ pub record Passes (q p : List ℕ) (d s : Bool) : Type 0 where
   pub version : HoldsVersion (valueOf (body q) VER) (verIn (body p))
   -- no version that stands in both VERS and the request's VER is larger than SREP's VER
   pub highest : Downgrade (versIn (body p)) (valueOf (body q) VER) (verIn (body p)) → ⊥
-  -- the path leads from the request's leaf to ROOT
-  pub path : pathLeads q (body p) ≡ true
+  -- the path leads from the request's leaf to ROOT: a chain of parents, by the bits of INDX, of which none is left over
+  pub path : Leads (leafOf q) (indxIn (body p)) (valueOf (body p) PATH) (valueOf (srep (body p)) ROOT)
   -- MINT <= MIDP <= MAXT
   pub from : mintIn (body p) ≤ midpIn (body p)
   pub to : midpIn (body p) ≤ maxtIn (body p)
