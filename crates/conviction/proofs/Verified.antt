@@ -11,8 +11,8 @@ use lib.Dec.{eqb}
 use lib.ListN.{length, length-replicate, getD-replicate}
 use lib.Seq.{ext-getD}
 use Rattle.pile.specs.Pile.{recordsIn, recordAt, keyIn, responsePacket}
-use Rattle.signed.specs.Answers.{answerByte, ownAnswer, ownAnswers}
-use Rattle.signed.proofs.Own.{own-length, own-at}
+use Rattle.signed.specs.Answers.{answerByte, ownAnswers}
+use Rattle.signed.proofs.Own.{ownAnswer, own-length, own-at}
 use Rattle.walk.specs.State.{keyOf}
 use Rattle.walk.specs.Starting.{begunWalk}
 use Rattle.walk.specs.Standing.{Stands}

@@ -27,9 +27,9 @@ use Rattle.report.proofs.CutReports.{taken-exactly, none-exactly}
 use Rattle.report.proofs.Stands.{taken-run, cut-is-report, cut-stands, cut-front}
 use Rattle.runs.proofs.SamePile.{same-least}
 use Rattle.signatures.specs.Answers.{delegated, responded}
-use Rattle.signed.specs.Answers.{delegatedAt, respondedAt, ownAnswer, ownAnswers}
+use Rattle.signed.specs.Answers.{delegatedAt, respondedAt, ownAnswers}
 use Rattle.signed.specs.Meaning.{IsSignedReport, SignedReportIn}
-use Rattle.signed.proofs.Own.{own-length, own-at, own-good}
+use Rattle.signed.proofs.Own.{ownAnswer, own-length, own-at, own-good}
 use Rattle.signed.proofs.Alone.{report-alone}
 
 module _ {pile answers : List ℕ} {i j : ℕ} (run : RunIn pile answers i j) where

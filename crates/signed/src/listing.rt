@@ -1,14 +1,14 @@
 // The answers that our own Ed25519 gives for a pile, as bytes.
 ghost use mathlib.Core.Path.{_≡_};
-ghost use Prim.Native.Nat.{ℕ, _*_, _<_};
-ghost use lib.ListN.{length, getD};
+ghost use Prim.Native.Nat.{_*_};
+ghost use lib.ListN.{length, take};
 ghost use Rattle.laws.specs.Written.{written};
 ghost use Rattle.pile.specs.Meaning.{WholePile};
 ghost use Rattle.pile.specs.Pile.{recordsIn, keyIn, responsePacket, lengthBad};
 ghost use Rattle.refusal.specs.Refusal.{when};
 ghost use Rattle.writer.specs.Answered.{wroteNumber, answered};
 ghost use Rattle.signatures.specs.Answers.{answersOf};
-ghost use Rattle.signed.specs.Answers.{answerByte, ownAnswer, ownAnswers};
+ghost use Rattle.signed.specs.Answers.{answerByte, ownAnswers};
 use octets::copy32;
 use octets::le32;
 use octets::put;
@@ -47,7 +47,7 @@ pub fn pile_answers(pile: &[u8], out: &mut [u8]) -> Wrote
 fn answer_bytes(pile: &[u8]) -> [u8; 32]
     requires { ⌜ WholePile (now pile) ⌝ }
     ensures { λ r. ⌜ (length r ≡ 32)
-        × ((i : ℕ) → i < 2 * recordsIn (now (pile .entry)) → getD r i 0 ≡ ownAnswer (now (pile .entry)) i) ⌝ }
+        × (take (2 * recordsIn (now (pile .entry))) r ≡ ownAnswers (now (pile .entry))) ⌝ }
 {
     let mut bytes = [0u8; 32];
     let n = pile.len() / RECORD;

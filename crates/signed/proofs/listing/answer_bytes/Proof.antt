@@ -5,9 +5,9 @@ use Prim.Native.Nat.{ℕ, _+_, _-_, _*_, _≤_, _<_}
 use native.Mathlib.Omega.{arith}
 use lib.ListN.{length, getD, set, length-set}
 use Rattle.laws.proofs.Fill.{fill-next}
-use Rattle.signed.specs.Answers.{delegatedAt, respondedAt, answerByte, ownAnswer}
+use Rattle.signed.specs.Answers.{delegatedAt, respondedAt, answerByte}
 use Rattle.signatures.specs.declared.Verified.{Verified}
-use Rattle.signed.proofs.Own.{own-delegation, own-response}
+use Rattle.signed.proofs.Own.{ownAnswer, own-delegation, own-response, own-front}
 use borrow.Author.Needs.{needs}
 use Rattle.signed.proofs.listing.answer_bytes.Statement.{statement}
 use Rattle.signed.proofs.listing.answer_bytes.Tie as tie
@@ -72,7 +72,12 @@ loop-again c =
     )
 
 returns : tie.Need-returns Inv-loop μ-loop
-returns c = (c .before .loop .inv .1, λ i l. c .before .loop .inv .2 i (omega arith))
+returns c =
+    let loop = c .before .loop in
+    let start = c .before .before .before in (
+      loop .inv .1,
+      own-front _ (loop .bytes) (omega (arith, start .pre .to)) (λ i l. loop .inv .2 i (omega arith)),
+    )
 
 pub answer-bytes-spec : {M : Type 1} → statement M
 answer-bytes-spec =

@@ -4,7 +4,6 @@ use mathlib.Core.Bool.{Bool, true, false}
 use Prim.Native.Nat.{_*_}
 use native.Mathlib.Nat.{zero-add}
 use native.Mathlib.Omega.{arith}
-use lib.ListN.{take}
 use lib.Seq.{length-take-le}
 use Rattle.laws.specs.First.{whenOf}
 use Rattle.laws.proofs.Written.{puts-one}
@@ -14,7 +13,7 @@ use Rattle.refusal.specs.Refusal.{refusal, passed, when}
 use Rattle.refusal.specs.declared.Refusal.{Refusal}
 use Rattle.writer.proofs.Answered.{writer-refused, writer-short, writer-done}
 use Rattle.signed.specs.Answers.{ownAnswers}
-use Rattle.signed.proofs.Own.{own-length, own-front}
+use Rattle.signed.proofs.Own.{own-length}
 use borrow.Author.Needs.{needs}
 use Rattle.signed.proofs.listing.pile_answers.Statement.{statement}
 use Rattle.signed.proofs.listing.pile_answers.Tie as tie
@@ -74,13 +73,9 @@ returns-3 c =
     let i = a .before in
     let start = i .before .before .before .before .before in
     let pile = start .args .pile .now in
-    let w = whole _ (good-length (i .before)) in
-    let front : take (2 * recordsIn pile) (a .answer-bytes .result) ≡ ownAnswers pile =
-    own-front pile (a .answer-bytes .result) (omega (arith, w .to, a .answer-bytes .ensures .0))
-    (a .answer-bytes .ensures .1) in
     writer-done (passed-is _ (good-length (i .before))) refl
-    (puts-one (ownAnswers pile) (2 * recordsIn pile) (rw front at (p .put .ensures)) (zero-add _ ∙ own-length pile)
-    (omega arith))
+    (puts-one (ownAnswers pile) (2 * recordsIn pile) (rw (a .answer-bytes .ensures .1) at (p .put .ensures))
+    (zero-add _ ∙ own-length pile) (omega arith))
 
 pub pile-answers-spec : {M : Type 1} → statement M
 pile-answers-spec =
