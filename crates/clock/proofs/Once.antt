@@ -11,8 +11,8 @@ use Rattle.clock.proofs.telling.time_at.Reads as time-at-reads
 pub start-clock-once : Settles start-kinds.ps start-kinds.r start-reads.Learnt
 start-clock-once κs a x u y v p q = (p ∙ sym q, refl)
 
-pub take-once : Settles take-kinds.ps take-kinds.r take-reads.Learnt
-take-once κs a x u y v p q = (p ∙ sym q, refl)
+pub take-kept-once : Settles take-kinds.ps take-kinds.r take-reads.Learnt
+take-kept-once κs a x u y v p q = (p ∙ sym q, refl)
 
 pub time-at-once : Settles time-at-kinds.ps time-at-kinds.r time-at-reads.Learnt
 time-at-once κs a x u y v p q = (p ∙ sym q, refl)

@@ -1,11 +1,12 @@
 -- `agreement::agreeing::agree_on` meets its contract.
 use Rattle.agreement.proofs.Answers.{too-few, no-agreement, agreement}
 use borrow.Author.Needs.{needs}
+use native.Mathlib.Omega.{arith}
 use Rattle.agreement.proofs.agreeing.agree_on.Statement.{statement}
 use Rattle.agreement.proofs.agreeing.agree_on.Tie as tie
 
 returns : tie.Need-returns
-returns c = too-few _ _ (c .before .before .count .ensures) (c .before .if1 .taken) (c .refuse .ensures)
+returns c = too-few _ _ (c .before .before .count .ensures) (omega arith) (c .refuse .ensures)
 
 returns-2 : tie.Need-returns-2
 returns-2 c =
