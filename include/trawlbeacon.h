@@ -2,7 +2,7 @@
  * which tools/native-lib makes and which is the same.
  *
  * H is Roughtime's hash: the first 32 bytes of SHA-512. Times are whole seconds since 1970, but for
- * the stamps of old captures.
+ * the clock, which tells microseconds, and the stamps of old captures.
  *
  * What every function asks of its caller, and no compiler checks:
  *   - no pointer is null, not even one to no bytes at all: where a length is 0, pass any pointer
@@ -12,10 +12,10 @@
  *   - out leads to as many writable bytes as out_len, or the array it is declared as, says, is
  *     initialised memory, and overlaps no input.
  * All memory stays the caller's. The functions only read their inputs, but for the state of a hash
- * in pieces, that of windows as they come and that of a walk, which starting and taking write, and
- * the pile of a walk; they allocate nothing, and keep no pointer and no state of their own, so that
- * threads may call them at once; an answer is a value of its own. Inputs may overlap each other, but
- * not such a state or pile.
+ * in pieces, that of windows as they come, that of a walk and that of a clock, which starting and
+ * taking write, and the pile of a walk; they allocate nothing, and keep no pointer and no state of
+ * their own, so that threads may call them at once; an answer is a value of its own. Inputs may
+ * overlap each other, but not such a state or pile.
  *
  * The functions of hashes and tb_answers write the whole of out, and they and those that answer
  * with a bool cannot fail, but for tb_sha512_take. That one and every other take any bytes and
@@ -115,8 +115,7 @@ enum tb_code {
     TB_REPORT_TEXT = 24,
     /* the text has no entry, over 16 entries, or a packet above 2,000 bytes */
     TB_ENTRIES = 25,
-    /* the response was received before it was sent for, or sent for before the last one was
-     * received */
+    /* a response was received before it was sent for, or a moment is before the last receipt */
     TB_CLOCK = 26,
     /* the response took longer than is allowed */
     TB_DELAY = 27,
@@ -127,7 +126,13 @@ enum tb_code {
     /* the pieces of a message come to more than 2^64 - 1 bytes */
     TB_PIECES = 30,
     /* the servers of a walk are not 3 to 8 whole keys, or one key stands there twice */
-    TB_WALK_SERVERS = 31
+    TB_WALK_SERVERS = 31,
+    /* the server of a clock is above 7, or its drift is a million or more */
+    TB_CLOCK_INPUT = 32,
+    /* no more servers are counted than may lie */
+    TB_TOO_FEW = 33,
+    /* no time lies in the windows of enough servers */
+    TB_NO_AGREEMENT = 34
 };
 
 /* What a code says, in words. */
@@ -188,8 +193,8 @@ static inline const char *tb_code_text(uint32_t code) {
     case TB_ENTRIES:
         return "the text has no entry, over 16 entries, or a packet above 2,000 bytes";
     case TB_CLOCK:
-        return "the response was received before it was sent for, or sent for before the last one "
-               "was received";
+        return "a response was received before it was sent for, or a moment is before the last "
+               "receipt";
     case TB_DELAY:
         return "the response took longer than is allowed";
     case TB_ENDED:
@@ -200,6 +205,12 @@ static inline const char *tb_code_text(uint32_t code) {
         return "the pieces of a message come to more than 2^64 - 1 bytes";
     case TB_WALK_SERVERS:
         return "the servers of a walk are not 3 to 8 whole keys, or one key stands there twice";
+    case TB_CLOCK_INPUT:
+        return "the server of a clock is above 7, or its drift is a million or more";
+    case TB_TOO_FEW:
+        return "no more servers are counted than may lie";
+    case TB_NO_AGREEMENT:
+        return "no time lies in the windows of enough servers";
     default:
         return "no such code";
     }
@@ -978,6 +989,125 @@ static inline struct tb_took tb_walk_take_signed(struct tb_walk *walk, uint64_t 
     return tb_walk_take_signed_fields(walk->keys, walk->count, &walk->step, walk->nonce, walk->rand,
                                       &walk->last, walk->most, sent, received, rand, response,
                                       response_len, pile, pile_len);
+}
+
+/* ---- The time ----
+ *
+ * What time it is, though some servers lie or are silent. The clock takes the windows of valid
+ * responses as they come, of up to 8 servers, and keeps the two newest of each, so that one state
+ * serves for months. Asked at a moment of the host's own clock, with the number of servers that may
+ * lie, it tells between which two ends the time is:
+ *
+ *     start; take the window of each valid response, of a walk or of a single exchange; ask.
+ *
+ * It is proved that no more than that many liars can make it wrong. Where at most `liars` of the
+ * servers that are counted lie, the true time is between the two ends, and every suspect lies.
+ * Where 2 * liars < counted, too, each end comes from a server that does not lie, so that no liar
+ * pulls it further from the truth than an honest window is wide.
+ *
+ * How it is found (Marzullo 1984). The span of a window at a moment runs from low, plus what has
+ * passed since it was received, less the drift, to high, plus what has passed since its request was
+ * first sent, and the drift; it is rounded outwards. A window whose own high end is past its maxt,
+ * at the moment that is asked about, is not used: maxt itself is the last second that counts. The
+ * span of a server is what all its windows that are used allow; a server that has one is counted.
+ * The servers are counted at the newest receipt among the windows that are used. From there the two
+ * ends drift on to the moment that is asked about. So waiting brings no agreement and clears no
+ * suspect: code, counted, agree and suspects stay until a window is taken or one passes its maxt.
+ *
+ * What the host must see to:
+ *   - liars: of n servers that are asked, (n - 1) / 2 is the most that may lie before the honest
+ *     ones are too few. A silent server lowers counted: with 2 * liars >= counted the answer is
+ *     still right, and one liar may stretch it. counted tells which it is.
+ *   - drift: what the maker of the machine's clock crystal states, and more for heat and age; 100
+ *     is usual. A drift that is too small is the one lie that nothing shows.
+ *   - one clock for sent, received and moment that goes on in suspend and is never set:
+ *     CLOCK_BOOTTIME on Linux. After a restart of the machine, start the clock anew.
+ *   - sent is read before the first copy of a request is sent, and rounded down: an answer may be
+ *     to any copy. received is read after the response came, and rounded up.
+ *   - one number for each server, for good; windows of valid responses alone, each of a request
+ *     whose nonce nobody could guess.
+ *   - leap seconds: the time that is told is that of timestamps, which stand still for a second at
+ *     one (draft 19, 4.1.4). A window from before it is a second off after it. Servers allow for it
+ *     in their radi while it happens; the host allows for it by a second more at the low end, or by
+ *     asking anew.
+ *
+ * The state is the caller's, can be copied and kept as long as the machine runs, and is initialised
+ * memory before it is started ({0} in C, {} in C++). One that no start led to does no harm: each
+ * function ends, stays within it and gives the same answer to the same bytes. One of zeros is what
+ * a start with a drift of 0 leaves. */
+
+/* The most servers of a clock. It keeps two windows of each. */
+#define TB_CLOCK_SERVERS 8
+
+/* The state: the bound on the drift of the host's own clock, in parts per million, and the windows
+ * that are kept. Places 2 * s and 2 * s + 1 are the newest window of server s and the one before
+ * it. low, high and maxt are seconds since 1970, sent and received microseconds of the host's own
+ * clock. A place whose maxt is 0 has no window. */
+struct tb_clock {
+    uint32_t drift;
+    uint64_t low[16];
+    uint64_t high[16];
+    uint64_t maxt[16];
+    uint64_t sent[16];
+    uint64_t received[16];
+};
+
+/* The time at a moment: from low to high, in microseconds since 1970. stopped is 1 where high is
+ * 2^64 - 1: there an end stopped, and the time may be later. counted is how many servers were
+ * counted. agree and suspects are sets of these, in which server s is the bit 1 << s: those whose
+ * span meets the time, and those whose span does not. Each that was counted is in one of them. */
+struct tb_time {
+    uint32_t code;
+    uint32_t stopped;
+    uint64_t low;
+    uint64_t high;
+    uint64_t counted;
+    uint64_t agree;
+    uint64_t suspects;
+};
+
+/* What the functions below call, with the fields of a state one by one, which must not overlap each
+ * other: call those instead. */
+uint32_t tb_clock_start_fields(uint32_t *drift, uint64_t low[16], uint64_t high[16],
+                               uint64_t maxt[16], uint64_t sent[16], uint64_t received[16],
+                               uint32_t bound);
+uint32_t tb_clock_take_fields(uint32_t drift, uint64_t low[16], uint64_t high[16],
+                              uint64_t maxt[16], uint64_t sent[16], uint64_t received[16],
+                              uint64_t server, uint64_t window_low, uint64_t window_high,
+                              uint64_t window_maxt, uint64_t window_sent, uint64_t window_received);
+struct tb_time tb_clock_now_fields(uint32_t drift, const uint64_t low[16], const uint64_t high[16],
+                                   const uint64_t maxt[16], const uint64_t sent[16],
+                                   const uint64_t received[16], uint64_t moment, uint64_t liars);
+
+/* Starts, before any window. drift is the most by which the host's own clock goes wrong, in parts
+ * per million, below 1,000,000. The code is 32. On a refusal the state stays as it was. */
+static inline uint32_t tb_clock_start(struct tb_clock *clock, uint32_t drift) {
+    return tb_clock_start_fields(&clock->drift, clock->low, clock->high, clock->maxt, clock->sent,
+                                 clock->received, drift);
+}
+
+/* Takes the window of a valid response of a server, 0 to 7: low, high and maxt as its tb_verdict or
+ * tb_judged tells them, and when the first copy of its request was sent and it was received. It is
+ * that server's newest, and the one before the newest so far is forgotten.
+ * The codes are 32, where the server is above 7; and 26, where it was received before it was sent
+ * for, or before the last window that was taken of that server. Of two servers, the later receipt
+ * may be taken first. On a refusal the state stays as it was. */
+static inline uint32_t tb_clock_take(struct tb_clock *clock, uint64_t server, uint64_t low,
+                                     uint64_t high, uint64_t maxt, uint64_t sent,
+                                     uint64_t received) {
+    return tb_clock_take_fields(clock->drift, clock->low, clock->high, clock->maxt, clock->sent,
+                                clock->received, server, low, high, maxt, sent, received);
+}
+
+/* The time at a moment of the host's own clock, where at most `liars` of the servers that are
+ * counted lie. Nothing changes. The codes are
+ *   26: the moment is before some window that was taken was received;
+ *   33: no more servers are counted than may lie;
+ *   34: no time lies in the spans of all but `liars` of the servers that are counted: more lie. */
+static inline struct tb_time tb_clock_now(const struct tb_clock *clock, uint64_t moment,
+                                          uint64_t liars) {
+    return tb_clock_now_fields(clock->drift, clock->low, clock->high, clock->maxt, clock->sent,
+                               clock->received, moment, liars);
 }
 
 /* ---- Old captures ----

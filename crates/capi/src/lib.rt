@@ -3,6 +3,7 @@
 // What a caller must see to (no null pointer, lengths that are true, an out or a state that is initialised and overlaps
 // no input) stands in include/trawlbeacon.h.
 mod building;
+mod clocking;
 mod finding;
 mod hashing;
 mod judging;

@@ -1,10 +1,11 @@
-// What C is told of packets, trees, servers and stamps: the structs of include/trawlbeacon.h that are answers, and each
-// answer of the library as one of them, but for where a server was found, which its export tells; `evidence` has those of
-// piles. No function has a `requires`.
+// What C is told of packets, trees, servers, stamps and the clock: the structs of include/trawlbeacon.h that are
+// answers, and each answer of the library as one of them, but for where a server was found, which its export tells;
+// `evidence` has those of piles. No function has a `requires`.
 // Each struct has the header's name, `tb_request` for `TbRequest`. Its code is document 01's number, 0 where nothing
 // was refused, and `at` the byte place that it carries, 0 where it carries none; what else stands beside a refusal is
 // zeros.
 mod building;
+mod clocking;
 mod judging;
 mod numbers;
 mod reading;
@@ -14,6 +15,7 @@ mod writing;
 pub use building::path_told;
 pub use building::root_told;
 pub use building::rows_told;
+pub use clocking::time_told;
 pub use judging::verdict_told;
 pub use judging::verdict_with;
 pub use numbers::number;
@@ -115,4 +117,16 @@ pub struct TbOld {
     pub code: u32,
     pub low: u64,
     pub high: u64,
+}
+
+// What `tb_clock_now` answers.
+#[repr(C)]
+pub struct TbTime {
+    pub code: u32,
+    pub stopped: u32,
+    pub low: u64,
+    pub high: u64,
+    pub counted: u64,
+    pub agree: u64,
+    pub suspects: u64,
 }

@@ -63,8 +63,7 @@ pub enum Refusal {
     ReportText,
     /// the text has no entry, over 16 entries, or a packet above 2,000 bytes
     Entries,
-    /// the response was received before it was sent for, or sent for before the last one was
-    /// received
+    /// a response was received before it was sent for, or a moment is before the last receipt
     Clock,
     /// the response took longer than is allowed
     Delay,
@@ -76,6 +75,12 @@ pub enum Refusal {
     Pieces,
     /// the servers of a walk are not 3 to 8 whole keys, or one key stands there twice
     WalkServers,
+    /// the server of a clock is above 7, or its drift is a million or more
+    ClockInput,
+    /// no more servers are counted than may lie
+    TooFew,
+    /// no time lies in the windows of enough servers
+    NoAgreement,
 }
 
 impl Refusal {
@@ -114,6 +119,9 @@ impl Refusal {
             Refusal::OldStamp => 29,
             Refusal::Pieces => 30,
             Refusal::WalkServers => 31,
+            Refusal::ClockInput => 32,
+            Refusal::TooFew => 33,
+            Refusal::NoAgreement => 34,
         }
     }
 
@@ -169,8 +177,8 @@ impl Refusal {
                 "the text has no entry, over 16 entries, or a packet above 2,000 bytes"
             }
             Refusal::Clock => {
-                "the response was received before it was sent for, or sent for before the last one \
-                 was received"
+                "a response was received before it was sent for, or a moment is before the last \
+                 receipt"
             }
             Refusal::Delay => "the response took longer than is allowed",
             Refusal::Ended => "the walk has ended",
@@ -181,6 +189,11 @@ impl Refusal {
             Refusal::WalkServers => {
                 "the servers of a walk are not 3 to 8 whole keys, or one key stands there twice"
             }
+            Refusal::ClockInput => {
+                "the server of a clock is above 7, or its drift is a million or more"
+            }
+            Refusal::TooFew => "no more servers are counted than may lie",
+            Refusal::NoAgreement => "no time lies in the windows of enough servers",
         }
     }
 
@@ -219,6 +232,9 @@ impl Refusal {
             29 => Refusal::OldStamp,
             30 => Refusal::Pieces,
             31 => Refusal::WalkServers,
+            32 => Refusal::ClockInput,
+            33 => Refusal::TooFew,
+            34 => Refusal::NoAgreement,
             _ => return None,
         })
     }
