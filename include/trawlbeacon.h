@@ -1000,10 +1000,10 @@ static inline struct tb_took tb_walk_take_signed(struct tb_walk *walk, uint64_t 
  *
  *     start; take the window of each valid response, of a walk or of a single exchange; ask.
  *
- * It is proved that no more than that many liars can make it wrong. Where at most `liars` of the
- * servers that are counted lie, the true time is between the two ends, and every suspect lies.
- * Where 2 * liars < counted, too, each end comes from a server that does not lie, so that no liar
- * pulls it further from the truth than an honest window is wide.
+ * Where at most `liars` of the servers that are counted lie, it is proved that the true time is
+ * between the two ends, and that every suspect lies. Where 2 * liars < counted, too, each end comes
+ * from a server that does not lie, so that no liar pulls it further from the truth than an honest
+ * window is wide.
  *
  * How it is found (Marzullo 1984). The span of a window at a moment runs from low, plus what has
  * passed since it was received, less the drift, to high, plus what has passed since its request was
@@ -1027,9 +1027,9 @@ static inline struct tb_took tb_walk_take_signed(struct tb_walk *walk, uint64_t 
  *   - one number for each server, for good; windows of valid responses alone, each of a request
  *     whose nonce nobody could guess.
  *   - leap seconds: the time that is told is that of timestamps, which stand still for a second at
- *     one (draft 19, 4.1.4). A window from before it is a second off after it. Servers allow for it
- *     in their radi while it happens; the host allows for it by a second more at the low end, or by
- *     asking anew.
+ *     one (draft 19, 4.1.4). A window from before it is a second too late after it. Servers allow
+ *     for it in their radi while it happens; the host takes a second off the low end, until every
+ *     window that was taken before has been followed by two that were taken after it.
  *
  * The state is the caller's, can be copied and kept as long as the machine runs, and is initialised
  * memory before it is started ({0} in C, {} in C++). One that no start led to does no harm: each
