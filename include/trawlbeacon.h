@@ -247,7 +247,7 @@ static inline const char *tb_code_text(uint32_t code) {
 /* Bytes of stack that are enough for tb_cut_text and tb_cut_signed_text, which hold sixteen records
  * there: 72,944 and 118,072, measured under an emulator of aarch64, and 73,032 and 118,000 on
  * x86-64. hosts/c/stack.c measures them anew. Of functions for which none of the three constants is
- * meant it measures 23, and none takes over 10,856. */
+ * meant it measures 26, and none takes over 10,856. */
 #define TB_TEXT_STACK 163840
 
 /* Bytes of a record of a list of servers. */

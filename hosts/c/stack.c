@@ -195,6 +195,12 @@ static void walk_on(uint64_t steps) {
     }
 }
 
+/* A clock with one window, of the last server. */
+static struct tb_clock telling;
+static void call_clock_start(void) { code = tb_clock_start(&telling, 100); }
+static void call_clock_take(void) { code = tb_clock_take(&telling, 7, 1000, 1002, 9000, 5, 6); }
+static void call_clock_now(void) { code = tb_clock_now(&telling, 7, 0).code; }
+
 static const struct operation {
     const char *name;
     void (*call)(void);
@@ -238,7 +244,10 @@ static const struct operation OTHERS[] = {{"tb_sha512", call_sha512},
                                           {"tb_write_report", call_write_report},
                                           {"tb_walk_start", call_walk_start},
                                           {"tb_walk_ask", call_walk_ask},
-                                          {"tb_walk_take", call_walk_take}};
+                                          {"tb_walk_take", call_walk_take},
+                                          {"tb_clock_start", call_clock_start},
+                                          {"tb_clock_take", call_clock_take},
+                                          {"tb_clock_now", call_clock_now}};
 
 static const struct operation LAST = {"tb_walk_take, the last", call_walk_take};
 
