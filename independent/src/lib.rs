@@ -23,6 +23,8 @@
 pub mod appendix;
 pub mod base64;
 pub mod check;
+pub mod clock;
+pub mod course;
 pub mod ed25519;
 pub mod edwards;
 pub mod halves;

@@ -72,6 +72,12 @@ pub enum Refusal {
     OldStamp = 29,
     /// The servers of a walk are not 3 to 8, or one of them stands there twice.
     WalkServers = 31,
+    /// A clock is told of a server above 7, or states a drift of a million or more.
+    ClockInput = 32,
+    /// Of a clock, no more servers are counted than may lie.
+    TooFew = 33,
+    /// Of a clock, no time lies in the windows of enough servers.
+    NoAgreement = 34,
 }
 
 impl Refusal {
