@@ -9,9 +9,10 @@
  * both sides of each limit, a pile by the times it was made of, its report as JSON by a text that
  * is made here of the same records, windows as they come by every pair of them, a walk by its
  * records and by each refusal at each step, and where it verifies by itself by the draft's three
- * responses and tb_answers, a writer by what it leaves in a buffer, a server by the draft's
- * response, which it writes again out of its values, the words of a code by some of them. Whether
- * all of that is right on every input is for the tests of hosts/rust.
+ * responses and tb_answers, a clock by windows whose ends are reckoned here, a writer by what it
+ * leaves in a buffer, a server by the draft's response, which it writes again out of its values,
+ * the words of a code by some of them. Whether all of that is right on every input is for the tests
+ * of hosts/rust.
  */
 #include "report.h"
 #include "response.h"
@@ -1761,6 +1762,158 @@ static void expect_signed_report(void) {
     expect_no_pile("half a record, signed", pile, TB_RECORD_LENGTH / 2);
 }
 
+/* ---- The time ---- */
+
+static void expect_time(const char *what, struct tb_time is, struct tb_time should) {
+    expect_number(what, is.code, should.code);
+    expect_number(what, is.stopped, should.stopped);
+    expect_number(what, is.low, should.low);
+    expect_number(what, is.high, should.high);
+    expect_number(what, is.counted, should.counted);
+    expect_number(what, is.agree, should.agree);
+    expect_number(what, is.suspects, should.suspects);
+}
+
+static void expect_no_time(const char *what, struct tb_time is, uint32_t code) {
+    struct tb_time nothing = {.code = code};
+    expect_time(what, is, nothing);
+}
+
+/* Compares every number of two states. */
+static void expect_clock(const char *what, const struct tb_clock *is,
+                         const struct tb_clock *should) {
+    expect_number(what, is->drift, should->drift);
+    for (size_t i = 0; i < 2 * TB_CLOCK_SERVERS; i++) {
+        expect_number(what, is->low[i], should->low[i]);
+        expect_number(what, is->high[i], should->high[i]);
+        expect_number(what, is->maxt[i], should->maxt[i]);
+        expect_number(what, is->sent[i], should->sent[i]);
+        expect_number(what, is->received[i], should->received[i]);
+    }
+}
+
+/* A window that is taken by hand: what stood at the server's first place goes to its second. */
+static void put_window(struct tb_clock *clock, size_t server, uint64_t low, uint64_t high,
+                       uint64_t maxt, uint64_t sent, uint64_t received) {
+    uint64_t *arrays[] = {clock->low, clock->high, clock->maxt, clock->sent, clock->received};
+    const uint64_t numbers[] = {low, high, maxt, sent, received};
+    for (size_t i = 0; i < 5; i++) {
+        arrays[i][2 * server + 1] = arrays[i][2 * server];
+        arrays[i][2 * server] = numbers[i];
+    }
+}
+
+/* Starts write over any state, or leave it. */
+static void expect_clock_starts(void) {
+    static const struct {
+        uint32_t drift, code;
+    } STARTS[] = {{0, 0}, {100, 0}, {999999, 0}, {1000000, 32}, {1000001, 32}, {UINT32_MAX, 32}};
+    for (size_t i = 0; i < sizeof STARTS / sizeof STARTS[0]; i++) {
+        struct tb_clock clock, should = {0};
+        memset(&clock, 0xee, sizeof clock);
+        should.drift = STARTS[i].drift;
+        if (STARTS[i].code != 0) should = clock;
+        expect_number("tb_clock_start", tb_clock_start(&clock, STARTS[i].drift), STARTS[i].code);
+        expect_clock("a clock that is started", &clock, &should);
+    }
+}
+
+/* Takes a window, and holds the code and the state to what they should be. */
+static void expect_heard(const char *what, struct tb_clock *clock, uint64_t server, uint64_t sent,
+                         uint64_t received, uint32_t code) {
+    struct tb_clock should = *clock;
+    const uint64_t low = 1000 + sent, high = 1006 + sent, maxt = 5000 + received;
+    if (code == 0) put_window(&should, (size_t)server, low, high, maxt, sent, received);
+    expect_number(what, tb_clock_take(clock, server, low, high, maxt, sent, received), code);
+    expect_clock(what, clock, &should);
+}
+
+/* Each server's two newest windows, and each refusal before the one that comes after it. */
+static void expect_clock_takes(void) {
+    struct tb_clock clock = {0};
+    tb_clock_start(&clock, 100);
+    for (uint64_t server = 0; server < TB_CLOCK_SERVERS; server++) {
+        for (uint64_t k = 0; k < 4; k++)
+            expect_heard("a window", &clock, server, 10 * k + server, 10 * k + 2 * server, 0);
+        const uint64_t last = 30 + 2 * server;
+        expect_heard("received before it was sent", &clock, server, 1000, 999, TB_CLOCK);
+        expect_heard("received before the last", &clock, server, 0, last - 1, TB_CLOCK);
+        expect_heard("received with the last", &clock, server, 0, last, 0);
+    }
+    expect_heard("a ninth server", &clock, 8, 1000, 999, TB_CLOCK_INPUT);
+    expect_heard("a server that is no 32 bits", &clock, (uint64_t)1 << 32, 9, 9, TB_CLOCK_INPUT);
+    expect_heard("the last server that there is", &clock, UINT64_MAX, 9, 9, TB_CLOCK_INPUT);
+    expect_heard("any moment", &clock, 3, 0, UINT64_MAX, 0);
+}
+
+/* A clock with 100 parts of a million, and three servers, of which the last is nine seconds ahead:
+ * each is heard in the first second, and trusted up to second 5000. */
+static struct tb_clock three_servers(void) {
+    struct tb_clock clock = {0};
+    tb_clock_start(&clock, 100);
+    tb_clock_take(&clock, 0, 997, 1003, 5000, 70000, 110000);
+    tb_clock_take(&clock, 1, 998, 1004, 5000, 70000, 120000);
+    tb_clock_take(&clock, 2, 1006, 1012, 5000, 70000, 170000);
+    return clock;
+}
+
+/* One of three lies. With it as many may lie as there are. */
+static void expect_one_liar(void) {
+    const struct tb_clock clock = three_servers();
+    /* At 170000 the first two say 997.059994 to 1003.100010 and 998.049995 to 1004.100010. */
+    for (uint64_t later = 0; later <= 200000; later += 997) {
+        const uint64_t down = later * 999900 / 1000000, up = (later * 1000100 + 999999) / 1000000;
+        const uint64_t low = 998049995 + down, high = 1003100010 + up;
+        struct tb_time one = {.low = low, .high = high, .counted = 3, .agree = 3, .suspects = 4};
+        struct tb_time two = {.low = 997059994 + down, .high = 1012100010 + up, .counted = 3,
+                              .agree = 7};
+        expect_time("one of three may lie", tb_clock_now(&clock, 170000 + later, 1), one);
+        expect_time("two of three may lie", tb_clock_now(&clock, 170000 + later, 2), two);
+    }
+    expect_no_time("nobody lies", tb_clock_now(&clock, 170000, 0), TB_NO_AGREEMENT);
+    expect_no_time("nobody lies, later", tb_clock_now(&clock, 3000000000, 0), TB_NO_AGREEMENT);
+    expect_no_time("three may lie", tb_clock_now(&clock, 170000, 3), TB_TOO_FEW);
+    expect_no_time("any number may lie", tb_clock_now(&clock, 170000, UINT64_MAX), TB_TOO_FEW);
+    expect_no_time("a moment before", tb_clock_now(&clock, 169999, 3), TB_CLOCK);
+    struct tb_clock later = clock;
+    later.received[15] = 170001;
+    expect_no_time("a moment before nothing", tb_clock_now(&later, 170000, 3), TB_CLOCK);
+    expect_no_time("no drift and no window", tb_clock_now(&(struct tb_clock){0}, 0, 0), TB_TOO_FEW);
+}
+
+/* Windows past MAXT, the two windows of a server, and ends that stop. */
+static void expect_clock_borders(void) {
+    struct tb_clock clock = {0};
+    tb_clock_start(&clock, 0);
+    tb_clock_take(&clock, 7, 990, 1000, 1000, 0, 0);
+    struct tb_time last = {.low = 990999999, .high = 1000999999, .counted = 1, .agree = 128};
+    expect_time("the last moment of MAXT", tb_clock_now(&clock, 999999, 0), last);
+    expect_no_time("past MAXT", tb_clock_now(&clock, 1000000, 0), TB_TOO_FEW);
+    tb_clock_take(&clock, 7, 995, 1005, 5000, 0, 0);
+    struct tb_time both = {.low = 995000000, .high = 1000000000, .counted = 1, .agree = 128};
+    expect_time("two windows of a server", tb_clock_now(&clock, 0, 0), both);
+    expect_no_time("they count once", tb_clock_now(&clock, 0, 1), TB_TOO_FEW);
+    struct tb_time newest = {.low = 996000000, .high = 1006000000, .counted = 1, .agree = 128};
+    expect_time("one of them past MAXT", tb_clock_now(&clock, 1000000, 0), newest);
+    tb_clock_take(&clock, 7, 1100, 1200, 5000, 0, 0);
+    expect_no_time("two that contradict", tb_clock_now(&clock, 0, 0), TB_NO_AGREEMENT);
+    tb_clock_take(&clock, 0, 0, UINT64_MAX, UINT64_MAX, 0, 0);
+    struct tb_time all = {.stopped = 1, .high = UINT64_MAX, .counted = 2, .agree = 1,
+                          .suspects = 128};
+    expect_time("an end that stopped", tb_clock_now(&clock, 0, 1), all);
+    tb_clock_take(&clock, 0, 18446744073710, UINT64_MAX, UINT64_MAX, 0, 0);
+    all.low = UINT64_MAX;
+    expect_time("two ends that stopped", tb_clock_now(&clock, 5, 1), all);
+}
+
+static void expect_clocks(void) {
+    expect_number("size of a clock", sizeof(struct tb_clock), 648);
+    expect_clock_starts();
+    expect_clock_takes();
+    expect_one_liar();
+    expect_clock_borders();
+}
+
 static void expect_piles(void) {
     static uint8_t pile[PILE_LENGTH];
     for (size_t k = 0; k < RECORDS; k++) lay_record(pile + k * TB_RECORD_LENGTH, k, TIMES[k]);
@@ -1798,6 +1951,7 @@ int main(void) {
     expect_signed_report();
     expect_tally();
     expect_walks();
+    expect_clocks();
     expect_server_parts(packet);
     expect_server(packet);
     expect_all_words();

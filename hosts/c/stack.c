@@ -195,11 +195,18 @@ static void walk_on(uint64_t steps) {
     }
 }
 
-/* A clock with one window, of the last server. */
-static struct tb_clock telling;
-static void call_clock_start(void) { code = tb_clock_start(&telling, 100); }
-static void call_clock_take(void) { code = tb_clock_take(&telling, 7, 1000, 1002, 9000, 5, 6); }
-static void call_clock_now(void) { code = tb_clock_now(&telling, 7, 0).code; }
+/* A clock with two windows of each of eight servers, all of which agree. */
+static struct tb_clock clock_of_all;
+static void call_clock_start(void) { code = tb_clock_start(&clock_of_all, 100); }
+static void call_clock_take(void) {
+    code = tb_clock_take(&clock_of_all, 7, 1000, 1006, UINT64_MAX, 5, 9);
+}
+static void call_clock_now(void) { code = tb_clock_now(&clock_of_all, 1000, 3).code; }
+static void hear_all(void) {
+    call_clock_start();
+    for (uint64_t i = 0; i < 2 * TB_CLOCK_SERVERS; i++)
+        tb_clock_take(&clock_of_all, i / 2, 1000, 1005 + i, UINT64_MAX, i / 2, i / 2);
+}
 
 static const struct operation {
     const char *name;
@@ -245,9 +252,9 @@ static const struct operation OTHERS[] = {{"tb_sha512", call_sha512},
                                           {"tb_walk_start", call_walk_start},
                                           {"tb_walk_ask", call_walk_ask},
                                           {"tb_walk_take", call_walk_take},
-                                          {"tb_clock_start", call_clock_start},
+                                          {"tb_clock_now", call_clock_now},
                                           {"tb_clock_take", call_clock_take},
-                                          {"tb_clock_now", call_clock_now}};
+                                          {"tb_clock_start", call_clock_start}};
 
 static const struct operation LAST = {"tb_walk_take, the last", call_walk_take};
 
@@ -353,6 +360,7 @@ int main(void) {
     tb_sha512_start(&running);
     call_walk_start();
     walk_on(0);
+    hear_all();
 
     size_t most = most_of_trees(stack, before);
     bool fits = within("trees", most, TB_TREE_STACK);

@@ -38,6 +38,11 @@ impl Dice {
         self.roll() % end
     }
 
+    /// The same, for more than 64 bits.
+    fn wide_below(&mut self, end: u128) -> u128 {
+        (u128::from(self.roll()) << 64 | u128::from(self.roll())) % end
+    }
+
     /// A number of any size.
     pub fn number(&mut self) -> u64 {
         let bits = self.below(65) as u32;
@@ -161,7 +166,7 @@ impl Stretch {
 
     fn moment(&self, dice: &mut Dice) -> u128 {
         let edge = dice.pick(&[0, self.length]);
-        let within = u128::from(dice.roll()) * self.length >> 64;
+        let within = dice.wide_below(self.length);
         self.start + if dice.once_in(8) { edge } else { within }
     }
 }
@@ -178,7 +183,7 @@ fn pieces(dice: &mut Dice, stretch: &Stretch, drift: u32) -> Vec<(u128, i128)> {
         let between = i128::from(dice.below(2 * u64::from(drift) + 1)) - bound;
         sign = if way == 1 { -sign } else { sign };
         match way {
-            0 | 1 | 2 => NANO + sign * bound,
+            0..=2 => NANO + sign * bound,
             3 => NANO + between,
             _ => NANO,
         }
@@ -210,7 +215,7 @@ fn exchange(dice: &mut Dice, stretch: &Stretch, server: usize) -> Exchange {
     let (near, end) = (u128::from(dice.below(2_000_000)), stretch.start + stretch.length);
     let other = if dice.once_in(4) { other } else { (one + dice.pick(&[0, 1, near])).min(end) };
     let (sent, received) = (one.min(other), one.max(other));
-    let within = sent + (u128::from(dice.roll()) * (received - sent) >> 64);
+    let within = sent + dice.wide_below(received - sent + 1);
     Exchange { server, sent, received, looked: dice.pick(&[sent, received, within]) }
 }
 
@@ -315,12 +320,14 @@ fn taken(dice: &mut Dice, exchange: &Exchange, character: Character, truth: &Tru
 
 /// A question, mostly with as many liars as there may be.
 fn asked(dice: &mut Dice, stretch: &Stretch, servers: usize, lying: usize) -> Step {
-    let within = (stretch.moment(dice) / MICRO) as u64;
+    let within = [0; 3].map(|_| (stretch.moment(dice) / MICRO) as u64);
+    let late = within.into_iter().max().expect("there are three");
     let later = dice.number();
-    let moment = match dice.below(6) {
-        0 => within.saturating_add(later),
-        1 | 2 => ((stretch.start + stretch.length) / MICRO) as u64,
-        _ => within,
+    let moment = match dice.below(8) {
+        0 => within[0],
+        1 => late.saturating_add(later),
+        2..=4 => ((stretch.start + stretch.length) / MICRO) as u64,
+        _ => late,
     };
     let (advised, lying) = ((servers as u64 - 1) / 2, lying as u64);
     let (few, any) = (dice.below(9), dice.number());

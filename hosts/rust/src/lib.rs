@@ -2,8 +2,8 @@
 //!
 //! Each function here calls the function of the proved library that has the same name after `tb_`,
 //! and adds nothing to it; [`cut`], [`cut_signed`], [`Record`], [`Pile`] and [`SignedPile`] only
-//! lay out bytes beside such calls, and [`Sha512`], [`Tally`] and [`Walk`] hold the state between
-//! those that end in `_fields` or `_field`, the last with its pile. The module `picture` draws what
+//! lay out bytes beside such calls, and [`Sha512`], [`Tally`], [`Clock`] and [`Walk`] hold the state
+//! between those that end in `_fields` or `_field`, the last with its pile. The module `picture` draws what
 //! such calls say of a pile. The proofs speak of the library's own code; that these few lines
 //! declare and call it rightly is shown by the tests alone, which compare every function with an
 //! implementation that shares no code with the library.
@@ -12,7 +12,7 @@
 //! request to the window by [`check_signed`], and takes a file for what the server answered; the
 //! example `console` does the same with an Ed25519 of the host's; the example `server` delegates a
 //! key and answers a batch of 900 requests; the example `demo` has a console measure three servers,
-//! one of which lies.
+//! one of which lies, and tell the time all the same.
 //!
 //! Without the feature `std`, which is on by default, the package needs no operating system, and
 //! without `alloc`, which `std` brings along, no heap: what holds bytes of its own is then left out,
@@ -44,6 +44,7 @@
 extern crate alloc;
 
 mod check;
+mod clock;
 #[cfg(feature = "alloc")]
 mod cutting;
 #[cfg(feature = "alloc")]
@@ -68,6 +69,7 @@ mod verifying;
 mod walk;
 
 pub use check::{check_response, may_use, same_delegation, Checked, Window};
+pub use clock::{Clock, Servers, Time, CLOCK_SERVERS};
 #[cfg(feature = "alloc")]
 pub use cutting::{cut, cut_signed, Cut};
 #[cfg(feature = "alloc")]

@@ -53,6 +53,25 @@ pub struct tb_walk {
     pub most: u64,
 }
 
+/// The state of a clock. It is the caller's, and any content does no harm. Places 2 s and 2 s + 1 of
+/// each array are the newest window of server s and the one before it.
+#[repr(C)]
+#[derive(Clone, Copy, Debug, PartialEq, Eq)]
+pub struct tb_clock {
+    /// The bound on the drift of the host's own clock, in parts per million.
+    pub drift: u32,
+    /// The low ends of the windows, in seconds since 1970.
+    pub low: [u64; 16],
+    /// Their high ends.
+    pub high: [u64; 16],
+    /// Their MAXT: 0 where there is no window.
+    pub maxt: [u64; 16],
+    /// When the first copy of the request was sent, in microseconds of the host's own clock.
+    pub sent: [u64; 16],
+    /// When the response was received.
+    pub received: [u64; 16],
+}
+
 /// What [`tb_read_request`] answers.
 #[repr(C)]
 #[derive(Clone, Copy, Debug, PartialEq, Eq)]
@@ -319,6 +338,26 @@ pub struct tb_took {
     pub first: u64,
     /// The place of the later one; else 0.
     pub second: u64,
+}
+
+/// What [`tb_clock_now_fields`] answers.
+#[repr(C)]
+#[derive(Clone, Copy, Debug, PartialEq, Eq)]
+pub struct tb_time {
+    /// 0, or a refusal; then all else is 0.
+    pub code: u32,
+    /// 1 where `high` is 2^64 - 1 and the time may be later, else 0.
+    pub stopped: u32,
+    /// The low end of the time, in microseconds since 1970.
+    pub low: u64,
+    /// The high end.
+    pub high: u64,
+    /// How many servers were counted.
+    pub counted: u64,
+    /// Those of them that agree: server s is the bit 1 << s.
+    pub agree: u64,
+    /// Those that do not.
+    pub suspects: u64,
 }
 
 /// What [`tb_old_window`] answers.
@@ -698,6 +737,43 @@ extern "C" {
         pile: *mut u8,
         pile_len: usize,
     ) -> tb_took;
+
+    /// Starts a clock: 0 or 32.
+    pub fn tb_clock_start_fields(
+        drift: &mut u32,
+        low: &mut [u64; 16],
+        high: &mut [u64; 16],
+        maxt: &mut [u64; 16],
+        sent: &mut [u64; 16],
+        received: &mut [u64; 16],
+        bound: u32,
+    ) -> u32;
+    /// Takes the window of a server: 0, 32 or 26.
+    pub fn tb_clock_take_fields(
+        drift: u32,
+        low: &mut [u64; 16],
+        high: &mut [u64; 16],
+        maxt: &mut [u64; 16],
+        sent: &mut [u64; 16],
+        received: &mut [u64; 16],
+        server: u64,
+        window_low: u64,
+        window_high: u64,
+        window_maxt: u64,
+        window_sent: u64,
+        window_received: u64,
+    ) -> u32;
+    /// The time at a moment.
+    pub fn tb_clock_now_fields(
+        drift: u32,
+        low: &[u64; 16],
+        high: &[u64; 16],
+        maxt: &[u64; 16],
+        sent: &[u64; 16],
+        received: &[u64; 16],
+        moment: u64,
+        liars: u64,
+    ) -> tb_time;
 
     /// The window of a stamp of the 2021 draft.
     pub fn tb_old_window(midp: u64, radi: u32) -> tb_old;

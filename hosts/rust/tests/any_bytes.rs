@@ -11,6 +11,8 @@ mod support;
 
 #[path = "support/any_answers.rs"]
 mod any_answers;
+#[path = "support/any_clocks.rs"]
+mod any_clocks;
 #[path = "support/any_exports.rs"]
 mod any_exports;
 #[path = "support/any_hashes.rs"]

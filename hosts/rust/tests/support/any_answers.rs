@@ -182,6 +182,13 @@ impl From<raw::tb_took> for Answer {
     }
 }
 
+impl From<raw::tb_time> for Answer {
+    fn from(told: raw::tb_time) -> Self {
+        let raw::tb_time { code, stopped, low, high, counted, agree, suspects } = told;
+        Answer::code(code).numbers(&[stopped.into(), low, high, counted, agree, suspects])
+    }
+}
+
 impl From<raw::tb_old> for Answer {
     fn from(told: raw::tb_old) -> Self {
         Answer::code(told.code).numbers(&[told.low, told.high])

@@ -5,7 +5,8 @@
 //! to this call alone, of as many bytes as the length or the array beside it says.
 
 use crate::any_trial::Trial;
-use crate::{any_hashes, any_header, any_packets, any_piles, any_servers, any_texts, any_walks};
+use crate::{any_clocks, any_hashes, any_header, any_packets, any_piles};
+use crate::{any_servers, any_texts, any_walks};
 use std::collections::BTreeSet;
 
 /// Which stack the header says is enough. For those of which it says nothing, the least that it
@@ -70,6 +71,7 @@ pub fn all() -> impl Iterator<Item = &'static Export> {
         any_piles::EXPORTS,
         any_texts::EXPORTS,
         any_walks::EXPORTS,
+        any_clocks::EXPORTS,
     ];
     files.into_iter().flatten()
 }

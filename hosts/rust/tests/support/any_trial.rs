@@ -31,7 +31,7 @@ pub enum Use {
 struct Lent {
     bytes: Vec<u8>,
     used: Use,
-    /// Whether they are numbers, which stand at a multiple of 8.
+    /// Whether they are numbers, which stand at a multiple of their size.
     numbers: bool,
 }
 
@@ -59,8 +59,8 @@ impl<'a> Copies<'a> {
     fn reference<T>(&self, id: Id, length: usize) -> &'a mut T {
         let (at, len) = self.0[id.0];
         assert_eq!(len, length);
-        // SAFETY: so many bytes are there, at a multiple of 8 where they are numbers, any bytes are
-        // a value of the types below, and there is no other reference to them.
+        // SAFETY: so many bytes are there, at a multiple of their size where they are numbers, any
+        // bytes are a value of the types below, and there is no other reference to them.
         unsafe { &mut *at.cast::<T>() }
     }
 
@@ -72,8 +72,12 @@ impl<'a> Copies<'a> {
         self.reference(id, 8)
     }
 
-    pub fn numbers(&self, id: Id) -> &'a mut [u64; 8] {
-        self.reference(id, 64)
+    pub fn numbers<const N: usize>(&self, id: Id) -> &'a mut [u64; N] {
+        self.reference(id, 8 * N)
+    }
+
+    pub fn word(&self, id: Id) -> &'a mut u32 {
+        self.reference(id, 4)
     }
 }
 
@@ -112,6 +116,12 @@ impl<'a> Trial<'a> {
 
     pub fn numbers(&mut self, used: Use, numbers: &[u64]) -> Id {
         let id = self.lend(used, numbers.iter().flat_map(|number| number.to_ne_bytes()).collect());
+        self.lent[id.0].numbers = true;
+        id
+    }
+
+    pub fn word(&mut self, used: Use, word: u32) -> Id {
+        let id = self.lend(used, word.to_ne_bytes().to_vec());
         self.lent[id.0].numbers = true;
         id
     }
