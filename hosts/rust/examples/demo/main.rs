@@ -3,19 +3,21 @@
 //!     cargo run --release -p trawlbeacon --example demo FOLDER [SEED]
 //!
 //! starts three time servers on this machine, one of them nine seconds ahead, behind a network that
-//! loses and damages packets. A console that has no date measures the time by the walk of draft 19,
-//! finds that one lied, and writes the report and its picture into FOLDER. Then the clock is set
-//! right, and it measures again. SEED, a whole number, says which packets are lost or damaged. The
-//! status is 0 where the story went as it should.
+//! loses and damages packets. A console that has no date asks all at once, and has the time, though
+//! one lies. It measures by the walk of draft 19, finds that one lied, writes the report and its
+//! picture into FOLDER, and still has the time. Then one of the honest servers is switched off, and
+//! it has the time again; and so it has when it boots anew, if not as closely. SEED, a whole number,
+//! says which packets are lost or damaged. The status is 0 where the story went as it should.
 //!
 //! Everything on the wire is the library's: requests, batches of responses, and what is said of
 //! them. Signatures are made by a signer for tests.
 
+mod asking;
 mod backoff;
-mod clock;
 mod console;
 mod evidence;
 mod keys;
+mod measuring;
 mod relay;
 mod running;
 mod server;

@@ -1,9 +1,9 @@
 //! A console, three servers and a lie.
 
-use super::clock;
-use super::console::{Console, Known, Measured};
+use super::console::{Console, Known};
 use super::evidence::{self, Received};
 use super::keys::{self, TestSigner};
+use super::measuring::Measured;
 use super::relay::{Relay, ONE_IN};
 use super::server::{self, Server};
 use super::serving::{Delegated, Sign};
@@ -14,12 +14,15 @@ use std::path::Path;
 use std::sync::atomic::Ordering;
 use std::time::{SystemTime, UNIX_EPOCH};
 use trawlbeacon::picture::Date;
-use trawlbeacon::{Outcome, Pair};
+use trawlbeacon::{Outcome, Pair, Time};
 
 /// The servers, in the order in which they are asked. The last one lies: only an answer that was
 /// asked for after its own can contradict it, so that it takes the second round to find out.
 const NAMES: [&str; 3] = ["alder", "birch", "cedar"];
 const LIAR: usize = 2;
+
+/// The one that is switched off at last. It is honest.
+const SILENT: usize = 1;
 
 /// How far the liar's clock is ahead, in seconds.
 const AHEAD: u64 = 9;
@@ -63,22 +66,27 @@ impl Scene {
 /// Tells the whole story, and why it ended where it does not go as it should.
 pub fn tell(folder: &Path, seed: u64) -> Result<(), Ended> {
     let teller = Teller::boot();
-    let Scene { servers, known, _relays } = Scene::set(seed, teller)?;
+    let Scene { mut servers, known, _relays } = Scene::set(seed, teller)?;
     let keys: Vec<[u8; 32]> = known.iter().map(|known| known.key).collect();
     teller.line(opening(seed));
-    let mut console = Console::new(known, teller);
     servers[LIAR].set_ahead(AHEAD);
+    let mut console = Console::boot(known.clone(), teller)?;
+    ask(&mut console, "has the time", teller)?;
+    teller.line(
+        "\nOne of them lies. The console walks from one to the next, to show it to others.\n",
+    );
     let measured = console.measure()?;
     lie(&console, &measured, teller)?;
     convict(&measured.pile, &keys, folder, teller)?;
-    servers[LIAR].set_ahead(0);
-    teller.line(format!(
-        "\nThe clock of {} is set right. The console measures again.\n",
-        NAMES[LIAR]
-    ));
-    let measured = console.measure()?;
-    truth(&measured, teller)?;
-    servers.iter().zip(NAMES).for_each(|(server, name)| count(server, name, teller));
+    teller.line(String::new());
+    has_the_time(&console, "has the time all the same", teller)?;
+    switch_off(&mut servers, teller);
+    ask(&mut console, "has the time again", teller)?;
+    teller.line("\nThe console is switched off and on: all that it had heard is gone.\n");
+    let mut console = Console::boot(known, teller)?;
+    ask(&mut console, "has the time once more", teller)?;
+    let on = servers.iter().zip([NAMES[0], NAMES[LIAR]]);
+    on.for_each(|(server, name)| count(server, name, teller));
     Ok(())
 }
 
@@ -96,19 +104,56 @@ fn opening(seed: u64) -> String {
     .join("\n")
 }
 
+/// The console asks all servers, and has the time.
+fn ask(console: &mut Console, how: &str, teller: Teller) -> Result<(), Ended> {
+    let silent = console.ask_all()?;
+    let time = has_the_time(console, how, teller)?;
+    for server in silent.into_iter().filter(|server| time.agree.contains(*server)) {
+        let name = console.name(server);
+        teller.says("console", format!("counts what {name} said before, as long as it is trusted"));
+    }
+    Ok(())
+}
+
+/// The time that the console has, who says so and who is suspect; and whether that is so.
+fn has_the_time(console: &Console, how: &str, teller: Teller) -> Result<Time, Ended> {
+    let time = console.time()?;
+    let true_time = SystemTime::now().duration_since(UNIX_EPOCH)?.as_micros() as u64;
+    teller.says("console", format!("{how}: {}", words::span(&time)));
+    teller.says("console", doubt(console, &time));
+    let true_words = words::fine(true_time);
+    teller.says("machine", format!("has {true_words} by its own clock, which no console sees"));
+    if !(time.low..=time.high).contains(&true_time) {
+        return Err("that is not the time by this machine's own clock".into());
+    }
+    if time.suspects.iter().any(|suspect| suspect != LIAR) {
+        return Err("a server is suspect that does not lie".into());
+    }
+    Ok(time)
+}
+
+/// Who agrees, and how far that is to be believed.
+fn doubt(console: &Console, time: &Time) -> String {
+    let (liars, agree) = (console.liars(), console.names(time.agree));
+    let may = format!("counts {} servers, of which {liars} may lie", time.counted);
+    if !time.is_exact(liars) {
+        return format!("{may}: it is in between, but an end may be the liar's");
+    }
+    format!("{may}: {agree} agree, and {} is suspect", console.names(time.suspects))
+}
+
 /// What the console concludes where one lied.
 fn lie(console: &Console, measured: &Measured, teller: Teller) -> Result<(), Ended> {
     let Outcome::Malfeasance(Pair { first, second }) = measured.outcome else {
         return Err(format!("one lied, and the walk ends as {:?}", measured.outcome).into());
     };
     let (one, other) = (console.name(first), console.name(second));
-    let low = Date::of(measured.kept[first].window.low);
-    let high = Date::of(measured.kept[second].window.high);
+    let low = Date::of(measured.windows[first].low);
+    let high = Date::of(measured.windows[second].high);
     let says = |what: String| teller.says("console", what);
     says("concludes: malfeasance".into());
     says(format!("{one} said, in record {first}, that it was {low} or later"));
     says(format!("{other}, asked later, said in record {second} that it was {high} or earlier"));
-    says("one of the two lied, and so it takes no time from anybody".into());
     if one != NAMES[LIAR] && other != NAMES[LIAR] {
         return Err("one lied, and the two that are named are others".into());
     }
@@ -144,23 +189,11 @@ fn convict(pile: &[u8], keys: &[[u8; 32]], folder: &Path, teller: Teller) -> Res
     Ok(())
 }
 
-/// What the console concludes where nobody lied, and whether that is so.
-fn truth(measured: &Measured, teller: Teller) -> Result<(), Ended> {
-    if measured.outcome != Outcome::Consistent {
-        return Err(format!("nobody lied, and the walk ends as {:?}", measured.outcome).into());
-    }
-    teller.says("console", "concludes: consistent");
-    let time = clock::time_at(&measured.kept, teller.since_boot());
-    let true_time = SystemTime::now().duration_since(UNIX_EPOCH)?.as_millis() as u64;
-    let time = time.ok_or("nobody lied, and the windows leave no time")?;
-    teller.says("console", format!("carries the {} windows on to now", measured.kept.len()));
-    teller.says("console", format!("has the time: {}", words::span(&time)));
-    let true_words = words::fine(true_time);
-    teller.says("machine", format!("has {true_words} by its own clock, which no console sees"));
-    if !(time.low..=time.high).contains(&true_time) {
-        return Err("that is not the time by this machine's own clock".into());
-    }
-    Ok(())
+/// One server answers no more.
+fn switch_off(servers: &mut Vec<Server>, teller: Teller) {
+    let name = NAMES[SILENT];
+    teller.line(format!("\n{name} is switched off, and {} goes on lying.\n", NAMES[LIAR]));
+    count(&servers.remove(SILENT), name, teller);
 }
 
 /// What a server has done.

@@ -15,9 +15,21 @@ impl Teller {
         Teller { boot: Instant::now() }
     }
 
-    /// The time since the console booted: the one clock that it has.
+    /// The time since the console booted: the one clock that it has. This one stands still where the
+    /// machine sleeps, which the story does not; a console that does takes CLOCK_BOOTTIME.
     pub fn since_boot(&self) -> Duration {
         self.boot.elapsed()
+    }
+
+    /// The same in microseconds, rounded down: when a request was sent, which is not too late.
+    pub fn micros_down(&self) -> u64 {
+        self.since_boot().as_micros() as u64
+    }
+
+    /// The same rounded up: when an answer was received, which is not too early; and what is asked
+    /// about, which is then not before it.
+    pub fn micros_up(&self) -> u64 {
+        ((self.since_boot().as_nanos() + 999) / 1_000) as u64
     }
 
     /// Says what someone does, with the seconds since the console booted in front.
