@@ -30,6 +30,8 @@ mod run;
 mod servers;
 mod sides;
 mod signed;
+#[path = "../../hosts/rust/shared/standard_output.rs"]
+mod standard_output;
 mod table;
 mod texts;
 mod timing;
@@ -37,6 +39,8 @@ mod trees;
 mod verifying;
 mod walks;
 mod whence;
+#[path = "../../hosts/rust/shared/whole.rs"]
+mod whole;
 mod windows;
 mod worst;
 
@@ -114,6 +118,11 @@ fn main() -> ExitCode {
             return ExitCode::from(2);
         }
     };
+    // Tables that nobody can read are not worth the time.
+    if let Err(error) = standard_output::print(b"") {
+        eprintln!("bench: standard output: {error}");
+        return ExitCode::FAILURE;
+    }
     match end(&options, &time(&options)) {
         Ok(()) => ExitCode::SUCCESS,
         Err(lines) => {

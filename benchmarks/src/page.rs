@@ -5,7 +5,9 @@
 
 use crate::picture;
 use crate::run::{Piece, Run};
+use crate::whole::{self, Existing};
 use std::fs;
+use std::path::Path;
 
 const PAGE: &str = "docs/PERFORMANCE.md";
 const PICTURE: &str = "docs/performance.svg";
@@ -35,8 +37,10 @@ fn filled(page: &str, pieces: &[Piece]) -> Result<String, String> {
 pub fn write(run: &Run) -> Result<(), String> {
     let told = |error: std::io::Error| error.to_string();
     let page = filled(&fs::read_to_string(PAGE).map_err(told)?, &run.pieces)?;
-    fs::write(PAGE, page).map_err(told)?;
-    fs::write(PICTURE, picture::svg(&run.lines)).map_err(told)?;
+    let picture = picture::svg(&run.lines);
+    for (file, text) in [(PAGE, page), (PICTURE, picture)] {
+        whole::write(Path::new(file), text.as_bytes(), Existing::Replaced).map_err(told)?;
+    }
     println!("{PAGE} and {PICTURE} are written");
     Ok(())
 }

@@ -82,7 +82,7 @@ static int print_verdict(struct tb_verdict verdict) {
     }
     printf("the time is from %llu to %llu\n", (unsigned long long)verdict.low,
            (unsigned long long)verdict.high);
-    return 0;
+    return fflush(stdout) == 0 ? 0 : 1; /* what was not written was not told */
 }
 
 #endif

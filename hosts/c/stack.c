@@ -376,5 +376,5 @@ int main(void) {
     printf("all trees end on the %d that the header says: %s, on %zu: %s\n", TB_TREE_STACK,
            enough ? "yes" : "NO", pages - PAGE, needed ? "no" : "YES");
     if (refused || !verified) printf("an operation did not pass\n");
-    return fits && enough && needed && verified && !refused ? 0 : 1;
+    return fflush(stdout) == 0 && fits && enough && needed && verified && !refused ? 0 : 1;
 }

@@ -64,5 +64,5 @@ int main(int argc, char **argv) {
         printf("consistent\n");
     else
         printf("the pile was altered\n");
-    return code == TB_ENDED ? 0 : 1;
+    return fflush(stdout) == 0 && code == TB_ENDED ? 0 : 1;
 }

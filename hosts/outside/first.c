@@ -79,5 +79,5 @@ int main(int argc, char **argv) {
     if (verdict.code != TB_PASSED) return refused(verdict.code);
     printf("the time is from %llu to %llu\n", (unsigned long long)verdict.low,
            (unsigned long long)verdict.high);
-    return 0;
+    return fflush(stdout) == 0 ? 0 : 2; /* what was not written was not told */
 }

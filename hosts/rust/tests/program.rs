@@ -1,89 +1,19 @@
 //! The command `trawl` as people type it: the front end beside the proved program, as both are
 //! installed. What it prints, what it says beside that, its status, and the files that it writes.
 
+#[path = "support/room.rs"]
+mod room;
 mod support;
 
 use independent::appendix::{self, Entry};
-use independent::making;
+use independent::{base64, making};
+use room::{installed, Ran, Room, ROOT};
 use std::fs;
-use std::path::{Path, PathBuf};
-use std::process::{Command, Output, Stdio};
-use std::sync::Once;
+use std::path::Path;
+use std::process::{Command, Stdio};
 use support::hex;
 use trawlbeacon::picture::Picture;
 use trawlbeacon::Refusal;
-
-const ROOT: &str = concat!(env!("CARGO_MANIFEST_DIR"), "/../..");
-
-/// A folder with files, in which the command is run.
-struct Room {
-    folder: PathBuf,
-}
-
-/// What a run of the command left.
-#[derive(Debug, PartialEq, Eq)]
-struct Ran {
-    out: String,
-    said: String,
-    status: Option<i32>,
-}
-
-static INSTALLED: Once = Once::new();
-
-/// The folder in which the command is installed, once for all tests: a file that is written while
-/// another test starts a process cannot be run for as long as that process has it, too.
-fn installed() -> PathBuf {
-    let folder = Path::new(env!("CARGO_TARGET_TMPDIR")).join("program");
-    INSTALLED.call_once(|| {
-        let _ = fs::remove_dir_all(&folder);
-        for part in ["bin", "libexec/trawlbeacon", "without/bin"] {
-            fs::create_dir_all(folder.join(part)).expect("a folder can be made");
-        }
-        let program = Path::new(ROOT).join("build/libexec/trawlbeacon/verdict");
-        fs::copy(env!("CARGO_BIN_EXE_trawl"), folder.join("bin/trawl")).expect("cargo built it");
-        fs::copy(env!("CARGO_BIN_EXE_trawl"), folder.join("without/bin/trawl")).expect("and again");
-        fs::copy(&program, folder.join("libexec/trawlbeacon/verdict")).unwrap_or_else(|error| {
-            let how = "tools/native-program trawl build/libexec/trawlbeacon/verdict";
-            panic!("{}: {error}; '{how}' makes it", program.display())
-        });
-    });
-    folder
-}
-
-impl Room {
-    /// An empty folder of this name.
-    fn new(name: &str) -> Room {
-        let folder = installed().join("rooms").join(name);
-        fs::create_dir_all(&folder).expect("a folder can be made");
-        Room { folder }
-    }
-
-    fn command(&self, words: &[&str]) -> Command {
-        let mut command = Command::new(installed().join("bin/trawl"));
-        command.args(words).current_dir(&self.folder);
-        command
-    }
-
-    fn output(&self, words: &[&str]) -> Output {
-        self.command(words).stdin(Stdio::null()).output().expect("it can be run")
-    }
-
-    fn run(&self, words: &[&str]) -> Ran {
-        let Output { status, stdout, stderr } = self.output(words);
-        let text = |bytes| String::from_utf8(bytes).expect("it is text");
-        Ran { out: text(stdout), said: text(stderr), status: status.code() }
-    }
-
-    /// Writes a file, and names it.
-    fn put<'a>(&self, name: &'a str, bytes: &[u8]) -> &'a str {
-        fs::write(self.folder.join(name), bytes).expect("a file can be written");
-        name
-    }
-
-    fn bytes(&self, name: &str) -> Vec<u8> {
-        fs::read(self.folder.join(name)).expect("the file is there")
-    }
-}
 
 fn kept(file: &str) -> Vec<u8> {
     fs::read(Path::new(ROOT).join(file)).unwrap_or_else(|error| panic!("{file}: {error}"))
@@ -117,8 +47,9 @@ fn files_alone_are_told_of_by_the_proved_program() {
     assert_eq!(printed(&room, &[], &arguments("cases"), 2), due("cases"));
     assert_eq!(printed(&room, &[], &arguments("alone"), 1), due("alone"));
     assert_eq!(printed(&room, &["--"], &arguments("trawl"), 2), due("trawl"));
-    let sample = room.run(&[]);
-    assert_eq!((sample.out, sample.said, sample.status), (due("trawl"), String::new(), Some(0)));
+    let sample = room.run::<&str>(&[]);
+    assert_eq!((sample.out, sample.status), (due("trawl"), Some(0)));
+    assert!(sample.said.starts_with("trawl: no pile is named"), "{}", sample.said);
     let files = arguments("cases").len() / 2 + arguments("alone").len();
     println!("the command: {files} sets of files, by the proved program as it is installed");
 }
@@ -147,7 +78,11 @@ fn a_report_in_json_is_judged_too() {
     let pile = room.put("pile", &appendix::pile().pile);
     let told = room.run(&["--judge", &report]);
     assert_eq!(told, room.run(&["--judge", pile]));
-    assert!(told.out.starts_with("records 3\n0 ok 1773685568 1773685574 ") && told.said.is_empty());
+    assert!(told.out.starts_with("records 3\n0 ok 1773685568 1773685574 "), "{}", told.out);
+    assert_eq!(
+        told.said,
+        "trawl: whose keys these are nobody has looked up; --servers LIST does\n"
+    );
     let dated = room.run(&["--dates", &report]).out;
     let line = dated.lines().nth(1).expect("there is a record");
     let words: Vec<&str> = line.split(' ').collect();
@@ -157,6 +92,7 @@ fn a_report_in_json_is_judged_too() {
     let refused = room.run(&["--judge", bad]);
     assert_eq!((refused.out.as_str(), refused.status), ("refused 24\n", Some(0)));
     assert!(refused.said.starts_with("trawl: the text is no report"));
+    assert!(refused.said.ends_with("\ntrawl: 'bad': \"responses\" is no list\n"));
 }
 
 #[test]
@@ -167,15 +103,22 @@ fn a_verdict_as_json() {
     made.pile[4096 + 2096 + 12] = 0;
     let (pile, answers) = (room.put("pile", &made.pile), room.put("answers", &made.answers));
     let told = room.run(&["--json", "--dates", pile, answers]).out;
-    let first = "{\"records\":[{\"publicKey\":\"5555555555555555555555555555555555555555555555555555\
-                 555555555555\",\"linked\":false,\"refused\":{\"code\":13,\"words\":\"the response's \
-                 signature does not verify\"}},";
-    assert!(told.starts_with(first), "{told}");
+    // A key is spelled as in a report.
+    let key = base64::encode(&[0x55; 32]);
+    let first = format!(
+        "{{\"records\":[{{\"publicKey\":\"{key}\",\"linked\":false,\"refused\":{{\"code\":13,\
+         \"words\":\"the response's signature does not verify\"}}}},"
+    );
+    assert!(told.starts_with(&first), "{told}");
     assert!(told.contains("or offset is wrong\",\"at\":12}}"), "{told}");
+    // What not every reader has exactly is a string, and past 9999 there is no date.
     let last = "\"linked\":true,\"midp\":1400,\"radi\":10,\"low\":1390,\"high\":1410,\"mint\":0,\
-                \"maxt\":18446744073709551615,\"pubk\":\"0f0f";
+                \"maxt\":\"18446744073709551615\",\"pubk\":\"Dw8P";
     assert!(told.contains(last), "{told}");
     assert!(told.contains("\"dates\":{\"low\":\"1970-01-01T00:24:54Z\""), "{told}");
+    assert!(told.contains("\"mint\":\"1970-01-01T00:00:00Z\",\"maxt\":null}"), "{told}");
+    let lines = room.run(&["--dates", pile, answers]).out;
+    assert!(lines.contains("1970-01-01T00:23:30Z 1970-01-01T00:00:00Z -\n"), "{lines}");
     assert!(told.ends_with("],\"run\":{\"first\":2,\"last\":3}}\n"), "{told}");
     let short = room.put("short", &made.pile[1..]);
     let refused = room.run(&["--json", short]).out;
@@ -232,11 +175,16 @@ fn wrong_files_get_a_hint_and_the_verdict_stays() {
     hinted(&[room.put("empty", b"")], "'empty' is empty");
     let text = room.put("text", b"{}");
     hinted(&[text], "'text' is a text; --judge, --cut and --draw take reports in JSON");
-    hinted(&["missing"], "'missing' cannot be read, and counts as empty");
-    hinted(&["."], "'.' cannot be read, and counts as empty");
+    let missing = "'missing' cannot be read, and counts as empty: No such file or directory";
+    hinted(&["missing"], missing);
+    hinted(&["."], "'.' cannot be read, and counts as empty: it is a folder");
+    let wide: Vec<u8> = "{\"responses\": []}".bytes().flat_map(|byte| [byte, 0]).collect();
+    let utf16 = "is a text in UTF-16; a report in JSON is UTF-8";
+    hinted(&[room.put("wide", &wide)], &format!("'wide' {utf16}"));
+    let marked = [&[0xff, 0xfe], &wide[..]].concat();
+    hinted(&[room.put("marked", &marked)], &format!("'marked' {utf16}"));
     let right = room.put("right", &[1; 4]);
     assert_eq!(room.run(&[pile, right]).said, "");
-    hinted(&["-h"], "'-h' cannot be read, and counts as empty; a flag has two dashes, as --help");
 }
 
 /// Wherever answers are taken, what is wrong with them is said, also of a pipe, and also where the
@@ -282,7 +230,7 @@ fn a_run_is_cut() {
     let pile = appendix::pile().pile;
     let cut = room.output(&["--cut", &report]);
     assert_eq!((cut.stdout == pile[..2 * 4096], cut.status.code()), (true, Some(0)));
-    assert_eq!(cut.stderr, b"trawl: run 0 1\n");
+    assert!(cut.stderr.starts_with(b"trawl: run 0 1\n"));
     assert_eq!(room.run(&["--cut", room.put("pile", &pile), "--out", "run"]).out, "");
     assert_eq!(room.bytes("run")[..32], key);
     // As JSON it is what the library writes of it.
@@ -293,7 +241,14 @@ fn a_run_is_cut() {
     // With answers, and a run that does not start the pile.
     let made = making::pile_of(&[(1000, 10), (1500, 10), (1495, 1), (1400, 10)]);
     let (pile, answers) = (room.put("made", &made.pile), room.put("answers", &made.answers));
-    assert_eq!(room.run(&["--cut", pile, answers, "--json", "--out", "text"]).status, Some(0));
+    let written = room.run(&["--cut", pile, answers, "--json", "--out", "text"]);
+    // The answers do not go with a report in JSON, and who reads it sees that nothing is signed.
+    let warned = "trawl: by its own signatures this is no report: record 0: the delegation's \
+                  signature does not verify\ntrawl: the answers do not go with it, and who reads \
+                  it will refuse it\n";
+    assert!(written.status == Some(0) && written.said.starts_with(warned), "{}", written.said);
+    let signed = room.run(&["--cut", "run", room.put("yes", &[1; 4]), "--json"]).said;
+    assert!(!signed.contains("no report"), "{signed}");
     room.put("two", &[1; 4]);
     assert!(room.run(&["--judge", "text", "two"]).out.ends_with("\nrun 0 1\n"));
     // Unsigned as it is, no run convicts by itself.
@@ -301,26 +256,6 @@ fn a_run_is_cut() {
     assert_eq!((none.out.as_str(), none.status), ("", Some(3)));
     assert_eq!(room.run(&["--cut", answers]).status, Some(4));
     assert_eq!(room.run(&["--cut", "missing"]).status, Some(1));
-}
-
-#[test]
-fn no_file_is_written_over_unless_that_is_wanted() {
-    let room = Room::new("force");
-    let pile = room.put("pile", &appendix::pile().pile);
-    room.put("there", b"kept");
-    let refused = room.run(&["--cut", pile, "--out", "there"]);
-    assert_eq!((refused.out.as_str(), refused.status), ("", Some(1)));
-    assert_eq!(refused.said, "trawl: 'there': it exists, and --force is not given\n");
-    assert_eq!(room.bytes("there"), b"kept");
-    assert_eq!(room.run(&["--cut", pile, "--out", "there", "--force"]).status, Some(0));
-    assert_eq!(room.bytes("there").len(), 2 * 4096);
-    let full = fs::OpenOptions::new().write(true).open("/dev/full").expect("Linux has it");
-    let mut command = room.command(&["--draw", pile]);
-    let status = command.stdout(full).stderr(Stdio::null()).status().expect("it can be run");
-    assert_eq!(status.code(), Some(1));
-    let full = fs::OpenOptions::new().write(true).open("/dev/full").expect("Linux has it");
-    let status = room.command(&[pile]).stdout(full).stderr(Stdio::null()).status();
-    assert_eq!(status.expect("it can be run").code(), Some(1));
 }
 
 #[test]
@@ -347,41 +282,6 @@ fn a_pile_is_made_of_captured_packets() {
 }
 
 #[test]
-fn a_server_is_looked_up_by_its_key() {
-    let room = Room::new("look_up");
-    let server = |key: [u8; 32]| [key, trawlbeacon::srv_value(&key)].concat();
-    let owner = room.put("owner", &[server([1; 32]), server([2; 32])].concat());
-    let shipped = room.put("shipped", &server([3; 32]));
-    let line = |list: &str, key: [u8; 32]| {
-        format!("{list} {} {}\n", hex(&key), hex(&trawlbeacon::srv_value(&key)))
-    };
-    let found = room.run(&["--look-up", &hex(&[2; 32]), owner, shipped]);
-    assert_eq!(
-        (found.out, found.said, found.status),
-        (line("owner 1", [2; 32]), String::new(), Some(0))
-    );
-    let found = room.run(&["--look-up", &hex(&[3; 32]).to_uppercase(), owner, shipped]);
-    assert_eq!((found.out, found.status), (line("shipped 0", [3; 32]), Some(0)));
-    assert_eq!(room.run(&["--look-up", &hex(&[4; 32]), owner]).status, Some(3));
-    let bad = room.put("bad", &[0; 63]);
-    let refused = room.run(&["--look-up", &hex(&[4; 32]), owner, bad]);
-    assert_eq!((refused.out.as_str(), refused.status), ("", Some(4)));
-    let hint =
-        "a list of servers is not whole records\ntrawl: 'bad' has 63 bytes, and a server has 64\n";
-    assert!(refused.said.ends_with(hint), "{}", refused.said);
-    assert_eq!(room.run(&["--look-up", &hex(&[4; 32]), "missing"]).status, Some(1));
-    let no_key = room.run(&["--look-up", "4", owner]);
-    assert_eq!(
-        (no_key.said.as_str(), no_key.status),
-        ("trawl: \"4\" is not 64 digits of hex\n", Some(2))
-    );
-    // A list that gives somebody else's key for a server.
-    let forged = room.put("forged", &[[9; 32], trawlbeacon::srv_value(&[4; 32])].concat());
-    let found = room.run(&["--look-up", &hex(&[4; 32]), forged]);
-    assert_eq!(found.said, "trawl: the list has another key beside this server's SRV value\n");
-}
-
-#[test]
 fn a_picture_is_the_librarys() {
     let room = Room::new("draw");
     let made = making::pile_of(&[(1000, 10), (1500, 10), (1495, 1), (1400, 10)]);
@@ -400,14 +300,14 @@ fn what_follows_two_dashes_are_files() {
     let room = Room::new("dashes");
     let pile = appendix::pile().pile;
     let due = room.run(&["--judge", room.put("pile", &pile)]).out;
-    for name in ["--judge", "--", "-", "--out", "cut"] {
+    for name in ["--judge", "--", "-h", "--out", "cut"] {
         room.put(name, &pile);
         assert_eq!(room.run(&["--", name]).out, due, "{name}");
         assert_eq!(room.run(&["--judge", "--", name]).out, due, "{name}");
+        assert_eq!(room.run(&[format!("./{name}")]).out, due, "{name}");
     }
-    // No name without two dashes is taken for a flag.
+    // No name without a dash is taken for a flag.
     assert_eq!(room.run(&["cut"]).out, due);
-    assert_eq!(room.run(&["-"]).out, due);
 }
 
 #[test]
@@ -494,17 +394,27 @@ fn what_cannot_be_read_or_written_is_told_once() {
 #[test]
 fn wrong_arguments_are_told() {
     let room = Room::new("usage");
-    let judge = "usage: trawl --judge FILE [ANSWERS] [--json] [--dates] [--status]";
+    let judge =
+        "usage: trawl --judge FILE [ANSWERS] [--servers LIST] [--json] [--dates] [--status]";
     let plain = "usage: trawl [PILE [ANSWERS]] [--status]";
-    let cut = "usage: trawl --cut FILE [ANSWERS] [--json] [--out OUT [--force]]";
+    let cut = "usage: trawl --cut FILE [ANSWERS] [--servers LIST] [--json] [--out OUT [--force]]";
     let make = "usage: trawl --make KEY RAND REQUEST RESPONSE ... [--out OUT [--force]]";
     let look_up = "usage: trawl --look-up KEY LIST [SHIPPED-LIST]";
-    let wrong: [(&[&str], &str, &str); 15] = [
+    let wrong: [(&[&str], &str, &str); 24] = [
         (&["a", "b", "c"], "trawl takes a pile and its answers at the most, and 3 words are given", plain),
         (&["--judge"], "--judge takes a file, and its answers if need be, and 0 words are given", judge),
         (&["--dates"], "--judge takes a file, and its answers if need be, and 0 words are given", judge),
         (&["--judge", "--cut", "a"], "--judge and --cut cannot be asked for at once", plain),
         (&["--nonsense"], "there is no flag --nonsense", plain),
+        (&["--nonsense=a"], "there is no flag --nonsense", plain),
+        (&["-x", "a"], "there is no flag -x; a file of that name is written ./-x", plain),
+        (&["--\u{1b}[2J"], "there is no flag --\\u{1b}[2J", plain),
+        (&["--json=a", "a"], "--json takes nothing behind a sign of equality", ""),
+        (&["--cut", "a", "--out="], "--out names no file", ""),
+        (&["--judge", "-", "-"], "standard input can be read but once", judge),
+        (&["--judge", "-", "--servers=-"], "standard input can be read but once", judge),
+        (&["--status", "a", "--servers", "b"], "--servers goes with --judge, --cut and --draw", plain),
+        (&["--json", "a", "--servers=b", "--servers=c", "--servers=d"], "--servers stands there more than twice", judge),
         (&["--svg", "a"], "--svg goes with --draw", plain),
         (&["--out", "a"], "--out goes with --cut, --draw and --make", plain),
         (&["--cut", "a", "--status"], "--status goes with files alone, --judge and --draw", cut),
@@ -533,6 +443,7 @@ fn help_and_version() {
             && help.status == Some(0)
     );
     assert_eq!(help.out.lines().find(|line| line.chars().count() > 100), None);
+    assert_eq!(room.run(&["-h"]), help);
     // Whatever stands beside it, as somebody may have typed it to learn what goes with that.
     assert_eq!(room.run(&["--cut", "--nonsense", "--help"]), help);
     let version = room.run(&["--version"]);

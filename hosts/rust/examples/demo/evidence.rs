@@ -1,5 +1,6 @@
 //! What is left of a lie: the pile, the report that is cut from it, and their picture.
 
+use super::whole::{self, Existing};
 use std::error::Error;
 use std::fs;
 use std::path::{Path, PathBuf};
@@ -19,18 +20,29 @@ pub struct Evidence {
     pub drawn: String,
     /// The whole pile, for `./trawl`.
     pub pile: PathBuf,
+    /// The list of the servers that were asked, for the same.
+    pub servers: PathBuf,
 }
 
-/// Cuts the run out of a pile, and writes the report, the pile and its picture into a folder.
-pub fn keep(pile: &[u8], folder: &Path) -> Result<Evidence, Box<dyn Error>> {
+/// Cuts the run out of a pile, and writes the report, the pile, its picture and the list of these
+/// servers, which are told by their names and keys, into a folder.
+pub fn keep(
+    pile: &[u8],
+    servers: &[(&str, [u8; 32])],
+    folder: &Path,
+) -> Result<Evidence, Box<dyn Error>> {
     let cut = trawlbeacon::cut_signed(pile)?;
     let mut text = vec![0; LONGEST_REPORT];
     let length = trawlbeacon::write_signed_report(&cut.bytes, &mut text)?;
-    let picture = Picture::of_pile(pile)?;
+    let mut picture = Picture::of_pile(pile)?;
+    let named = |key: &[u8; 32]| servers.iter().find(|(_, known)| known == key);
+    picture.name_servers(|key| named(key).map(|(name, _)| name.to_string()));
+    let listed = |(_, key): &(&str, [u8; 32])| [*key, trawlbeacon::srv_value(key)].concat();
+    let list: Vec<u8> = servers.iter().flat_map(listed).collect();
     fs::create_dir_all(folder)?;
     let write = |name: &str, bytes: &[u8]| {
         let path = folder.join(name);
-        fs::write(&path, bytes).map(|()| path)
+        whole::write(&path, bytes, Existing::Replaced).map(|()| path)
     };
     Ok(Evidence {
         run: cut.run,
@@ -39,6 +51,7 @@ pub fn keep(pile: &[u8], folder: &Path) -> Result<Evidence, Box<dyn Error>> {
         picture: write("pile.svg", picture.svg().as_bytes())?,
         drawn: picture.text(),
         pile: write("pile", pile)?,
+        servers: write("servers", &list)?,
     })
 }
 

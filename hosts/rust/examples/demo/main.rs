@@ -7,7 +7,8 @@
 //! one lies. It measures by the walk of draft 19, finds that one lied, writes the report and its
 //! picture into FOLDER, and still has the time. Then one of the honest servers is switched off, and
 //! it has the time again; and so it has when it boots anew, if not as closely. SEED, a whole number,
-//! says which packets are lost or damaged. The status is 0 where the story went as it should.
+//! says which packets are lost or damaged. The status is 0 where the story went as it should
+//! and could be written.
 //!
 //! Everything on the wire is the library's: requests, batches of responses, and what is said of
 //! them. Signatures are made by a signer for tests.
@@ -23,12 +24,17 @@ mod running;
 mod server;
 #[path = "../serving/mod.rs"]
 mod serving;
+#[path = "../../shared/standard_output.rs"]
+mod standard_output;
 mod story;
 mod teller;
+#[path = "../../shared/whole.rs"]
+mod whole;
 mod words;
 
 use std::path::PathBuf;
 use std::process::ExitCode;
+use teller::Teller;
 
 /// The seed where none is given. It was sought: with it a time is changed on its way, and two
 /// answers in a row are lost.
@@ -48,9 +54,13 @@ fn main() -> ExitCode {
         return ExitCode::from(2);
     };
     match story::tell(&folder, seed) {
-        Ok(()) => ExitCode::SUCCESS,
+        Ok(()) if Teller::was_heard() => ExitCode::SUCCESS,
+        Ok(()) => {
+            eprintln!("demo: not all of the story could be written to standard output");
+            ExitCode::FAILURE
+        }
         Err(why) => {
-            println!("The story did not go as it should: {why}");
+            eprintln!("demo: the story did not go as it should: {why}");
             ExitCode::FAILURE
         }
     }

@@ -162,7 +162,8 @@ fn lie(console: &Console, measured: &Measured, teller: Teller) -> Result<(), End
 
 /// Keeps the evidence, and has it read by somebody who was sent the report.
 fn convict(pile: &[u8], keys: &[[u8; 32]], folder: &Path, teller: Teller) -> Result<(), Ended> {
-    let kept = evidence::keep(pile, folder)?;
+    let servers: Vec<(&str, [u8; 32])> = NAMES.into_iter().zip(keys.iter().copied()).collect();
+    let kept = evidence::keep(pile, &servers, folder)?;
     let says = |what: String| teller.says("console", what);
     says(format!(
         "cuts records {} to {}, the shortest run that convicts",
@@ -174,6 +175,7 @@ fn convict(pile: &[u8], keys: &[[u8; 32]], folder: &Path, teller: Teller) -> Res
         kept.report.display()
     ));
     says(format!("keeps all records, for ./trawl: {}", kept.pile.display()));
+    says(format!("and the list of its servers, for --servers: {}", kept.servers.display()));
     says(format!("draws them: {}", kept.picture.display()));
     teller.line(format!("\n{}", kept.drawn));
     let Received { pair, keys: named } = evidence::receive(&kept.report)?;

@@ -1,7 +1,11 @@
 //! Says what happens, a line at a time.
 
-use std::io::{self, Write};
+use super::standard_output;
+use std::sync::atomic::{AtomicBool, Ordering};
 use std::time::{Duration, Instant};
+
+/// Whether something could not be said.
+static UNHEARD: AtomicBool = AtomicBool::new(false);
 
 /// Whoever has a copy may speak.
 #[derive(Clone, Copy)]
@@ -40,6 +44,12 @@ impl Teller {
 
     /// Says a line, or several. Where nobody listens any more the story goes on without him.
     pub fn line(&self, text: impl AsRef<str>) {
-        let _ = writeln!(io::stdout(), "{}", text.as_ref());
+        let said = standard_output::print(format!("{}\n", text.as_ref()).as_bytes());
+        UNHEARD.fetch_or(said.is_err(), Ordering::SeqCst);
+    }
+
+    /// Whether all that was said could be written. A story that nobody heard was not told.
+    pub fn was_heard() -> bool {
+        !UNHEARD.load(Ordering::SeqCst)
     }
 }

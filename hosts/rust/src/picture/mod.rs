@@ -36,6 +36,8 @@ pub struct Picture {
     records: Vec<Shown>,
     /// The long-term keys, each once, in the order in which they come first.
     servers: Vec<[u8; 32]>,
+    /// What each server is called, where somebody has looked; of one that he does not know nothing.
+    names: Option<Vec<Option<String>>>,
     /// The run that convicts. No shorter one does, so that its two ends contradict each other.
     run: Option<Run>,
     judged: Judged,
@@ -90,13 +92,33 @@ impl Picture {
             Err(Refusal::NoContradiction) => None,
             Err(refusal) => return Err(refusal),
         };
-        let mut picture = Picture { records: vec![], servers: vec![], run, judged };
+        let mut picture = Picture { records: vec![], servers: vec![], names: None, run, judged };
         for (place, record) in pile.chunks_exact(RECORD_LENGTH).enumerate() {
             let server = picture.server_of(record);
             let told = judge(place).map(|checked| checked.window);
             picture.records.push(Shown { server, told, linked: crate::linked(pile, place) });
         }
         Ok(picture)
+    }
+
+    /// Names the servers by their long-term keys, as whoever trusts some list does. A server without
+    /// a name is then said to be in no list: anybody can sign with keys of his own.
+    ///
+    /// ```
+    /// # let pile = independent::appendix::pile().pile;
+    /// use trawlbeacon::picture::Picture;
+    ///
+    /// let mut picture = Picture::of_pile(&pile)?;
+    /// let first = pile[..32].to_vec();
+    /// picture.name_servers(|key| (key[..] == first[..]).then(|| "alder".to_string()));
+    /// assert!(picture.text().contains("By record 0 (alder) it was "));
+    /// assert!(picture.text().contains(" in no list\n"));
+    /// # Ok::<(), trawlbeacon::Refusal>(())
+    /// ```
+    pub fn name_servers(&mut self, mut name: impl FnMut(&[u8; 32]) -> Option<String>) {
+        let plain = |letter: char| if letter.is_control() { '?' } else { letter };
+        let plain = |name: String| name.chars().map(plain).collect();
+        self.names = Some(self.servers.iter().map(|key| name(key).map(plain)).collect());
     }
 
     /// Which server a record names, among those so far.
@@ -130,6 +152,12 @@ impl Picture {
     #[must_use]
     pub const fn convicts(&self) -> bool {
         self.run.is_some()
+    }
+
+    /// The run that convicts, if there is one.
+    #[must_use]
+    pub const fn run(&self) -> Option<Run> {
+        self.run
     }
 
     /// The picture as SVG, for any browser: by itself a whole file, with nothing that is fetched or

@@ -4,7 +4,7 @@ use super::axis::{Axis, Tick};
 use super::canvas::{Anchor, Canvas, Length, PX};
 use super::dates::{brief, Date, DAY};
 use super::{style, words, Picture, Shown};
-use crate::Window;
+use crate::{Run, Window};
 
 const WIDTH: Length = 960 * PX;
 const MARGIN: Length = 18 * PX;
@@ -31,8 +31,16 @@ const BAR_DOWN: Length = 6 * PX;
 const BAR: Length = 14 * PX;
 const LEAST_BAR: Length = 3 * PX;
 
+/// How far the words about a window are below the start of its row.
+const TOLD: Length = 36 * PX;
+
 /// A line of text below the scale.
 const LINE: Length = 19 * PX;
+
+/// How many letters of a server's name have room beside its records, and where the servers are
+/// listed.
+const MOST_OF_A_NAME: usize = 13;
+const MOST_OF_A_SERVER: usize = 120;
 
 /// How wide a letter of the words about a window and of the names below the axis is, at most.
 const LETTER: Length = 67 * PX / 10;
@@ -88,8 +96,12 @@ fn band(canvas: &mut Canvas, picture: &Picture) {
     let side = 8 * PX;
     let height = row(run.last + 1) - row(run.first);
     canvas.rect("band", (side, row(run.first)), (WIDTH - 2 * side, height));
-    let label = format!("run {} to {}", run.first, run.last);
-    canvas.text("red", (WIDTH - MARGIN, row(run.first) + 17 * PX), Anchor::End, &label);
+    canvas.text("red", (WIDTH - MARGIN, row(run.first) + 17 * PX), Anchor::End, &run_label(run));
+}
+
+/// What the band is called, at its right end.
+fn run_label(run: Run) -> String {
+    format!("run {} to {}", run.first, run.last)
 }
 
 /// The breaks of the axis, which is at this height, each with what is left out there.
@@ -157,20 +169,29 @@ fn record(
     let (y, key) = (row(place), &picture.servers[shown.server]);
     canvas.group(&title(key, place, shown));
     chain(canvas, place, shown);
-    let server = format!("{} {}", words::letter(shown.server), words::short(key));
+    let label = words::label(picture, shown.server, MOST_OF_A_NAME);
+    let server = format!("{} {label}", words::letter(shown.server));
     canvas.text("ink mono", (BESIDE, y + 17 * PX), Anchor::Start, &server);
     let tied = if place == 0 || shown.linked { "faint small" } else { "red small" };
     canvas.text(tied, (BESIDE, y + 32 * PX), Anchor::Start, words::link(place, shown));
     let told = words::told(shown);
     let (ink, x, down) = match (axis, &shown.told) {
-        (Some(axis), Ok(window)) => {
-            ("faint", beneath(picture, axis, window, place, &told), 36 * PX)
-        }
+        (Some(axis), Ok(window)) => ("faint", beneath(picture, axis, window, place, &told), TOLD),
         _ => ("red", AXIS, 17 * PX),
     };
     let behind = if picture.in_run(place) { "banded" } else { "told" };
     canvas.text(&format!("{ink} mono {behind}"), (x, y + down), Anchor::Start, &told);
     canvas.end_group();
+}
+
+/// How high the words about a record's window stand, where they stand at this place of the axis.
+fn words_at(picture: &Picture, axis: &Axis, place: usize, x: Length) -> Option<(Length, Length)> {
+    let shown = &picture.records[place];
+    let (window, told) = (shown.told.as_ref().ok()?, words::told(shown));
+    let start = beneath(picture, axis, window, place, &told);
+    let end = start + LETTER * told.chars().count() as u64;
+    let (above, below) = (row(place) + TOLD - 12 * PX, row(place) + TOLD + 5 * PX);
+    (start <= x + 3 * PX && x <= end + 3 * PX).then_some((above, below))
 }
 
 /// Where the words about a window start: below its bar, beside the line of what it contradicts, and
@@ -207,13 +228,21 @@ fn chain(canvas: &mut Canvas, place: usize, shown: &Shown) {
     canvas.text(number, (CHAIN, y + 4 * PX), Anchor::Middle, &place.to_string());
 }
 
-/// From the earliest second that the earlier record of the pair allows, down to the later one, and
-/// there from the latest second that this one allows.
+/// From the earliest second that the earlier record of the pair allows, down to the later one, but
+/// not across words; and there from the latest second that this one allows.
 fn contradiction(canvas: &mut Canvas, picture: &Picture, axis: &Axis) {
     let (Some(run), Some((earlier, later))) = (picture.run, picture.pair()) else { return };
-    let (top, bottom) = (row(run.first) + 3 * PX, row(run.last) + BAR_DOWN + BAR + 3 * PX);
+    let bottom = row(run.last) + BAR_DOWN + BAR + 3 * PX;
     let (least, most) = (AXIS + axis.place(earlier.low), AXIS + axis.place(later.high));
-    canvas.line("guide", (least, top), (least, bottom));
+    let label = WIDTH - MARGIN - 8 * PX * run_label(run).len() as u64;
+    let mut from = row(run.first) + if least < label { 3 * PX } else { 21 * PX };
+    for place in run.first..run.last {
+        if let Some((above, below)) = words_at(picture, axis, place, least) {
+            canvas.line("guide", (least, from), (least, above));
+            from = below;
+        }
+    }
+    canvas.line("guide", (least, from), (least, bottom));
     canvas.line("guide", (most, row(run.last) + 3 * PX), (most, bottom));
     let middle = row(run.last) + BAR_DOWN + BAR / 2;
     canvas.line("apart", (most, middle), (least, middle));
@@ -227,7 +256,9 @@ fn legend(canvas: &mut Canvas, picture: &Picture, notes: &[String], mut y: Lengt
     for server in 0..picture.servers.len() {
         y += LINE;
         canvas.rect(&format!("s{server}"), (MARGIN, y - 10 * PX), (12 * PX, 12 * PX));
-        let name = format!("{} {}", words::letter(server), words::server(picture, server));
+        let [key, behind] = words::server(picture, server);
+        let name = format!("{} {key} {behind}", words::letter(server));
+        let name: String = name.chars().take(MOST_OF_A_SERVER).collect();
         canvas.text("ink mono", (MARGIN + 20 * PX, y), Anchor::Start, &name);
     }
     y += LINE / 2;

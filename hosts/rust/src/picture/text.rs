@@ -7,27 +7,61 @@ use crate::Window;
 
 const COLUMNS: usize = 80;
 
-/// Where the axis starts, how many columns it has, and how many a break of it takes.
-const AXIS: usize = 16;
-const AXIS_COLUMNS: usize = COLUMNS - AXIS - 1;
+/// How many columns a break of the axis takes.
 const BREAK: usize = 2;
 
+/// How many letters of a server's name stand beside its records, at the most, and how many columns
+/// are kept for them at the least.
+const MOST_OF_A_NAME: usize = 12;
+const LEAST_OF_A_NAME: usize = 8;
+
+/// Where things stand.
+struct Layout {
+    axis: Option<Axis>,
+    /// The columns of a server's name.
+    name: usize,
+}
+
+impl Layout {
+    fn of(picture: &Picture) -> Layout {
+        let label = |server| words::label(picture, server, MOST_OF_A_NAME).chars().count();
+        let name = (0..picture.servers.len()).map(label).max().unwrap_or(0).max(LEAST_OF_A_NAME);
+        let windows: Vec<_> = picture.windows().iter().map(|told| (told.low, told.high)).collect();
+        let mut layout = Layout { axis: None, name };
+        // A bar has its last column as well, so that the axis ends a column earlier.
+        layout.axis = Axis::of(&windows, layout.columns() as u64 - 1, BREAK as u64);
+        layout
+    }
+
+    /// Where the axis starts: behind the mark, the place and the letter of a record, and its name.
+    const fn start(&self) -> usize {
+        8 + self.name
+    }
+
+    /// How many columns the axis has.
+    const fn columns(&self) -> usize {
+        COLUMNS - self.start() - 1
+    }
+}
+
 pub(super) fn draw(picture: &Picture) -> String {
-    let windows: Vec<_> = picture.windows().iter().map(|told| (told.low, told.high)).collect();
-    // A bar has its last column as well, so that the axis ends a column earlier.
-    let axis = Axis::of(&windows, AXIS_COLUMNS as u64 - 1, BREAK as u64);
+    let layout = Layout::of(picture);
     let mut lines = vec![format!("{}; dates are UTC", words::heading(picture)), String::new()];
     for (place, shown) in picture.records.iter().enumerate() {
-        record(&mut lines, picture, axis.as_ref(), place, shown);
+        record(&mut lines, picture, &layout, place, shown);
     }
-    lines.extend(axis.iter().flat_map(scale));
+    lines.extend(layout.axis.iter().flat_map(|axis| scale(axis, &layout)));
     lines.push(String::new());
     for server in 0..picture.servers.len() {
-        let (letter, server) = (words::letter(server), words::server(picture, server));
-        lines.push(format!("{letter} {server}"));
+        let [key, behind] = words::server(picture, server);
+        let line = format!("{} {key} {behind}", words::letter(server));
+        match line.chars().count() <= COLUMNS {
+            true => lines.push(line),
+            false => lines.extend([format!("{} {key}", words::letter(server)), behind]),
+        }
     }
     lines.push(String::new());
-    for note in words::notes(picture, axis.as_ref(), 1) {
+    for note in words::notes(picture, layout.axis.as_ref(), 1) {
         lines.extend(words::wrapped(&note, COLUMNS));
     }
     lines.iter().map(|line| format!("{}\n", line.trim_end())).collect()
@@ -37,22 +71,23 @@ pub(super) fn draw(picture: &Picture) -> String {
 fn record(
     lines: &mut Vec<String>,
     picture: &Picture,
-    axis: Option<&Axis>,
+    layout: &Layout,
     place: usize,
     shown: &Shown,
 ) {
-    let key = words::short(&picture.servers[shown.server]);
+    let label = words::label(picture, shown.server, MOST_OF_A_NAME);
     let letter = words::letter(shown.server);
     let mark = mark(picture, place);
-    let bar = match (axis, &shown.told) {
-        (Some(axis), Ok(window)) => bar(axis, window),
-        (Some(axis), Err(_)) => empty(axis).into_iter().collect(),
+    let bar = match (&layout.axis, &shown.told) {
+        (Some(axis), Ok(window)) => bar(axis, layout, window),
+        (Some(axis), Err(_)) => empty(axis, layout).into_iter().collect(),
         (None, _) => String::new(),
     };
-    lines.push(format!("{mark}{place:>2} {letter} {key}  {bar}"));
-    let mut tie = words::link(place, shown);
-    for told in words::wrapped(&words::told(shown), COLUMNS - AXIS) {
-        lines.push(format!("    {tie:<12}{told}"));
+    let width = layout.name;
+    lines.push(format!("{mark}{place:>2} {letter} {label:<width$}  {bar}"));
+    let (mut tie, width) = (words::link(place, shown), layout.start() - 4);
+    for told in words::wrapped(&words::told(shown), COLUMNS - layout.start()) {
+        lines.push(format!("    {tie:<width$}{told}"));
         tie = "";
     }
 }
@@ -67,8 +102,8 @@ fn mark(picture: &Picture, place: usize) -> char {
 }
 
 /// The columns of the axis with nothing in them but its breaks.
-fn empty(axis: &Axis) -> Vec<char> {
-    let mut columns = vec![' '; AXIS_COLUMNS];
+fn empty(axis: &Axis, layout: &Layout) -> Vec<char> {
+    let mut columns = vec![' '; layout.columns()];
     for two in axis.pieces.windows(2) {
         let middle = (two[0].end + two[1].start) / 2;
         columns[middle as usize] = ':';
@@ -77,16 +112,16 @@ fn empty(axis: &Axis) -> Vec<char> {
 }
 
 /// The columns of a window: at least one.
-fn bar(axis: &Axis, window: &Window) -> String {
-    let mut columns = empty(axis);
+fn bar(axis: &Axis, layout: &Layout, window: &Window) -> String {
+    let mut columns = empty(axis, layout);
     let (first, last) = (axis.place(window.low) as usize, axis.place(window.high) as usize);
     columns[first..=last].fill('=');
     columns.into_iter().collect()
 }
 
 /// The axis, and below it the dates of some seconds.
-fn scale(axis: &Axis) -> Vec<String> {
-    let mut rule = empty(axis);
+fn scale(axis: &Axis, layout: &Layout) -> Vec<String> {
+    let mut rule = empty(axis, layout);
     for piece in &axis.pieces {
         rule[piece.start as usize..=piece.end as usize].fill('-');
     }
@@ -95,7 +130,7 @@ fn scale(axis: &Axis) -> Vec<String> {
     let name = Date::of(last).day().len();
     for Tick { second, at, step } in axis.ticks(name as u64 + 2) {
         let (at, date) = (at as usize, Date::of(second));
-        if at > 0 && at + name > AXIS_COLUMNS {
+        if at > 0 && at + name > layout.columns() {
             continue;
         }
         rule[at] = '|';
@@ -105,6 +140,7 @@ fn scale(axis: &Axis) -> Vec<String> {
         }
     }
     let lines = [rule.into_iter().collect(), times, days];
-    let indented = |line: String| format!("{:AXIS$}{line}", "");
+    let start = layout.start();
+    let indented = |line: String| format!("{:start$}{line}", "");
     lines.into_iter().filter(|line| !line.is_empty()).map(indented).collect()
 }

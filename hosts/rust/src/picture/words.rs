@@ -29,10 +29,28 @@ pub(super) fn short(key: &[u8; 32]) -> String {
     hex(&key[..4])
 }
 
-/// A server with its whole key, and of how many records it is the key.
-pub(super) fn server(picture: &Picture, server: usize) -> String {
+/// What a server is called, where it has a name.
+fn name(picture: &Picture, server: usize) -> Option<&str> {
+    picture.names.as_ref()?[server].as_deref()
+}
+
+/// What stands beside a record, in at most so many letters: the name of its server, or the first
+/// digits of its key.
+pub(super) fn label(picture: &Picture, server: usize, most: usize) -> String {
+    let short = short(&picture.servers[server]);
+    name(picture, server).map_or(short, |name| name.chars().take(most).collect())
+}
+
+/// A server with its whole key, and its name; or where nobody has looked for one, of how many
+/// records it is the key.
+pub(super) fn server(picture: &Picture, server: usize) -> [String; 2] {
     let records = picture.records.iter().filter(|shown| shown.server == server).count();
-    format!("{} ({})", hex(&picture.servers[server]), counted(records, "record"))
+    let behind = match (&picture.names, name(picture, server)) {
+        (None, _) => format!("({})", counted(records, "record")),
+        (_, Some(name)) => name.to_string(),
+        (_, None) => "in no list".to_string(),
+    };
+    [hex(&picture.servers[server]), behind]
 }
 
 pub(super) fn hex(bytes: &[u8]) -> String {
@@ -79,16 +97,30 @@ fn verdict(picture: &Picture) -> Vec<String> {
     let (Some(run), Some((earlier, later))) = (picture.run, picture.pair()) else {
         return vec![finding(picture)];
     };
+    let whose = |place: usize| match name(picture, picture.records[place].server) {
+        Some(name) => format!("{place} ({name})"),
+        None => place.to_string(),
+    };
     vec![
         format!("The run of records {} to {} convicts by itself:", run.first, run.last),
-        format!("By record {} it was {} at the least.", run.first, Date::of(earlier.low)),
+        format!("By record {} it was {} at the least.", whose(run.first), Date::of(earlier.low)),
         format!(
             "By record {}, asked for after that, it was {} at the most.",
-            run.last,
+            whose(run.last),
             Date::of(later.high)
         ),
         format!("The two are {} apart, and contradict each other.", long(earlier.low - later.high)),
     ]
+}
+
+/// Which keys are in no list, where somebody has looked.
+fn unlisted(picture: &Picture) -> Option<String> {
+    let names = picture.names.as_ref()?;
+    let letters = (0..names.len()).filter(|server| names[*server].is_none()).map(letter);
+    let letters: Vec<String> = letters.map(String::from).collect();
+    (!letters.is_empty()).then(|| {
+        format!("In no list, so that anybody may have made it: the key {}.", letters.join(", "))
+    })
 }
 
 /// A number of seconds, and how long that is where it is not seen at a glance.
@@ -103,6 +135,7 @@ fn long(seconds: u64) -> String {
 /// The sentences below a picture, on whose axis no bar is drawn shorter than `least`.
 pub(super) fn notes(picture: &Picture, axis: Option<&Axis>, least: u64) -> Vec<String> {
     let mut notes = verdict(picture);
+    notes.extend(unlisted(picture));
     let Some(axis) = axis else {
         notes.push("No record is valid, and so there is no window to draw.".to_string());
         return notes;

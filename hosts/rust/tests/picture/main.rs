@@ -192,6 +192,36 @@ fn the_report_of_the_draft() {
     assert_eq!(Picture::of_text(br#"{"responses": []}"#), Err(Refusal::Entries));
 }
 
+/// Who has a list, or tells a story, has names for the servers.
+#[test]
+fn servers_have_names() {
+    let mut picture = picture(&example());
+    picture.name_servers(|key| match key[0] {
+        0x55 => Some("alder".to_string()),
+        0x54 => Some("a name as long as nobody has one, in any list".to_string()),
+        0x57 => Some("<b\u{1b}[1m>".to_string()),
+        _ => None,
+    });
+    hold(&picture, 4);
+    let (elements, told) = (drawn(&picture), picture.text());
+    let texts = texts(&elements);
+    for due in ["A alder", "B a name as lon", "C <b?[1m>", "D 56565656"] {
+        assert!(texts.contains(&due), "{due}: {texts:?}");
+    }
+    let whole = format!("B {} a name as long as nobody has one, in any list", "54".repeat(32));
+    assert!(texts.contains(&&whole[..]), "{texts:?}");
+    let sentence = "By record 2 (<b?[1m>) it was 1970-01-01 00:24:54 at the least.";
+    let stranger = "In no list, so that anybody may have made it: the key D.";
+    assert!(texts.contains(&sentence) && texts.contains(&stranger), "{texts:?}");
+    assert!(told.contains(sentence) && told.contains(stranger), "{told}");
+    for due in ["\n  0 A alder         =", "\n  1 B a name as lo ", "\n> 2 C <b?[1m>"] {
+        assert!(told.contains(due), "{told}");
+    }
+    assert!(told.contains(&format!("\nA {} alder\n", "55".repeat(32))), "{told}");
+    assert!(told.contains(&format!("\nD {} in no list\n", "56".repeat(32))), "{told}");
+    assert!(!told.contains('\u{1b}'));
+}
+
 /// A server that is asked twice has one colour and one letter.
 #[test]
 fn a_server_is_one_by_its_whole_key() {
@@ -252,16 +282,28 @@ fn width(text: &Element) -> u64 {
     letter * text.text.chars().count() as u64
 }
 
-/// No text runs out of the picture.
+/// How far a text reaches to both sides of its place.
+fn reach(text: &Element) -> (u64, u64) {
+    let width = width(text);
+    match text.attribute("text-anchor") {
+        "start" => (0, width),
+        "middle" => (width / 2, width / 2),
+        _ => (width, 0),
+    }
+}
+
+/// No text runs out of the picture, and no dashed line of the pair runs through one.
 fn hold_texts(elements: &[Element]) {
     for text in elements.iter().filter(|element| element.name == "text") {
-        let (x, width) = (text.length("x"), width(text));
-        let (before, after) = match text.attribute("text-anchor") {
-            "start" => (0, width),
-            "middle" => (width / 2, width / 2),
-            _ => (width, 0),
-        };
+        let (x, (before, after)) = (text.length("x"), reach(text));
         assert!(before <= x && x + after <= 96_000, "{text:?}");
+        for line in elements.iter().filter(|element| element.class("guide")) {
+            let (across, top, bottom) = (line.length("x1"), line.length("y1"), line.length("y2"));
+            let beside = across < x - before || x + after < across;
+            // Letters stand on their place, and some reach below it.
+            let over = bottom < text.length("y") - 900 || text.length("y") + 300 < top;
+            assert!(beside || over, "{line:?} runs through {text:?}");
+        }
     }
 }
 

@@ -1,6 +1,7 @@
-//! What the command can be asked for, and what goes with each.
+//! What the command can be asked for, and what goes with each. Which flags these are the lines of
+//! usage say.
 
-use crate::help::USAGE;
+use crate::help;
 use crate::status::Stop;
 
 #[derive(Clone, Copy, Debug, PartialEq, Eq)]
@@ -29,6 +30,7 @@ const ACTIONS: [(&str, Action); 8] = [
 
 impl Action {
     pub fn of(flag: &str) -> Option<Action> {
+        let flag = if flag == "-h" { "--help" } else { flag };
         ACTIONS.into_iter().find(|(name, _)| *name == flag).map(|(_, action)| action)
     }
 
@@ -36,16 +38,17 @@ impl Action {
         ACTIONS.into_iter().find(|(_, action)| *action == self).map_or("", |(name, _)| name)
     }
 
-    /// The flags that go with it.
-    pub fn takes(self) -> &'static [&'static str] {
-        match self {
-            Action::Plain => &["--status"],
-            Action::Judge => &["--json", "--dates", "--status"],
-            Action::Cut => &["--json", "--out", "--force"],
-            Action::Draw => &["--svg", "--out", "--force", "--status"],
-            Action::Make => &["--out", "--force"],
-            Action::LookUp | Action::Help | Action::Version => &[],
-        }
+    /// Its line of usage.
+    fn line(self) -> &'static str {
+        let flag = if self == Action::Plain { "[PILE" } else { self.name() };
+        let called = |line: &&str| line.split("trawl ").any(|words| words.starts_with(flag));
+        help::usage().lines().find(called).unwrap_or_default()
+    }
+
+    /// Whether a flag goes with it.
+    pub fn takes(self, flag: &str) -> bool {
+        let mut words = self.line().split_whitespace().map(bare);
+        flag != self.name() && words.any(|word| word == flag)
     }
 
     /// Whether so many words beside the flags are right.
@@ -70,23 +73,27 @@ impl Action {
         }
     }
 
-    /// How it is called.
-    fn usage(self) -> String {
-        let flag = if self == Action::Plain { "[PILE" } else { self.name() };
-        let called = |line: &&str| line.split("trawl ").any(|words| words.starts_with(flag));
-        let line = USAGE.lines().find(called).unwrap_or_default();
-        format!("usage: {}", line.trim_start_matches("usage:").trim_start())
-    }
-
     /// The arguments are wrong for it.
     pub fn wrong(self, words: String) -> Stop {
-        Stop::Usage(format!("{words}\n{}", self.usage()))
+        let usage = self.line().trim_start_matches("usage:").trim_start();
+        Stop::Usage(format!("{words}\nusage: {usage}"))
     }
+}
+
+/// A word of usage without its brackets.
+fn bare(word: &str) -> &str {
+    word.trim_matches(|letter| letter == '[' || letter == ']')
+}
+
+/// Whether a flag is followed by a file: in usage a name follows it within its brackets.
+pub fn names_a_file(flag: &str) -> bool {
+    let mut words = help::usage().split_whitespace();
+    words.any(|word| word.len() == flag.len() + 1 && word.starts_with('[') && bare(word) == flag)
 }
 
 /// With what a flag goes, as words; none, where there is no such flag.
 pub fn goes_with(flag: &str) -> Option<String> {
-    let takes = |(_, action): &(&str, Action)| action.takes().contains(&flag);
+    let takes = |(_, action): &(&str, Action)| action.takes(flag);
     let names: Vec<&str> = ACTIONS.into_iter().filter(takes).map(|(name, _)| name).collect();
     let (last, others) = names.split_last()?;
     let others = others.join(", ");

@@ -2,11 +2,13 @@
 
 use crate::flags::Flags;
 use crate::hints::{self, Held};
-use crate::status::Stop;
+use crate::lists::{Lists, Place};
+use crate::output;
+use crate::status::{Ended, Stop};
 use std::fs::File;
-use std::io::Read;
+use std::io::{self, Read};
 use std::path::{Path, PathBuf};
-use trawlbeacon::{Checked, Cut, PacketRefusal, Refusal, MOST_RECORDS, RECORD_LENGTH};
+use trawlbeacon::{Checked, Cut, PacketRefusal, Refusal, Run, MOST_RECORDS, RECORD_LENGTH};
 
 /// The longest file that is read. A report may be longer than those that we write, but not without
 /// end.
@@ -16,19 +18,35 @@ const LONGEST: u64 = 64 << 20;
 pub struct Evidence {
     pub pile: Vec<u8>,
     pub answers: Option<Vec<u8>>,
+    /// Whose keys are known, where somebody gave a list.
+    lists: Option<Lists>,
     /// The files that they came from.
     files: Vec<PathBuf>,
 }
 
 impl Evidence {
     /// What the first file of the command holds, with the answers of the second. A report that is
-    /// none is refused with 24 or 25.
-    pub fn of(flags: &Flags) -> Result<Result<Evidence, Refusal>, Stop> {
+    /// none is refused with 24 or 25, and then with what is wrong in it.
+    pub fn of(flags: &Flags) -> Result<Result<Evidence, (Refusal, Vec<String>)>, Stop> {
         let files: Vec<PathBuf> = flags.words.iter().map(PathBuf::from).collect();
+        let lists = match flags.servers[..] {
+            [] => None,
+            _ => Some(Lists::of(&flags.servers)?),
+        };
         let bytes = read(&files[0])?;
         let answers = files.get(1).map(|file| read(file)).transpose()?;
-        let pile = if is_text(&bytes) { records_of(&bytes) } else { Ok(bytes) };
-        Ok(pile.map(|pile| Evidence { pile, answers, files }))
+        let pile = match is_text(&bytes) {
+            true => records_of(&bytes).map_err(|refusal| {
+                (refusal, hints::on_text((&files[0], &bytes)).into_iter().collect())
+            }),
+            false => Ok(bytes),
+        };
+        Ok(pile.map(|pile| Evidence { pile, answers, lists, files }))
+    }
+
+    /// The same, for a command that has nothing to write where it is refused.
+    pub fn or_stop(flags: &Flags) -> Result<Evidence, Stop> {
+        Evidence::of(flags)?.map_err(|(refusal, hints)| Stop::refused(refusal, &hints))
     }
 
     /// What is wrong with the files, where they are refused for it.
@@ -58,16 +76,56 @@ impl Evidence {
             None => trawlbeacon::cut_signed(&self.pile),
         }
     }
+
+    /// The long-term key in a record.
+    pub fn key(&self, place: usize) -> [u8; 32] {
+        let mut key = [0; 32];
+        key.copy_from_slice(&self.pile[place * RECORD_LENGTH..][..32]);
+        key
+    }
+
+    /// Where the lists have the key of a record; nothing, where there is no list.
+    pub fn server(&self, place: usize) -> Option<Option<Place>> {
+        self.lists.as_ref().map(|lists| lists.server(&self.key(place)))
+    }
+
+    /// How a command ends that found a run, by whose keys it convicts. What is not known is said.
+    pub fn convicts(&self, run: Run) -> Ended {
+        if self.lists.is_none() {
+            output::say("whose keys these are nobody has looked up; --servers LIST does");
+            return Ended::Done;
+        }
+        let unlisted = |place: &usize| self.server(*place) == Some(None);
+        let unlisted: Vec<usize> = (run.first..=run.last).filter(unlisted).collect();
+        for place in &unlisted {
+            output::say(&format!("the key of record {place} is in no list: anybody may have it"));
+        }
+        if unlisted.is_empty() {
+            Ended::Done
+        } else {
+            Ended::Unlisted
+        }
+    }
 }
 
-/// All bytes of a file.
+/// All bytes of a file, or of standard input.
 pub fn read(file: &Path) -> Result<Vec<u8>, Stop> {
-    let mut bytes = Vec::new();
-    let opened = File::open(file).map_err(|error| Stop::file(file, error))?;
-    opened.take(LONGEST + 1).read_to_end(&mut bytes).map_err(|error| Stop::file(file, error))?;
+    let failed = |error: io::Error| Stop::file(file, error);
+    let bytes = match file.as_os_str() == "-" {
+        true => taken(io::stdin()),
+        false => taken(File::open(file).map_err(failed)?),
+    };
+    let bytes = bytes.map_err(failed)?;
     if bytes.len() as u64 > LONGEST {
         return Err(Stop::file(file, "it has more than 64 MiB"));
     }
+    Ok(bytes)
+}
+
+/// No more than shows that it is too long.
+fn taken(from: impl Read) -> io::Result<Vec<u8>> {
+    let mut bytes = Vec::new();
+    from.take(LONGEST + 1).read_to_end(&mut bytes)?;
     Ok(bytes)
 }
 

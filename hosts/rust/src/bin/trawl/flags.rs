@@ -1,10 +1,15 @@
 //! What stands on the command line, and whether it goes together.
 
-use crate::actions::{goes_with, Action};
-use crate::help::USAGE;
+use crate::actions::{goes_with, names_a_file, Action};
+use crate::help;
+use crate::names;
 use crate::status::Stop;
 use std::ffi::OsString;
+use std::os::unix::ffi::{OsStrExt, OsStringExt};
 use std::path::PathBuf;
+
+/// How many lists of servers there may be: the owner's and the shipped one.
+const MOST_LISTS: usize = 2;
 
 #[derive(Debug)]
 pub struct Flags {
@@ -17,6 +22,8 @@ pub struct Flags {
     pub force: bool,
     pub status: bool,
     pub out: Option<PathBuf>,
+    /// The lists of servers, the owner's first.
+    pub servers: Vec<PathBuf>,
 }
 
 /// What stands on the command line, before it is known whether it goes together.
@@ -26,27 +33,50 @@ struct Given {
     flags: Vec<String>,
     words: Vec<OsString>,
     out: Option<OsString>,
+    servers: Vec<OsString>,
 }
 
 impl Given {
     fn of(mut arguments: impl Iterator<Item = OsString>) -> Result<Given, Stop> {
         let mut given = Given::default();
         while let Some(word) = arguments.next() {
-            match word.to_str().filter(|word| word.starts_with("--")) {
-                None => given.words.push(word),
-                Some("--") => given.words.extend(arguments.by_ref()),
-                Some("--out") => {
-                    let none = || Stop::Usage("--out names no file".to_string());
-                    given.out = Some(arguments.next().ok_or_else(none)?);
-                    given.flags.push("--out".to_string());
-                }
-                Some(flag) => match Action::of(flag) {
-                    Some(action) => given.actions.push(action),
-                    None => given.flags.push(flag.to_string()),
-                },
+            let bytes = word.as_bytes();
+            if bytes == b"--" {
+                given.words.extend(arguments.by_ref());
+            } else if bytes.len() < 2 || bytes[0] != b'-' {
+                given.words.push(word);
+            } else {
+                given.flag(word, &mut arguments)?;
             }
         }
         Ok(given)
+    }
+
+    /// A flag, with the file that it names behind a sign of equality or in the next word.
+    fn flag(
+        &mut self,
+        word: OsString,
+        more: &mut impl Iterator<Item = OsString>,
+    ) -> Result<(), Stop> {
+        let mut parts = word.as_bytes().splitn(2, |byte| *byte == b'=');
+        let name = String::from_utf8_lossy(parts.next().unwrap_or_default()).into_owned();
+        let behind = parts.next().map(|file| OsString::from_vec(file.to_vec()));
+        if names_a_file(&name) {
+            let none = || Stop::Usage(format!("{name} names no file"));
+            let file = behind.or_else(|| more.next()).filter(|file| !file.is_empty());
+            let file = file.ok_or_else(none)?;
+            match &name[..] {
+                "--servers" => self.servers.push(file),
+                _ => self.out = Some(file),
+            }
+        } else if behind.is_some() && (Action::of(&name).is_some() || goes_with(&name).is_some()) {
+            return Err(Stop::Usage(format!("{name} takes nothing behind a sign of equality")));
+        }
+        match Action::of(&name) {
+            Some(action) => self.actions.push(action),
+            None => self.flags.push(name),
+        }
+        Ok(())
     }
 
     fn has(&self, flag: &str) -> bool {
@@ -65,26 +95,24 @@ impl Given {
                 "{} and {} cannot be asked for at once\n{}",
                 one.name(),
                 other.name(),
-                USAGE.trim_end()
+                help::usage()
             ))),
         }
     }
 
     /// Whether flags and words go with the action.
     fn check(&self, action: Action) -> Result<(), Stop> {
-        if action == Action::Help {
-            return Ok(());
-        }
-        let known = |flag: &String| action.takes().contains(&&flag[..]);
-        if let Some(flag) = self.flags.iter().find(|flag| !known(flag)) {
+        if let Some(flag) = self.flags.iter().find(|flag| !action.takes(flag)) {
             return Err(match goes_with(flag) {
                 Some(actions) => action.wrong(format!("{flag} goes with {actions}")),
-                None => Stop::Usage(format!("there is no flag {flag}\n{}", USAGE.trim_end())),
+                None => no_flag(flag),
             });
         }
-        let twice = |at: &usize| self.flags[..*at].contains(&self.flags[*at]);
-        if let Some(at) = (1..self.flags.len()).find(twice) {
-            return Err(action.wrong(format!("{} stands there twice", self.flags[at])));
+        let most = |flag: &str| if flag == "--servers" { MOST_LISTS } else { 1 };
+        let often = |flag: &&String| self.flags.iter().filter(|other| other == flag).count();
+        if let Some(flag) = self.flags.iter().find(|flag| often(flag) > most(flag)) {
+            let times = if most(flag) == 1 { "twice" } else { "more than twice" };
+            return Err(action.wrong(format!("{flag} stands there {times}")));
         }
         let words = self.words.len();
         if !action.counts(words) {
@@ -96,15 +124,35 @@ impl Given {
         if self.has("--force") && self.out.is_none() {
             return Err(action.wrong("--force goes with --out".to_string()));
         }
+        let dashes = self.files(action).filter(|file| *file == "-").count();
+        if dashes > 1 {
+            return Err(action.wrong("standard input can be read but once".to_string()));
+        }
         Ok(())
     }
+
+    /// The words that name files to be read. Where packets are put together - is a rand, too.
+    fn files(&self, action: Action) -> impl Iterator<Item = &OsString> {
+        let rand = move |place: usize| action == Action::Make && place % 4 == 1;
+        let words = self.words.iter().enumerate().filter(move |(place, _)| !rand(*place));
+        words.map(|(_, word)| word).chain(&self.servers)
+    }
+}
+
+fn no_flag(flag: &str) -> Stop {
+    let flag = names::plain(flag);
+    let file = if flag.starts_with("--") { "" } else { "; a file of that name is written ./" };
+    let name = if file.is_empty() { "" } else { &flag[..] };
+    Stop::Usage(format!("there is no flag {flag}{file}{name}\n{}", help::usage()))
 }
 
 impl Flags {
     pub fn of(arguments: impl Iterator<Item = OsString>) -> Result<Flags, Stop> {
         let given = Given::of(arguments)?;
         let action = given.action()?;
-        given.check(action)?;
+        if action != Action::Help {
+            given.check(action)?;
+        }
         Ok(Flags {
             action,
             json: given.has("--json"),
@@ -114,6 +162,7 @@ impl Flags {
             status: given.has("--status"),
             words: given.words,
             out: given.out.map(PathBuf::from),
+            servers: given.servers.into_iter().map(PathBuf::from).collect(),
         })
     }
 }

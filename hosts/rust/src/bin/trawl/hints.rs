@@ -1,20 +1,26 @@
-//! What is wrong with files that are refused for their lengths or for the bytes of answers: more
-//! than the code says, which is one for all of that.
+//! What is wrong with files that are refused: more than the code says, which is one for many things.
 
 use crate::evidence::is_text;
+use crate::names;
+use crate::status::reason;
+use crate::why;
 use std::fs::{self, File};
 use std::path::Path;
 use trawlbeacon::{MOST_RECORDS, RECORD_LENGTH, SERVER_LENGTH};
 
 /// What cannot be read counts as empty (document 01), so that a mistyped name looks like a bad pile.
 pub fn unreadable(file: &Path) -> Option<String> {
-    let found = fs::metadata(file);
-    // Nothing but a file is opened here: of a pipe the program is to have every byte.
-    let readable = found
-        .map_or(false, |found| !found.is_dir() && (!found.is_file() || File::open(file).is_ok()));
-    let dash = file.as_os_str().to_str().map_or(false, |name| name.starts_with('-') && name != "-");
-    let flag = if dash { "; a flag has two dashes, as --help" } else { "" };
-    (!readable).then(|| format!("'{}' cannot be read, and counts as empty{flag}", file.display()))
+    if file.as_os_str() == "-" {
+        return None;
+    }
+    let why = match fs::metadata(file) {
+        Err(error) => reason(error),
+        Ok(found) if found.is_dir() => "it is a folder".to_string(),
+        // Nothing but a file is opened here: of a pipe the program is to have every byte.
+        Ok(found) if !found.is_file() => return None,
+        Ok(_) => reason(File::open(file).err()?),
+    };
+    Some(format!("{} cannot be read, and counts as empty: {why}", names::file(file)))
 }
 
 /// A file by its name, and what it holds.
@@ -26,11 +32,16 @@ pub fn on_pile_and_answers(pile: Held, answers: Option<Held>) -> Vec<String> {
     on_pile(pile).into_iter().chain(on_answers).collect()
 }
 
+/// What is wrong with a text, where it is refused with 24 or 25.
+pub fn on_text((name, text): Held) -> Option<String> {
+    why::no_report(text).map(|why| format!("{}: {why}", names::file(name)))
+}
+
 /// Which lists of servers are not whole, where they are refused with 21.
 pub fn on_lists(lists: &[Held]) -> Vec<String> {
     let broken = lists.iter().filter(|(_, list)| list.len() % SERVER_LENGTH != 0);
     let told = |(name, list): &Held| {
-        format!("'{}' has {}, and a server has {SERVER_LENGTH}", name.display(), bytes(list))
+        format!("{} has {}, and a server has {SERVER_LENGTH}", names::file(name), bytes(list))
     };
     broken.map(told).collect()
 }
@@ -41,33 +52,35 @@ fn bytes(held: &[u8]) -> String {
 }
 
 fn on_pile((name, pile): Held) -> Option<String> {
-    let name = name.display();
+    let name = names::file(name);
     let records = pile.len() / RECORD_LENGTH;
     if pile.is_empty() {
-        Some(format!("'{name}' is empty"))
+        Some(format!("{name} is empty"))
+    } else if why::is_utf16(pile) {
+        Some(format!("{name} is a text in UTF-16; a report in JSON is UTF-8"))
     } else if is_text(pile) {
-        Some(format!("'{name}' is a text; --judge, --cut and --draw take reports in JSON"))
+        Some(format!("{name} is a text; --judge, --cut and --draw take reports in JSON"))
     } else if pile.len() % RECORD_LENGTH != 0 {
-        Some(format!("'{name}' has {}, and a record has {RECORD_LENGTH}", bytes(pile)))
+        Some(format!("{name} has {}, and a record has {RECORD_LENGTH}", bytes(pile)))
     } else if records > MOST_RECORDS {
-        Some(format!("'{name}' has {records} records, and a pile has at most {MOST_RECORDS}"))
+        Some(format!("{name} has {records} records, and a pile has at most {MOST_RECORDS}"))
     } else {
         None
     }
 }
 
 fn on_answers((name, answers): Held, pile: usize) -> Option<String> {
-    let (name, length) = (name.display(), bytes(answers));
+    let (name, length) = (names::file(name), bytes(answers));
     let (given, records) = (answers.len(), pile / RECORD_LENGTH);
     if let Some(at) = answers.iter().position(|byte| *byte > 1) {
         let byte = answers[at];
         let digit = if byte == b'0' || byte == b'1' { ", and no digit" } else { "" };
-        Some(format!("byte {at} of '{name}' is {byte}; an answer is the byte 1 or 0{digit}"))
+        Some(format!("byte {at} of {name} is {byte}; an answer is the byte 1 or 0{digit}"))
     } else if given % 2 != 0 {
-        Some(format!("'{name}' has {length}, and there are two answers a record"))
+        Some(format!("{name} has {length}, and there are two answers a record"))
     } else if given != 2 * records {
         let have = if records == 1 { "record has" } else { "records have" };
-        Some(format!("'{name}' has {length}; {records} {have} {} answers", 2 * records))
+        Some(format!("{name} has {length}; {records} {have} {} answers", 2 * records))
     } else {
         None
     }

@@ -10,14 +10,21 @@ mod draw;
 mod evidence;
 mod flags;
 mod help;
-mod hex;
 mod hints;
 mod judge;
+mod keys;
+mod lists;
 mod look_up;
 mod make;
+mod names;
 mod output;
 mod plain;
+#[path = "../../../shared/standard_output.rs"]
+mod standard_output;
 mod status;
+#[path = "../../../shared/whole.rs"]
+mod whole;
+mod why;
 
 use actions::Action;
 use flags::Flags;
@@ -45,7 +52,7 @@ fn run(flags: Flags) -> Result<Ended, Stop> {
         Action::Make => make::run(&flags),
         Action::LookUp => look_up::run(&flags),
         Action::Draw => draw::run(&flags),
-        Action::Help => output::print([help::USAGE, help::HELP].concat().as_bytes()),
+        Action::Help => output::print(help::HELP.as_bytes()),
         Action::Version => {
             output::print(format!("trawl {}\n", env!("CARGO_PKG_VERSION")).as_bytes())
         }

@@ -2,7 +2,7 @@
 
 use crate::evidence;
 use crate::flags::Flags;
-use crate::hex::hex32;
+use crate::keys::bytes32;
 use crate::output;
 use crate::status::{Ended, Stop};
 use std::ffi::OsString;
@@ -19,8 +19,8 @@ pub fn run(flags: &Flags) -> Result<Ended, Stop> {
 
 /// The record of a key, a rand and two files.
 fn record(words: &[OsString]) -> Result<Record, Stop> {
-    let key = hex32(&words[0])?;
-    let rand = if words[1] == "-" { [0; 32] } else { hex32(&words[1])? };
+    let key = bytes32(&words[0])?;
+    let rand = if words[1] == "-" { [0; 32] } else { bytes32(&words[1])? };
     let packet = |word: &OsString| evidence::read(Path::new(word));
     Ok(Record::new(&key, &rand, &packet(&words[2])?, &packet(&words[3])?)?)
 }

@@ -5,6 +5,7 @@ use crate::hints::{self, Held};
 use crate::output;
 use crate::status::{Ended, Stop};
 use std::ffi::OsString;
+use std::io::ErrorKind;
 use std::path::{Path, PathBuf};
 use std::process::{Command, Stdio};
 use std::{env, fs, process};
@@ -36,7 +37,7 @@ pub fn run(flags: &Flags) -> Result<Ended, Stop> {
 fn on_refusal(files: &[OsString]) -> Vec<String> {
     let read = |file: &OsString| {
         let found = fs::metadata(file).ok()?;
-        let small = found.is_file() && found.len() < 1 << 24;
+        let small = file != "-" && found.is_file() && found.len() < 1 << 24;
         small.then(|| fs::read(file).ok()).flatten()
     };
     let held: Vec<Option<Vec<u8>>> = files.iter().map(read).collect();
@@ -57,8 +58,10 @@ fn program() -> Result<PathBuf, Stop> {
 /// not written, so that they are taken from it and written here.
 fn verdict(files: &[OsString]) -> Result<Vec<u8>, Stop> {
     let program = program()?;
+    // The program knows files by their names alone.
+    let named = |file: &OsString| if file == "-" { "/dev/stdin".into() } else { file.clone() };
     let ran = Command::new(&program)
-        .args(files)
+        .args(files.iter().map(named))
         .stdin(Stdio::inherit())
         .stderr(Stdio::inherit())
         .output()
@@ -79,12 +82,23 @@ fn ended(said: &[u8]) -> Ended {
     }
 }
 
-/// The program reads files, so that the sample is put into some, in a folder that was not there
-/// before.
+/// A folder that was not there before, whoever made others of such names.
+fn new_folder() -> Result<PathBuf, Stop> {
+    let mut count = 0;
+    loop {
+        let folder = env::temp_dir().join(format!("trawl-sample-{}-{count}", process::id()));
+        match fs::create_dir(&folder) {
+            Ok(()) => return Ok(folder),
+            Err(error) if error.kind() == ErrorKind::AlreadyExists && count < 100 => count += 1,
+            Err(error) => return Err(Stop::file(&folder, error)),
+        }
+    }
+}
+
+/// The program reads files, so that the sample is put into some.
 fn on_sample(status: bool) -> Result<Ended, Stop> {
-    let folder = env::temp_dir().join(format!("trawl-sample-{}", process::id()));
+    let folder = new_folder()?;
     let failed = |error| Stop::file(&folder, error);
-    fs::create_dir(&folder).map_err(failed)?;
     let files = SAMPLE.map(|(name, _)| folder.join(name));
     let written =
         SAMPLE.iter().zip(&files).try_for_each(|((_, bytes), file)| fs::write(file, bytes));
@@ -92,5 +106,6 @@ fn on_sample(status: bool) -> Result<Ended, Stop> {
     fs::remove_dir_all(&folder).map_err(failed)?;
     let said = said?;
     output::print(&said)?;
+    output::say("no pile is named, and so this is of a sample; trawl --help says what there is");
     Ok(ended(&said).told(status))
 }

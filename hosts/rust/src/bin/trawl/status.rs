@@ -1,5 +1,6 @@
 //! How the command ends, and with which status.
 
+use crate::names;
 use std::fmt;
 use std::path::Path;
 use trawlbeacon::Refusal;
@@ -13,6 +14,8 @@ pub enum Ended {
     None,
     /// What was given is no pile, no report, no answers or no list.
     Refused,
+    /// A run convicts, and a key of it is in no list.
+    Unlisted,
 }
 
 impl Ended {
@@ -21,12 +24,14 @@ impl Ended {
             Ended::Done => 0,
             Ended::None => 3,
             Ended::Refused => 4,
+            Ended::Unlisted => 5,
         }
     }
 
-    /// The same, or 0 for every verdict where nobody asked for a status of its own.
+    /// The same, or 0 for a verdict where nobody asked for a status of its own. Who gave a list has
+    /// asked whether it has the keys.
     pub fn told(self, asked: bool) -> Ended {
-        if asked {
+        if asked || self == Ended::Unlisted {
             self
         } else {
             Ended::Done
@@ -61,14 +66,12 @@ impl Stop {
 
     /// A file, and what went wrong with it.
     pub fn file(file: &Path, error: impl fmt::Display) -> Stop {
-        Stop::failed(&format!("'{}'", file.display()), error)
+        Stop::failed(&names::file(file), error)
     }
 
-    /// The same of anything, without the number that the system has for it.
+    /// The same of anything.
     pub fn failed(what: &str, error: impl fmt::Display) -> Stop {
-        let error = error.to_string();
-        let words = error.split(" (os error ").next().unwrap_or(&error);
-        Stop::Failed(format!("{what}: {words}"))
+        Stop::Failed(format!("{what}: {}", reason(error)))
     }
 
     /// What was refused, and what is wrong with it in particular.
@@ -80,6 +83,12 @@ impl Stop {
             _ => Stop::Refused(words),
         }
     }
+}
+
+/// What the system says of an error, without the number that it has for it.
+pub fn reason(error: impl fmt::Display) -> String {
+    let error = error.to_string();
+    error.split(" (os error ").next().unwrap_or(&error).to_string()
 }
 
 impl From<Refusal> for Stop {
