@@ -44,12 +44,16 @@ planned() { # NAME...
         }' tools/seconds.txt crates.txt
 }
 
-minutes() { # SECONDS
-    local rounded=$((($1 + 30) / 60))
-    if [ "$1" -lt 60 ]; then
+# How long is left, in words: of what is foreseen for this batch, what it has taken so far, and of the rest.
+left() { # HERE SO-FAR REST
+    local seconds=$(($1 - $2 + $3)) minutes
+    minutes=$(((seconds + 30) / 60))
+    if [ "$2" -gt "$1" ]; then
+        printf 'longer than foreseen, %d seconds so far' "$2"
+    elif [ "$seconds" -lt 60 ]; then
         printf 'less than a minute left'
     else
-        printf 'about %d minute%s left' "$rounded" "$([ "$rounded" -eq 1 ] || echo s)"
+        printf 'about %d minute%s left' "$minutes" "$([ "$minutes" -eq 1 ] || echo s)"
     fi
 }
 
@@ -91,7 +95,9 @@ tell_progress() { # NAME...
 progress() { # WHAT
     local here=${batch[next]-0} rest=${later[next]-0}
     if [ "$due" -ge 10 ]; then here=$((here * measured / due)) rest=$((rest * measured / due)); fi
-    here=$((here - (now - since)))
-    [ "$here" -gt 0 ] || here=0
-    say "$1 $next of ${#names[@]} crates$([ "$next" -eq "${#names[@]}" ] || printf ', %s' "$(minutes $((here + rest)))")" >&2
+    if [ "$next" -lt "${#names[@]}" ]; then
+        say "$1 $next of ${#names[@]} crates, $(left "$here" $((now - since)) "$rest")" >&2
+    else
+        say "$1 $next of $next crates" >&2
+    fi
 }

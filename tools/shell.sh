@@ -21,9 +21,9 @@ answer_first() { # WORD...
     done
 }
 
-# The arguments are wrong.
+# The arguments are wrong: says so, and how it is called.
 misused() { # WHAT
-    { say "$1" && help; } >&2
+    { say "$1" && help | sed '/^$/,$d'; } >&2
     exit 2
 }
 

@@ -40,8 +40,8 @@ impl Action {
 
     /// Its line of usage.
     fn line(self) -> &'static str {
-        let flag = if self == Action::Plain { "[PILE" } else { self.name() };
-        let called = |line: &&str| line.split("trawl ").any(|words| words.starts_with(flag));
+        let own = if self == Action::Plain { "[PILE" } else { self.name() };
+        let called = |line: &&str| line.split_whitespace().any(|word| word == own);
         help::usage().lines().find(called).unwrap_or_default()
     }
 
