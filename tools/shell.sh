@@ -41,6 +41,14 @@ program trawl ready, and needs neither kit nor prover. tools/release makes it on
 
 need_kit() { command -v rt >/dev/null || no_kit; }
 
+# Whether the library is there and, where the kit is, made of it and of the crates as they are.
+have_library() { # ARCHIVE
+    [ -f "$1" ] || return 1
+    command -v rt >/dev/null || return 0
+    # shellcheck source=tools/kit.sh
+    (. tools/kit.sh && find_kit && made_of_these "$1")
+}
+
 # Runs a command whose words go to standard error, and says every so often that it still runs.
 patiently() { # WHAT COMMAND...
     local what=$1 line began=$SECONDS

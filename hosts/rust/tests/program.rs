@@ -434,6 +434,49 @@ fn wrong_arguments_are_told() {
     }
 }
 
+/// What a clone's script says of flags where nothing is built is what the front end says.
+#[test]
+fn the_script_says_the_same_of_wrong_flags() {
+    let room = Room::new("script");
+    let wrong: [&[&str]; 12] = [
+        &["--nonsense"],
+        &["-x", "a"],
+        &["--judge", "--cut", "a"],
+        &["--svg", "a"],
+        &["--out", "a"],
+        &["--out=a", "--force"],
+        &["--cut", "a", "--status"],
+        &["--cut", "a", "--out", "--judge", "--svg"],
+        &["--make", "--json"],
+        &["--look-up", "a", "b", "--json"],
+        &["--status", "a", "--servers", "b"],
+        &["--version", "--dates"],
+    ];
+    // Nothing is wrong with these, or something that the script leaves to the front end.
+    let others: [&[&str]; 6] = [
+        &[],
+        &["-"],
+        &["--json", "a"],
+        &["--", "--x"],
+        &["--cut", "a", "--out=--x"],
+        &["a", "b", "c"],
+    ];
+    let script = |words: &[&str]| {
+        let mut awk = Command::new("awk");
+        awk.arg("-f").arg(format!("{ROOT}/tools/usage.awk"));
+        awk.arg(format!("{ROOT}/hosts/rust/src/bin/trawl/help.txt")).args(words);
+        Ran::of(awk.output().expect("awk runs"))
+    };
+    for words in wrong {
+        assert_eq!(script(words), room.run(words), "{words:?}");
+        assert_eq!(script(words).status, Some(2), "{words:?}");
+    }
+    for words in others {
+        assert_eq!((script(words).status, &script(words).said[..]), (Some(9), ""), "{words:?}");
+    }
+    assert_eq!([script(&["a", "-h"]).status, script(&["--version"]).status], [Some(7), Some(8)]);
+}
+
 #[test]
 fn help_and_version() {
     let room = Room::new("help");
