@@ -525,14 +525,16 @@ struct tb_placed {
 struct tb_placed tb_path(const uint8_t *leaves, size_t leaves_len, size_t place, uint8_t *out,
                          size_t out_len);
 
-/* How rows were written. */
+/* How rows were written: the depth of the tree, and how many bytes they are. */
 struct tb_laid {
     uint32_t code;
     uint32_t depth;
+    uint64_t length;
 };
 
 /* Writes all rows of a tree, the leaves with every empty place first and the root last: 2^(depth +
- * 1) - 1 nodes of 32 bytes. The codes are 20 and 19. */
+ * 1) - 1 nodes of 32 bytes, of which the root is the 32 bytes at out + length - 32. The codes are 20
+ * and 19. */
 struct tb_laid tb_rows(const uint8_t *leaves, size_t leaves_len, uint8_t *out, size_t out_len);
 
 /* Writes what tb_path writes, out of the rows that tb_rows wrote for count leaves, without a hash.
@@ -551,8 +553,8 @@ struct tb_placed tb_path_from(const uint8_t *rows, size_t rows_len, size_t count
  *      key (draft 19, 5.2). No writer below looks at that. A server with several long-term keys
  *      takes the key that srv names, and ignores what has with_srv 0.
  *   3. For each batch of the others: tb_leaf of each, tb_rows, and the root, which is the last 32
- *      bytes of the rows; tb_write_srep once; sign TB_RESPONSE_CONTEXT and then those bytes with
- *      the delegated key.
+ *      of tb_laid.length bytes; tb_write_srep once; sign TB_RESPONSE_CONTEXT and then those bytes
+ *      with the delegated key.
  *   4. For each request: tb_path_from, and tb_write_response.
  * One signature serves the whole batch, and each response passes tb_check_response for its own
  * request where the client finds both signatures right. */

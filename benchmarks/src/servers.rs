@@ -38,8 +38,7 @@ fn leaves(requests: &[Vec<u8>]) -> Vec<u8> {
 
 /// The rows of the tree, and where they end.
 fn lay(leaves: &[u8], rows: &mut [u8]) -> usize {
-    let depth = trawlbeacon::rows(leaves, rows).expect("there are leaves, and there is room");
-    32 * ((2 << depth) - 1)
+    trawlbeacon::rows(leaves, rows).expect("there are leaves, and there is room").length
 }
 
 fn path(rows: &[u8], leaves: usize, place: usize, out: &mut [u8]) -> usize {

@@ -357,10 +357,12 @@ static void expect_tree(void) {
     struct tb_laid laid = tb_rows(nodes[0], 96, out, 7 * 32 - 1);
     expect_number("code of rows without room", laid.code, 19);
     expect_number("depth of rows without room", laid.depth, 0);
+    expect_number("length of rows without room", laid.length, 0);
     expect_all("a buffer without room for rows", out, 0xee, sizeof out);
     laid = tb_rows(nodes[0], 96, out, sizeof out);
     expect_number("code of rows", laid.code, 0);
     expect_number("depth of rows", laid.depth, 2);
+    expect_number("length of rows", laid.length, sizeof nodes);
     expect_bytes("the rows", out, nodes[0], sizeof nodes);
     expect_all("what follows the rows", out + sizeof nodes, 0xee, 8);
     expect_paths(nodes);
@@ -377,6 +379,7 @@ static void expect_largest_tree(void) {
 
     struct tb_laid laid = tb_rows(leaves, sizeof leaves, rows, sizeof rows);
     expect_number("code of rows of 1,025 leaves", laid.code, 20);
+    expect_number("length of rows of 1,025 leaves", laid.length, 0);
     expect_all("the buffer of refused rows", rows, 0xee, sizeof rows);
     expect_number("code of a root of 1,025 leaves", tb_root(leaves, sizeof leaves).code, 20);
     expect_placed("tb_path of 1,025 leaves", tb_path(leaves, sizeof leaves, 0, path, sizeof path),
@@ -385,6 +388,7 @@ static void expect_largest_tree(void) {
     laid = tb_rows(leaves, sizeof leaves - 32, rows, sizeof rows);
     expect_number("code of rows of 1,024 leaves", laid.code, 0);
     expect_number("depth of rows of 1,024 leaves", laid.depth, 10);
+    expect_number("length of rows of 1,024 leaves", laid.length, TB_MOST_ROWS_LENGTH);
     expect_bytes("the leaves in the rows", rows, leaves, sizeof leaves - 32);
     expect_bytes("a root of 1,024 leaves", tb_root(leaves, sizeof leaves - 32).root, root, 32);
     expect_placed("tb_path of the last of 1,024 leaves",

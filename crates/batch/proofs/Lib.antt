@@ -1,4 +1,5 @@
--- Laws that belong to no one function. What the crate claims of itself stands in Leads, Built, Served and Once.
+-- Laws that belong to no one function. What the crate claims of itself stands in Leads, Built, Served, Sizes
+-- and Once.
 pub mod Leads
 pub mod Depth
 pub mod Leaves
@@ -10,4 +11,5 @@ pub mod AllRows
 pub mod Answers
 pub mod Built
 pub mod Served
+pub mod Sizes
 pub mod Once

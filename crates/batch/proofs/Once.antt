@@ -12,6 +12,8 @@ use Rattle.batch.proofs.build.rows.Kinds as rows-kinds
 use Rattle.batch.proofs.build.rows.Reads as rows-reads
 use Rattle.batch.proofs.build.path_from.Kinds as path-from-kinds
 use Rattle.batch.proofs.build.path_from.Reads as path-from-reads
+use Rattle.batch.proofs.size.rows_length.Kinds as rows-length-kinds
+use Rattle.batch.proofs.size.rows_length.Reads as rows-length-reads
 
 pub root-once : Settles root-kinds.ps root-kinds.r root-reads.Learnt
 root-once κs a x u y v p q = (p ∙ sym q, refl)
@@ -30,3 +32,6 @@ pub path-from-once : Settles path-from-kinds.ps path-from-kinds.r path-from-read
 path-from-once κs a x u y v p q =
     let same = places-once _ _ _ x y (p .0) (q .0) in
     (same, ap (λ (out : List ℕ). (tt, (tt, (tt, (out, tt))))) (cc))
+
+pub rows-length-once : Settles rows-length-kinds.ps rows-length-kinds.r rows-length-reads.Learnt
+rows-length-once κs a x u y v p q = (p ∙ sym q, refl)

@@ -23,6 +23,11 @@ leavesIn s = nodesIn (countOf (length s)) s
 abbrev pub depthIn : List ℕ → ℕ
 depthIn s = depthOf (countOf (length s))
 
+-- how many bytes the rows of a tree take whose leaves have so many bytes: 32 for each of its nodes, and 0 where these
+-- are no leaves
+unfoldable pub rowsLength : ℕ → ℕ
+rowsLength size = cond (eqb (countOf size) 0) 0 (32 * nodesOf (depthOf (countOf size)))
+
 -- of how many leaves so many bytes are the rows, where count is asked for: of count, or of 0 where that is above
 -- `most` or the bytes are too few
 unfoldable pub heldOf : ℕ → ℕ → ℕ

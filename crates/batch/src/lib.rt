@@ -12,6 +12,7 @@ pub use build::path_from;
 pub use build::root;
 pub use build::rows;
 use refusal::Refusal;
+pub use size::rows_length;
 
 // The root of a batch; or a refusal, with zeros for the rest. (An enum cannot hold an array.)
 pub struct Rooted {

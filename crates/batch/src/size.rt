@@ -3,7 +3,7 @@ ghost use mathlib.Core.Path.{_≡_};
 ghost use Prim.Native.Nat.{_*_, _≤_, _<_, _^_};
 ghost use Rattle.tree.specs.Tree.{depthOf};
 ghost use Rattle.batch.specs.AllRows.{nodesOf};
-ghost use Rattle.batch.specs.Leaves.{most, countOf, heldOf};
+ghost use Rattle.batch.specs.Leaves.{most, countOf, rowsLength, heldOf};
 use tree::bit_length;
 
 // The most leaves of a batch: a power of two. The definitions' `most` goes with it.
@@ -44,6 +44,17 @@ pub fn bytes(d: u32) -> usize
     ensures { λ r. ⌜ r ≡ 32 * nodesOf d ⌝ }
 {
     32 * (2 * width(d) - 1)
+}
+
+// How many bytes the rows of a tree take whose leaves have size bytes: 0 where these are no leaves.
+pub fn rows_length(size: usize) -> usize
+    ensures { λ r. ⌜ r ≡ rowsLength size ⌝ }
+{
+    let count = count_of(size);
+    if count == 0 {
+        return 0;
+    }
+    bytes(depth(count))
 }
 
 // Of how many leaves size bytes are the rows, where count is asked for: of count, or of 0 where that is above MOST or

@@ -19,9 +19,9 @@ pub record Places (n place : ℕ) (bytes out : List ℕ) (told : TbPlaced) (afte
   pub same : told ≡ tbPlaced answer
   pub left : afterwards ≡ written (placedNumber answer) bytes out
 
--- the same of all rows of n leaves, where bytes are the rows
+-- the same of all rows of n leaves, where bytes are the rows, whose length is told
 pub record Lays (n : ℕ) (bytes out : List ℕ) (told : TbLaid) (afterwards : List ℕ) : Type 0 where
   pub answer : Laid
   pub right : LaysRows n (length out) answer
-  pub same : told ≡ tbLaid answer
+  pub same : told ≡ tbLaid answer (length bytes)
   pub left : afterwards ≡ written (laidNumber answer) bytes out

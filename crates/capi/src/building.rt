@@ -35,14 +35,15 @@ pub extern "C" fn tb_path(leaves: &[u8], place: usize, out: &mut [u8]) -> TbPlac
     told::path_told(batch::path(leaves, place, out))
 }
 
-// All rows of the tree of a batch, at the front of out.
+// All rows of the tree of a batch, at the front of out. The root is the last 32 bytes of them.
 #[no_mangle]
 pub extern "C" fn tb_rows(leaves: &[u8], out: &mut [u8]) -> TbLaid
     ensures { λ r. ⌜ Lays (countOf (length (now (leaves .entry)))) (rowsBytes (now (leaves .entry))) (now (out .entry))
         r
         (now (out .exit)) ⌝ }
 {
-    told::rows_told(batch::rows(leaves, out))
+    let length = batch::rows_length(leaves.len());
+    told::rows_told(batch::rows(leaves, out), length)
 }
 
 // The path of the leaf at a place of count leaves, read out of the rows of their tree, at the front of out.

@@ -1,4 +1,5 @@
 -- What the builders of trees answer, as structs for C.
+use Prim.Native.Nat.{ℕ}
 use Rattle.batch.specs.Answers.{placedNumber, laidNumber}
 use Rattle.batch.specs.declared.Rooted.{Rooted}
 use Rattle.batch.specs.declared.Placed.{Placed}
@@ -18,8 +19,8 @@ tbPlaced (placed.Written indx depth) = record { code = 0; indx = indx; depth = d
 tbPlaced placed.NoLeaf = record { code = placedNumber placed.NoLeaf; indx = 0; depth = 0 }
 tbPlaced placed.Short = record { code = placedNumber placed.Short; indx = 0; depth = 0 }
 
--- all rows: the depth of the tree
-abbrev pub tbLaid : Laid → TbLaid
-tbLaid (laid.Written depth) = record { code = 0; depth = depth }
-tbLaid laid.NoLeaves = record { code = laidNumber laid.NoLeaves; depth = 0 }
-tbLaid laid.Short = record { code = laidNumber laid.Short; depth = 0 }
+-- all rows: the depth of the tree, and how many bytes were written, of the length that rows have
+abbrev pub tbLaid : Laid → ℕ → TbLaid
+tbLaid (laid.Written depth) length = record { code = 0; depth = depth; length = length }
+tbLaid laid.NoLeaves length = record { code = laidNumber laid.NoLeaves; depth = 0; length = 0 }
+tbLaid laid.Short length = record { code = laidNumber laid.Short; depth = 0; length = 0 }

@@ -45,16 +45,25 @@ pub fn path_told(p: Placed) -> TbPlaced
     }
 }
 
-// The answer of the writer of all rows, as a struct.
-pub fn rows_told(l: Laid) -> TbLaid
-    ensures { λ r. ⌜ r ≡ tbLaid l ⌝ }
+// The answer of the writer of all rows, as a struct, where rows have so many bytes.
+pub fn rows_told(l: Laid, length: usize) -> TbLaid
+    ensures { λ r. ⌜ r ≡ tbLaid l length ⌝ }
 {
     match l {
         Laid::Written { depth } => TbLaid {
             code: 0,
             depth: depth,
+            length: length as u64,
         },
-        Laid::NoLeaves => TbLaid { code: 20, depth: 0 },
-        Laid::Short => TbLaid { code: 19, depth: 0 },
+        Laid::NoLeaves => TbLaid {
+            code: 20,
+            depth: 0,
+            length: 0,
+        },
+        Laid::Short => TbLaid {
+            code: 19,
+            depth: 0,
+            length: 0,
+        },
     }
 }

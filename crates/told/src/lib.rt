@@ -101,6 +101,7 @@ pub struct TbPlaced {
 pub struct TbLaid {
     pub code: u32,
     pub depth: u32,
+    pub length: u64,
 }
 
 // What `tb_find_server` answers: the list, 0 for the owner's and 1 for the shipped, and where the record begins in it.

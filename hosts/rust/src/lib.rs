@@ -100,7 +100,7 @@ pub use signing::{delegation_text, response_text, signed_parts, SignedParts, LON
 pub use stamps::{old_window, OldWindow};
 pub use tally::{pile_contradicts, Tally};
 pub use trees::{
-    leads, path, path_from, root, rows, Placed, Rooted, MOST_LEAVES, MOST_ROWS_LENGTH,
+    leads, path, path_from, root, rows, Laid, Placed, Rooted, MOST_LEAVES, MOST_ROWS_LENGTH,
 };
 pub use verifying::{verify, verify_parts};
 pub use walk::{Asked, Heard, Outcome, Walk, FEWEST_SERVERS, MOST_SERVERS};

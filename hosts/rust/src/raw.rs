@@ -193,6 +193,8 @@ pub struct tb_laid {
     pub code: u32,
     /// How many steps lead from a leaf to the root: 0 on a refusal.
     pub depth: u32,
+    /// How many bytes were written: 0 on a refusal.
+    pub length: u64,
 }
 
 /// What [`tb_find_server`] answers.

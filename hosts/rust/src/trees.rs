@@ -3,7 +3,8 @@
 //!
 //! Leaves, siblings and rows are bytes here, one hash of 32 bytes after the other.
 
-// A depth is at most 10, so nothing is lost where it becomes a usize.
+// A depth is at most 10, and a length at most that of `out`, so nothing is lost where they become a
+// usize.
 
 use crate::{raw, Hash, Refusal};
 
@@ -29,6 +30,15 @@ pub struct Placed {
     pub indx: u32,
     /// How many siblings of 32 bytes were written.
     pub depth: usize,
+}
+
+/// What was written of a tree.
+#[derive(Clone, Copy, Debug, PartialEq, Eq)]
+pub struct Laid {
+    /// How many steps lead from a leaf to the root.
+    pub depth: usize,
+    /// How many bytes the rows are. The last 32 of them are the root.
+    pub length: usize,
 }
 
 /// Whether the siblings at `path` lead from `leaf` to `root`, and `indx` needs no more bits than
@@ -58,15 +68,25 @@ pub fn path(leaves: &[u8], place: usize, out: &mut [u8]) -> Result<Placed, Refus
     placed(unsafe { raw::tb_path(from, leaves.len(), place, to, out.len()) })
 }
 
-/// Writes all rows of the tree of `leaves` at the front of `out` and tells its depth: the leaves
-/// first, with every empty place filled, and the root last. What follows them stays. The refusals
-/// are 20 and then 19, and then all of `out` stays.
-pub fn rows(leaves: &[u8], out: &mut [u8]) -> Result<usize, Refusal> {
+/// Writes all rows of the tree of `leaves` at the front of `out` and tells its depth and how many
+/// bytes they are: the leaves first, with every empty place filled, and the root last. What follows
+/// them stays. The refusals are 20 and then 19, and then all of `out` stays.
+///
+/// ```
+/// let leaves: Vec<u8> = (1..=3).flat_map(|leaf| [leaf; 32]).collect();
+/// let mut out = [0; trawlbeacon::MOST_ROWS_LENGTH];
+/// let laid = trawlbeacon::rows(&leaves, &mut out)?;
+/// // Four places, the two nodes above them, and the root.
+/// assert_eq!((laid.depth, laid.length), (2, 7 * 32));
+/// assert_eq!(out[laid.length - 32..laid.length], trawlbeacon::root(&leaves)?.root);
+/// # Ok::<(), trawlbeacon::Refusal>(())
+/// ```
+pub fn rows(leaves: &[u8], out: &mut [u8]) -> Result<Laid, Refusal> {
     let (from, to) = (leaves.as_ptr(), out.as_mut_ptr());
     // SAFETY: see raw.
     let laid = unsafe { raw::tb_rows(from, leaves.len(), to, out.len()) };
     Refusal::check(laid.code)?;
-    Ok(laid.depth as usize)
+    Ok(Laid { depth: laid.depth as usize, length: laid.length as usize })
 }
 
 /// What [`path`] does, without a hash: the siblings are read out of the rows that [`rows`] wrote

@@ -14,7 +14,9 @@ use support::packets::number;
 use support::pairs::Question;
 use support::tally::Tally;
 use support::{counted, Xorshift};
-use trawlbeacon::{Checked, Placed, Rooted, Window, MOST_LEAVES, MOST_ROWS_LENGTH, REQUEST_LENGTH};
+use trawlbeacon::{
+    Checked, Laid, Placed, Rooted, Window, MOST_LEAVES, MOST_ROWS_LENGTH, REQUEST_LENGTH,
+};
 
 const SENT: &str = "as sent";
 const TURNED: &str = "INDX bit turned";
@@ -147,8 +149,9 @@ impl Comparison {
         let (depth, root) = (sent[0].path.len(), sent[0].root);
         assert_eq!(trawlbeacon::root(&leaves), Ok(Rooted { depth, root }));
         let mut rows = [0; MOST_ROWS_LENGTH];
-        assert_eq!(trawlbeacon::rows(&leaves, &mut rows), Ok(depth));
-        let rows = &rows[..32 * ((2 << depth) - 1)];
+        let length = 32 * ((2 << depth) - 1);
+        assert_eq!(trawlbeacon::rows(&leaves, &mut rows), Ok(Laid { depth, length }));
+        let rows = &rows[..length];
         assert_eq!(rows[rows.len() - 32..], root, "{} leaves", sent.len());
         for (place, Sent { indx, path, root: same, .. }) in sent.iter().enumerate() {
             let (mut out, mut out_too) = (vec![0; 32 * depth], vec![0; 32 * depth]);

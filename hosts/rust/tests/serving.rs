@@ -14,8 +14,8 @@ use support::replies::{Call, Fault, Frame, CERT_FRAMES, DELE_FRAMES, FAULTS};
 use support::tally::Tally;
 use support::{counted, hex, Xorshift};
 use trawlbeacon::{
-    Checked, Placed, Reply, Window, CERT_LENGTH, DELEGATION_CONTEXT, DELE_LENGTH, MOST_LEAVES,
-    MOST_ROWS_LENGTH, REQUEST_LENGTH, RESPONSE_CONTEXT, SREP_LENGTH,
+    Checked, Laid, Placed, Reply, Window, CERT_LENGTH, DELEGATION_CONTEXT, DELE_LENGTH,
+    MOST_LEAVES, MOST_ROWS_LENGTH, REQUEST_LENGTH, RESPONSE_CONTEXT, SREP_LENGTH,
 };
 
 const RIGHT: &str = "right calls";
@@ -225,8 +225,8 @@ fn every_request_of_a_batch_is_answered() {
         let leaves: Vec<u8> =
             requests.iter().flat_map(|packet| trawlbeacon::leaf(packet)).collect();
         let mut rows = [0; MOST_ROWS_LENGTH];
-        let depth = trawlbeacon::rows(&leaves, &mut rows).unwrap();
-        let rows = &rows[..32 * ((2 << depth) - 1)];
+        let Laid { depth, length } = trawlbeacon::rows(&leaves, &mut rows).unwrap();
+        let rows = &rows[..length];
         let root: [u8; 32] = rows[rows.len() - 32..].try_into().unwrap();
         let (pubk, midp, radi) = (random.array(), number(&mut random), 5);
         let [signature, delegation]: [[u8; 64]; 2] =

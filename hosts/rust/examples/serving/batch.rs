@@ -2,7 +2,7 @@
 
 use super::delegation::{Delegated, Sign};
 use trawlbeacon::{
-    Hash, PacketRefusal, Refusal, Reply, LONGEST_PACKET, MOST_LEAVES, MOST_ROWS_LENGTH,
+    Hash, Laid, PacketRefusal, Refusal, Reply, LONGEST_PACKET, MOST_LEAVES, MOST_ROWS_LENGTH,
     RESPONSE_CONTEXT, SREP_LENGTH,
 };
 
@@ -31,10 +31,10 @@ impl<'a, S: Sign> Batch<'a, S> {
     ) -> Result<Batch<'a, S>, Refusal> {
         let leaves: Vec<u8> = requests.flat_map(trawlbeacon::leaf).collect();
         let mut rows = vec![0; MOST_ROWS_LENGTH];
-        let depth = trawlbeacon::rows(&leaves, &mut rows)?;
-        // A tree of this depth has so many nodes, and the root is the last.
-        rows.truncate(32 * ((2 << depth) - 1));
-        let root = rows[rows.len() - 32..].try_into().expect("a node has 32 bytes");
+        let Laid { depth, length } = trawlbeacon::rows(&leaves, &mut rows)?;
+        rows.truncate(length);
+        // The root is the last node.
+        let root = rows[length - 32..].try_into().expect("a node has 32 bytes");
         let mut srep = [0; SREP_LENGTH];
         trawlbeacon::write_srep(&root, midp, RADI, &mut srep)?;
         let signature = delegated.signer.sign(RESPONSE_CONTEXT, &srep);

@@ -110,9 +110,8 @@ impl From<raw::tb_placed> for Answer {
 
 impl From<raw::tb_laid> for Answer {
     fn from(told: raw::tb_laid) -> Self {
-        let nodes = |depth: u32| (2usize << depth.min(10)) - 1;
-        let answer = Answer::code(told.code).numbers(&[told.depth.into()]);
-        answer.wrote(0..32 * nodes(told.depth))
+        let answer = Answer::code(told.code).numbers(&[told.depth.into(), told.length]);
+        answer.wrote(0..told.length as usize)
     }
 }
 

@@ -6,7 +6,7 @@ use independent::hash::{self, Hash};
 use independent::refusal::Refusal;
 use independent::tree::{self, Tree};
 use independent::write;
-use trawlbeacon::{raw, Placed, Rooted};
+use trawlbeacon::{raw, Laid, Placed, Rooted};
 
 impl Said for Rooted {
     fn say(&self) -> String {
@@ -20,13 +20,9 @@ impl Said for Placed {
     }
 }
 
-/// The depth of a tree whose rows were written.
-#[derive(PartialEq)]
-pub struct Depth(pub usize);
-
-impl Said for Depth {
+impl Said for Laid {
     fn say(&self) -> String {
-        format!("depth {}", self.0)
+        format!("depth {}, {} bytes", self.depth, self.length)
     }
 }
 
@@ -116,15 +112,15 @@ pub fn path_from(rows: &[u8], count: usize, place: usize, buffer: &[u8]) -> Both
     )
 }
 
-pub fn rows(leaves: &[u8], buffer: &[u8]) -> Both<Written<Depth>> {
+pub fn rows(leaves: &[u8], buffer: &[u8]) -> Both<Written<Laid>> {
     answers::write_both(
         buffer,
         None,
-        |out| trawlbeacon::rows(leaves, out).map(Depth),
+        |out| trawlbeacon::rows(leaves, out),
         |out| {
             let tree = Tree::build(leaves)?;
-            write::put(&tree.bytes(), out)?;
-            Ok(Depth(tree.depth()))
+            let length = write::put(&tree.bytes(), out)?;
+            Ok(Laid { depth: tree.depth(), length })
         },
     )
 }
@@ -147,6 +143,7 @@ pub fn unseen_fields(bytes: &[u8], count: usize, place: usize) -> Option<String>
         let root_is_zero = rooted.root == [0; 32];
         let right = fits(rooted.code, 0, rooted.depth)
             && fits(laid.code, 0, laid.depth)
+            && laid.length == if laid.code == 0 { 32 * ((2 << laid.depth) - 1) } else { 0 }
             && placed.iter().all(|placed| fits(placed.code, placed.indx, placed.depth))
             && (rooted.code == 0 || root_is_zero);
         if !right {

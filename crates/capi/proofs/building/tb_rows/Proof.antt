@@ -1,4 +1,8 @@
 -- `capi::building::tb_rows` meets its contract.
+use mathlib.Core.Path.{ap, _∙_}
+use lib.ListN.{length}
+use Rattle.told.specs.Building.{tbLaid}
+use Rattle.capi.proofs.Rows.{told-length}
 use borrow.Author.Needs.{needs}
 use Rattle.capi.proofs.building.tb_rows.Statement.{statement}
 use Rattle.capi.proofs.building.tb_rows.Tie as tie
@@ -6,10 +10,15 @@ use Rattle.capi.proofs.building.tb_rows.Tie as tie
 returns : tie.Need-returns
 returns c =
     let called = c .before .before .before .rows in
+    let size = c .before .before .before .before .before .rows-length in
+    let a = c .before .before .before .before .before .before .before .before .args in
     record {
       answer = called .result;
       right = called .ensures .0;
-      same = c .rows-told .ensures;
+      same =
+          c .rows-told .ensures
+          ∙ ap (tbLaid (called .result)) (size .ensures)
+          ∙ told-length (a .leaves .now) (length (a .out .now)) (called .result) (called .ensures .0);
       left = called .ensures .1;
     }
 
@@ -17,6 +26,7 @@ pub tb-rows-spec : {M : Type 1} → statement M
 tb-rows-spec =
     tie.close
     (tie.spec
+    (λ c κs. search needs)
     (λ c κs. search needs)
     (λ c κs. search needs)
     (λ c. search needs)
