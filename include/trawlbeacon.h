@@ -253,9 +253,10 @@ static inline const char *tb_code_text(uint32_t code) {
 /* Bytes of a record of a list of servers. */
 #define TB_SERVER_LENGTH 64
 
-/* Bytes of a record of a pile, and the most records of a pile. */
+/* Bytes of a record of a pile, the most records of a pile, and bytes of the largest one. */
 #define TB_RECORD_LENGTH 4096
 #define TB_MOST_RECORDS 16
+#define TB_MOST_PILE_LENGTH (TB_MOST_RECORDS * TB_RECORD_LENGTH)
 
 /* ---- Hashes ---- */
 
@@ -469,23 +470,25 @@ void tb_answers(const uint8_t key[32], const uint8_t *response, size_t response_
 struct tb_verdict tb_check_signed(const uint8_t key[32], const uint8_t *request, size_t request_len,
                                   const uint8_t *response, size_t response_len);
 
-/* Whether the window of an answer that was kept may still be used at a time: code is 0, and the
- * time is not past maxt. maxt itself is the last second that counts. That the time is not before
- * mint is not asked: low may be before it too. code and maxt are those of a tb_verdict or a
- * tb_judged; of a refused one the answer is no at every time. */
-bool tb_may_use(uint32_t code, uint64_t maxt, uint64_t time);
-
-/* What the function below calls, with the fields of two answers one by one: call that instead. */
+/* What the two functions below call, with the fields of answers one by one: call those instead. */
+bool tb_may_use_fields(uint32_t code, uint64_t maxt, uint64_t time);
 bool tb_same_delegation_fields(uint32_t first_code, const uint8_t first_pubk[32],
                                uint64_t first_mint, uint64_t first_maxt, uint32_t second_code,
                                const uint8_t second_pubk[32], uint64_t second_mint,
                                uint64_t second_maxt);
 
+/* Whether the window of an answer that was kept may still be used at a time: its code is 0, and the
+ * time is not past its maxt. maxt itself is the last second that counts. That the time is not
+ * before mint is not asked: low may be before it too. Of a refused answer it is no at every time.
+ * tb_verdict_of takes what was said of a record of a pile. */
+static inline bool tb_may_use(struct tb_verdict kept, uint64_t time) {
+    return tb_may_use_fields(kept.code, kept.maxt, time);
+}
+
 /* Whether two answers come from one delegation: both codes are 0, and pubk, mint and maxt, which is
  * all that DELE holds (draft 19, 5.2.6), are equal. Refused answers have equal fields, zeros, and
  * come from none. Which long-term key signed a DELE does not stand in an answer: that both were
- * checked under one is the caller's to compare, too. tb_verdict_of takes what was said of a record
- * of a pile. */
+ * checked under one is the caller's to compare, too. */
 static inline bool tb_same_delegation(struct tb_verdict first, struct tb_verdict second) {
     return tb_same_delegation_fields(first.code, first.pubk, first.mint, first.maxt, second.code,
                                      second.pubk, second.mint, second.maxt);
@@ -693,14 +696,15 @@ bool tb_first_rand_zero(const uint8_t *pile, size_t pile_len);
 
 /* Whether what a server said earlier contradicts what was said later: earlier_midp - earlier_radi
  * is above later_midp + later_radi, in whole numbers that neither wrap nor stop. mint, maxt and the
- * keys play no part. */
+ * keys play no part. It is true for yes; tb_pile_contradicts, below, says 0 for it. */
 bool tb_contradicts(uint64_t earlier_midp, uint32_t earlier_radi, uint64_t later_midp,
                     uint32_t later_radi);
 
-/* 0 where some two valid records of a pile contradict each other, the earlier the later; 15 where
- * the pile or its answers are not what they must be; 18 where no two do. It goes through the
- * records once. Links and rands play no part, nor do bad records between the two: 0 does not say
- * that a run convicts by itself. */
+/* Whether some two valid records of a pile contradict each other, the earlier the later, as a code
+ * and not as a bool, since a pile can be refused: 0, TB_PASSED, says yes, where tb_contradicts says
+ * true. 18 says that no two do, and 15 that the pile or its answers are not what they must be. It
+ * goes through the records once. Links and rands play no part, nor do bad records between the two:
+ * 0 does not say that a run convicts by itself. */
 uint32_t tb_pile_contradicts(const uint8_t *pile, size_t pile_len, const uint8_t *answers,
                              size_t answers_len);
 
@@ -795,7 +799,7 @@ struct tb_records {
  *       padding left out, spare bits that are not zero and line breaks too); or a key or a rand is
  *       not 32 bytes. It is judged for every entry before 25 is, past the 16th too.
  *   25: there is no entry or more than 16, or a packet has more than 2,000 bytes.
- *   19: out has fewer than TB_RECORD_LENGTH bytes a record.
+ *   19: out has fewer than TB_RECORD_LENGTH bytes a record; TB_MOST_PILE_LENGTH is always enough.
  * Names are compared, and base64 is read, after unescaping. Members that are not named here are
  * passed over, repeated or not; so is a rand in the first entry, whose record has zeros for it. A
  * packet may have no bytes. */
@@ -865,7 +869,7 @@ struct tb_forwarded tb_cut_signed_text(const uint8_t *text, size_t text_len, uin
  *
  * The pile stands at the front of a buffer of the caller's, of two records a server, which is lent
  * at each call and must not be altered between calls: one whole record for each response that is
- * taken, so that with 8 servers it is TB_MOST_RECORDS records. The rest of the buffer stays. Once
+ * taken, so that with 8 servers it is TB_MOST_PILE_LENGTH bytes. The rest of the buffer stays. Once
  * the walk has ended, with every answer yes, tb_check_report says of that pile what the walk said,
  * and tb_cut_run finds a run in it exactly where the walk said malfeasance.
  *
@@ -903,7 +907,13 @@ struct tb_asked {
 /* How the walk stands once a response is taken: it goes on; or it has ended, and the servers'
  * answers are consistent, or some two contradict each other; or the pile is not what it wrote,
  * since the buffer was altered, and then nothing is said of the servers. Where a response is
- * refused, also since the walk has ended, nothing is said of the walk. */
+ * refused, also since the walk has ended, nothing is said of the walk.
+ * TB_PILE_ALTERED is said where a record is no longer valid, with every answer yes, or no longer
+ * linked, or the first rand is not zero. So it notices what was altered of a rand, a length, a zero,
+ * a request, from which its response's path starts, and a response, to which the next record is
+ * linked: any byte of the pile but those of the keys, as far as no two texts have one hash. It does
+ * not notice a byte of a key, which no check reads but with a signature: of such a record
+ * tb_check_signed_report says 12. */
 enum tb_outcome {
     TB_NOTHING_SAID = 0,
     TB_GOES_ON = 1,

@@ -10,7 +10,7 @@ use crate::table::{count, microseconds, Table};
 use independent::making::Made;
 use independent::{lengthy, report_text};
 use std::hint::black_box;
-use trawlbeacon::{LONGEST_REPORT, MOST_RECORDS, RECORD_LENGTH};
+use trawlbeacon::{LONGEST_REPORT, MOST_PILE_LENGTH, MOST_RECORDS};
 
 /// A full pile, which is a report, and its text.
 pub struct Report {
@@ -59,7 +59,7 @@ impl Report {
 
 /// Reading, by both sides, into a buffer that is long enough for any report.
 pub fn read(text: &[u8]) -> [Work<'_>; 2] {
-    let room = vec![0; MOST_RECORDS * RECORD_LENGTH];
+    let room = vec![0; MOST_PILE_LENGTH];
     let (mut out, mut there) = (room.clone(), room);
     [
         work(move || trawlbeacon::read_report(black_box(text), &mut out)),

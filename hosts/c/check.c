@@ -757,26 +757,29 @@ static void expect_delegation(struct tb_verdict is) {
  * refused answer, with the same key and MAXT in its place, is never used and comes from none. */
 static void expect_reuse(const uint8_t *pile) {
     for (size_t k = 0; k < RECORDS; k++) {
-        struct tb_judged is = tb_judge(pile, PILE_LENGTH, YES, 2 * RECORDS, k);
-        expect_number("tb_may_use at 0", tb_may_use(is.code, is.maxt, 0), 1);
-        expect_number("tb_may_use at MAXT", tb_may_use(is.code, is.maxt, is.maxt), 1);
-        expect_number("tb_may_use at the last second of all",
-                      tb_may_use(is.code, is.maxt, UINT64_MAX), is.maxt == UINT64_MAX);
+        struct tb_verdict is =
+            tb_verdict_of(tb_judge(pile, PILE_LENGTH, YES, 2 * RECORDS, k));
+        struct tb_verdict refused = is;
+        refused.code = 13;
+        expect_verdict("tb_verdict_of", is, TIMES[k]);
+        expect_number("tb_may_use at 0", tb_may_use(is, 0), 1);
+        expect_number("tb_may_use at MAXT", tb_may_use(is, is.maxt), 1);
+        expect_number("tb_may_use at the last second of all", tb_may_use(is, UINT64_MAX),
+                      is.maxt == UINT64_MAX);
         if (is.maxt < UINT64_MAX)
-            expect_number("tb_may_use past MAXT", tb_may_use(is.code, is.maxt, is.maxt + 1), 0);
-        expect_number("tb_may_use of a refused answer", tb_may_use(13, is.maxt, 0), 0);
-        expect_verdict("tb_verdict_of", tb_verdict_of(is), TIMES[k]);
-        expect_delegation(tb_verdict_of(is));
+            expect_number("tb_may_use past MAXT", tb_may_use(is, is.maxt + 1), 0);
+        expect_number("tb_may_use of a refused answer", tb_may_use(refused, 0), 0);
+        expect_delegation(is);
         for (size_t i = 0; i < RECORDS; i++) {
             struct tb_judged other = tb_judge(pile, PILE_LENGTH, YES, 2 * RECORDS, i);
-            expect_number("tb_same_delegation",
-                          tb_same_delegation(tb_verdict_of(is), tb_verdict_of(other)), i == k);
+            expect_number("tb_same_delegation", tb_same_delegation(is, tb_verdict_of(other)),
+                          i == k);
         }
     }
-    struct tb_judged none = tb_judge(pile, PILE_LENGTH, YES, 2 * RECORDS, RECORDS);
-    struct tb_verdict refused = tb_verdict_of(none);
-    expect_number("tb_may_use of no record", tb_may_use(refused.code, refused.maxt, 0), 0);
-    expect_number("tb_same_delegation of no record", tb_same_delegation(refused, refused), 0);
+    struct tb_verdict none =
+        tb_verdict_of(tb_judge(pile, PILE_LENGTH, YES, 2 * RECORDS, RECORDS));
+    expect_number("tb_may_use of no record", tb_may_use(none, 0), 0);
+    expect_number("tb_same_delegation of no record", tb_same_delegation(none, none), 0);
 }
 
 /* Windows of document 01's examples 1 to 7, in the order in which they were told, and whether some
@@ -1081,7 +1084,7 @@ static void expect_reports(uint8_t *pile) {
 }
 
 /* A buffer for the pile of the longest walk, and what it should hold. */
-enum { WALK_ROOM = TB_MOST_RECORDS * TB_RECORD_LENGTH, LONGEST = 5 };
+enum { WALK_ROOM = TB_MOST_PILE_LENGTH, LONGEST = 5 };
 static uint8_t walk_pile[WALK_ROOM + 8], walk_should[WALK_ROOM + 8];
 
 /* What servers of a walk tell where they agree. */

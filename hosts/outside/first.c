@@ -61,7 +61,7 @@ static int refused(uint32_t code) {
 }
 
 int main(int argc, char **argv) {
-    static uint8_t pile[TB_MOST_RECORDS * TB_RECORD_LENGTH];
+    static uint8_t pile[TB_MOST_PILE_LENGTH];
     if (argc != 2) {
         fprintf(stderr, "usage: first REPORT\n");
         return 2;

@@ -7,7 +7,7 @@
 //!     cargo run malfeasance-report.json
 
 use std::error::Error;
-use trawlbeacon::{check_signed, read_report, Window, MOST_RECORDS, RECORD_LENGTH};
+use trawlbeacon::{check_signed, read_report, Window, MOST_PILE_LENGTH};
 
 /// The packet of a record that stands at a place, with its length at another.
 fn packet(record: &[u8], at: usize, length: usize) -> &[u8] {
@@ -16,7 +16,7 @@ fn packet(record: &[u8], at: usize, length: usize) -> &[u8] {
 }
 
 fn window(text: &[u8]) -> Result<Window, Box<dyn Error>> {
-    let mut pile = vec![0; MOST_RECORDS * RECORD_LENGTH];
+    let mut pile = vec![0; MOST_PILE_LENGTH];
     read_report(text, &mut pile)?;
     let key = pile[..32].try_into()?;
     Ok(check_signed(&key, packet(&pile, 96, 64), packet(&pile, 2096, 68))?.window)

@@ -65,8 +65,8 @@ use Rattle.capi.proofs.building.tb_path_from.Kinds as tb-path-from-kind
 use Rattle.capi.proofs.building.tb_path_from.Reads as tb-path-from-reads
 use Rattle.capi.proofs.judging.tb_check_response.Kinds as tb-check-response-kinds
 use Rattle.capi.proofs.judging.tb_check_response.Reads as tb-check-response-reads
-use Rattle.capi.proofs.reusing.tb_may_use.Kinds as tb-may-use-kinds
-use Rattle.capi.proofs.reusing.tb_may_use.Reads as tb-may-use-reads
+use Rattle.capi.proofs.reusing.tb_may_use_fields.Kinds as tb-may-use-fields-kinds
+use Rattle.capi.proofs.reusing.tb_may_use_fields.Reads as tb-may-use-fields-reads
 use Rattle.capi.proofs.reusing.tb_same_delegation_fields.Kinds as tb-same-delegation-fields-kinds
 use Rattle.capi.proofs.reusing.tb_same_delegation_fields.Reads as tb-same-delegation-fields-reads
 use Rattle.capi.proofs.finding.tb_find_server.Kinds as tb-find-server-kinds
@@ -206,8 +206,8 @@ tb-path-from-once κs a x u y v p q =
 pub tb-check-response-once : Settles tb-check-response-kinds.ps tb-check-response-kinds.r tb-check-response-reads.Learnt
 tb-check-response-once κs a x u y v p q = (p ∙ sym q, refl)
 
-pub tb-may-use-once : Settles tb-may-use-kinds.ps tb-may-use-kinds.r tb-may-use-reads.Learnt
-tb-may-use-once κs a x u y v p q = (p ∙ sym q, refl)
+pub tb-may-use-fields-once : Settles tb-may-use-fields-kinds.ps tb-may-use-fields-kinds.r tb-may-use-fields-reads.Learnt
+tb-may-use-fields-once κs a x u y v p q = (p ∙ sym q, refl)
 
 pub tb-same-delegation-fields-once :
     Settles tb-same-delegation-fields-kinds.ps tb-same-delegation-fields-kinds.r tb-same-delegation-fields-reads.Learnt

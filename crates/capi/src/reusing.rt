@@ -7,7 +7,7 @@ use reuse::Delegation;
 
 // Whether the window of an answer may still be used at a time.
 #[no_mangle]
-pub extern "C" fn tb_may_use(code: u32, maxt: u64, time: u64) -> bool
+pub extern "C" fn tb_may_use_fields(code: u32, maxt: u64, time: u64) -> bool
     ensures { λ r. ⌜ r ≡ mayUse code maxt time ⌝ }
 {
     reuse::may_use(code, maxt, time)

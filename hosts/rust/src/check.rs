@@ -84,7 +84,7 @@ pub(crate) fn of_judged(judged: raw::tb_judged) -> Result<Checked, PacketRefusal
 pub fn may_use(window: &Window, time: u64) -> bool {
     // A window is that of an answer with code 0.
     // SAFETY: no pointer is passed.
-    unsafe { raw::tb_may_use(0, window.maxt, time) }
+    unsafe { raw::tb_may_use_fields(0, window.maxt, time) }
 }
 
 /// Whether two valid answers come from one delegation: PUBK, MINT and MAXT, which is all that DELE

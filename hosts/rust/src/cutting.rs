@@ -3,7 +3,7 @@
 use alloc::vec;
 use alloc::vec::Vec;
 
-use crate::{cut_run, cut_signed_run, Refusal, Run, MOST_RECORDS, RECORD_LENGTH};
+use crate::{cut_run, cut_signed_run, Refusal, Run, MOST_PILE_LENGTH, RECORD_LENGTH};
 
 /// A run of records with its bytes.
 #[derive(Clone, Debug, PartialEq, Eq)]
@@ -39,7 +39,7 @@ fn own_cut(
     pile: &[u8],
     cut: impl FnOnce(&mut [u8]) -> Result<Run, Refusal>,
 ) -> Result<Cut, Refusal> {
-    let mut bytes = vec![0; pile.len().min(MOST_RECORDS * RECORD_LENGTH)];
+    let mut bytes = vec![0; pile.len().min(MOST_PILE_LENGTH)];
     let run = cut(&mut bytes)?;
     bytes.truncate(run.records() * RECORD_LENGTH);
     Ok(Cut { run, bytes })

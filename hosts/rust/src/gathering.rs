@@ -4,18 +4,19 @@
 use alloc::vec::Vec;
 
 use crate::{cutting, piles, signed, Checked, Cut, PacketRefusal, Pair, Record, Refusal};
-use crate::{ReportRefusal, MOST_RECORDS, RECORD_LENGTH};
+use crate::{ReportRefusal, MOST_PILE_LENGTH, RECORD_LENGTH};
 
 /// Puts a record behind those of a pile. The only refusal is 15, where the pile is full.
 fn put(bytes: &mut Vec<u8>, record: &Record) -> Result<(), Refusal> {
-    if bytes.len() == MOST_RECORDS * RECORD_LENGTH {
+    if bytes.len() == MOST_PILE_LENGTH {
         return Err(Refusal::Pile);
     }
     bytes.extend(record.bytes());
     Ok(())
 }
 
-/// A pile in the making: up to [`MOST_RECORDS`] records, which are judged by their own signatures.
+/// A pile in the making: up to [`MOST_RECORDS`](crate::MOST_RECORDS) records, which are judged by
+/// their own signatures.
 ///
 /// ```
 /// use trawlbeacon::{Record, SignedPile};
@@ -82,8 +83,8 @@ impl SignedPile {
     }
 }
 
-/// A pile in the making, for a host that verifies signatures itself: up to [`MOST_RECORDS`] records,
-/// each with the two answers about its signatures.
+/// A pile in the making, for a host that verifies signatures itself: up to
+/// [`MOST_RECORDS`](crate::MOST_RECORDS) records, each with the two answers about its signatures.
 ///
 /// ```
 /// use trawlbeacon::{Pile, Record, Refusal};

@@ -80,7 +80,7 @@ pub use packets::{
 pub use pieces::Sha512;
 pub use piles::{
     check_report, contradicts, cut_run, first_rand_zero, judge, linked, pile_code, Pair,
-    ReportRefusal, Run, MOST_RECORDS, RECORD_LENGTH,
+    ReportRefusal, Run, MOST_PILE_LENGTH, MOST_RECORDS, RECORD_LENGTH,
 };
 pub use record::Record;
 pub use refusal::{PacketRefusal, Refusal};

@@ -32,6 +32,9 @@ pub const RECORD_LENGTH: usize = 4096;
 /// says. Each is 1 for yes or 0 for no, and no other byte.
 pub const MOST_RECORDS: usize = 16;
 
+/// Bytes of the largest pile.
+pub const MOST_PILE_LENGTH: usize = MOST_RECORDS * RECORD_LENGTH;
+
 /// The two records of a report that contradict each other, by their places.
 #[derive(Clone, Copy, Debug, PartialEq, Eq)]
 pub struct Pair {

@@ -516,7 +516,7 @@ extern "C" {
         response_len: usize,
     ) -> tb_verdict;
     /// Whether the window of an answer may still be used at a time.
-    pub fn tb_may_use(code: u32, maxt: u64, time: u64) -> bool;
+    pub fn tb_may_use_fields(code: u32, maxt: u64, time: u64) -> bool;
     /// Whether two answers come from one delegation: PUBK, MINT and MAXT are compared, and the
     /// long-term keys are the caller's to compare.
     pub fn tb_same_delegation_fields(
@@ -588,14 +588,15 @@ extern "C" {
     pub fn tb_linked(pile: *const u8, pile_len: usize, place: usize) -> bool;
     /// Whether the first rand of a pile is all zero.
     pub fn tb_first_rand_zero(pile: *const u8, pile_len: usize) -> bool;
-    /// Whether two windows contradict each other.
+    /// Whether two windows contradict each other: true is yes.
     pub fn tb_contradicts(
         earlier_midp: u64,
         earlier_radi: u32,
         later_midp: u64,
         later_radi: u32,
     ) -> bool;
-    /// Whether two valid records of a pile contradict each other: 0, 15 or 18.
+    /// Whether two valid records of a pile contradict each other: 0 is yes, 18 no, and 15 says that
+    /// it is no pile.
     pub fn tb_pile_contradicts(
         pile: *const u8,
         pile_len: usize,

@@ -11,7 +11,8 @@ use crate::{Hash, PacketRefusal, Pair, Refusal, RECORD_LENGTH, REQUEST_LENGTH};
 /// The fewest servers of a walk.
 pub const FEWEST_SERVERS: usize = 3;
 
-/// The most servers of a walk. Its pile then has [`MOST_RECORDS`](crate::MOST_RECORDS) records.
+/// The most servers of a walk. Its pile then has [`MOST_RECORDS`](crate::MOST_RECORDS) records,
+/// [`MOST_PILE_LENGTH`](crate::MOST_PILE_LENGTH) bytes.
 pub const MOST_SERVERS: usize = 8;
 
 /// Whom to ask next, and what to send.
@@ -103,7 +104,7 @@ pub struct Walk<Buffer = Own> {
 #[cfg(feature = "alloc")]
 type Own = Vec<u8>;
 #[cfg(not(feature = "alloc"))]
-type Own = [u8; crate::MOST_RECORDS * RECORD_LENGTH];
+type Own = [u8; crate::MOST_PILE_LENGTH];
 
 #[cfg(feature = "alloc")]
 impl Walk {

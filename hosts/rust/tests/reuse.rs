@@ -111,7 +111,7 @@ fn any(random: &mut Xorshift, delegations: &[Dele]) -> Kept {
 /// Whether the window may be used, as our two forms and the independent one say it.
 fn usable(kept: &Kept, time: u64) -> bool {
     // SAFETY: no pointer is passed.
-    let ours = unsafe { raw::tb_may_use(kept.told.code, kept.told.dele.maxt, time) };
+    let ours = unsafe { raw::tb_may_use_fields(kept.told.code, kept.told.dele.maxt, time) };
     let due = kept.due.map_or(false, |checked| time <= checked.window.maxt);
     assert_eq!(ours, due, "{:?} at {time}", kept.told);
     assert_eq!(ours, check::usable(&kept.independent, time), "{:?} at {time}", kept.told);
@@ -213,7 +213,7 @@ fn a_refused_answer_is_never_used() {
         let dele = Dele { pubk: [7; 32], mint: 0, maxt: u64::MAX };
         let [valid, refused] = [0, code].map(|code| Told { code, dele });
         // SAFETY: no pointer is passed.
-        assert!(!unsafe { raw::tb_may_use(code, u64::MAX, 0) }, "code {code}");
+        assert!(!unsafe { raw::tb_may_use_fields(code, u64::MAX, 0) }, "code {code}");
         for (first, second) in [(refused, valid), (valid, refused), (refused, refused)] {
             assert!(!asked(&first, &second), "code {code}");
         }

@@ -22,6 +22,7 @@ use trawlbeacon::{Answers, Outcome, Pair, Walk};
 
 const WALKS: usize = 300;
 const MADE_UP: usize = 3_000;
+const ALTERED: usize = 40;
 
 /// Servers to walk over, one more than a walk may have.
 const SERVERS: usize = 9;
@@ -363,6 +364,26 @@ fn made_up_states_do_no_harm_to_a_taker_that_verifies() {
     println!("{}", seen.tally.table("code"));
     seen.tally.no_difference();
     seen.tally.at_least(20, TAKES, [0, 9, 10, 11, 12, 13, 19, 26, 27, 28]);
+}
+
+/// A byte of a key that is altered while a walk goes on is not noticed by it, since it reads no key
+/// of its pile. The check by signatures names the record, with 12.
+#[test]
+fn an_altered_key_is_seen_by_the_signatures_alone() {
+    let mut seen = Comparison::new(0x5eed_1014);
+    for _ in 0..ALTERED {
+        let mut pace = seen.start();
+        let story = walks::story(&mut seen.random, 2 * pace.places.len());
+        let last = story.windows.len() - 1;
+        (0..last).for_each(|_| seen.accepted(&mut pace, &story));
+        let place = seen.random.below(last);
+        pace.pile[RECORD * place + seen.random.below(32)] ^= 1 << seen.random.below(8);
+        // It must say what is due of the pile as it was.
+        seen.accepted(&mut pace, &story);
+        let why = trawlbeacon::check_signed_report(&pace.pile[..RECORD * (last + 1)]).unwrap_err();
+        assert_eq!((why.refusal.code(), why.place), (12, Some(place)));
+    }
+    seen.tally.no_difference();
 }
 
 /// A refusal of another kind costs no verification.

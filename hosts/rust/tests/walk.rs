@@ -522,8 +522,8 @@ fn made_up_states_do_no_harm() {
     tally.at_least(200, OUTCOMES, raw::TB_NOTHING_SAID..=raw::TB_PILE_ALTERED);
 }
 
-/// Bits of the pile are turned before the last response is taken. What stands where nothing is read
-/// may be altered, as the keys may; all else is told as that, and never as consistent.
+/// A bit of the pile is turned before the last response is taken. That is told, and never as
+/// consistent, unless it is one of a key: no key is read.
 #[test]
 fn an_altered_pile_is_told_as_that() {
     let mut random = Xorshift::new(0x5eed_1005);
@@ -560,7 +560,7 @@ fn an_altered_pile_is_told_as_that() {
             if step + 1 == 2 * count {
                 tally.count(OUTCOMES, took.outcome);
                 let told = took.outcome == raw::TB_PILE_ALTERED;
-                assert!(at % RECORD < 32 || told, "byte {at} was altered");
+                assert_eq!(told, at % RECORD >= 32, "byte {at} was altered");
             }
         }
     }

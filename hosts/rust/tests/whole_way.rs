@@ -12,7 +12,7 @@ use trawlbeacon::{
     answers, check_signed_report, contradicts, cut_signed_text, leaf, read_report, response_length,
     write_cert, write_dele, write_response, write_signed_report, write_srep, Answers, Heard,
     Outcome, Pair, Refusal, Reply, Walk, CERT_LENGTH, DELEGATION_CONTEXT, DELE_LENGTH,
-    LONGEST_REPORT, MOST_RECORDS, RECORD_LENGTH, RESPONSE_CONTEXT, SREP_LENGTH,
+    LONGEST_REPORT, MOST_PILE_LENGTH, RECORD_LENGTH, RESPONSE_CONTEXT, SREP_LENGTH,
 };
 
 const WALKS: usize = 300;
@@ -108,7 +108,7 @@ fn record(pile: &[u8], place: usize) -> &[u8] {
 
 /// The pile that a text brings to whoever reads it, and which is accepted there.
 fn arrives(ed25519: &Ed25519, text: &[u8], pair: Pair) -> Vec<u8> {
-    let mut room = vec![0xee; MOST_RECORDS * RECORD_LENGTH];
+    let mut room = vec![0xee; MOST_PILE_LENGTH];
     let records = read_report(text, &mut room).expect("it is a report");
     room.truncate(records * RECORD_LENGTH);
     assert_eq!(check_signed_report(&room), Ok(pair));

@@ -5,7 +5,7 @@ use std::error::Error;
 use std::fs;
 use std::path::{Path, PathBuf};
 use trawlbeacon::picture::Picture;
-use trawlbeacon::{Pair, Run, LONGEST_REPORT, MOST_RECORDS, RECORD_LENGTH};
+use trawlbeacon::{Pair, Run, LONGEST_REPORT, MOST_PILE_LENGTH, RECORD_LENGTH};
 
 /// The files of a lie, and what is to be said of them.
 pub struct Evidence {
@@ -66,7 +66,7 @@ pub struct Received {
 
 /// Reads a report, and checks it by the signatures in it.
 pub fn receive(report: &Path) -> Result<Received, Box<dyn Error>> {
-    let mut pile = vec![0; MOST_RECORDS * RECORD_LENGTH];
+    let mut pile = vec![0; MOST_PILE_LENGTH];
     let records = trawlbeacon::read_report(&fs::read(report)?, &mut pile)?;
     pile.truncate(records * RECORD_LENGTH);
     let pair = trawlbeacon::check_signed_report(&pile)?;

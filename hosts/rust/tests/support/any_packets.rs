@@ -16,7 +16,7 @@ pub const EXPORTS: &[Export] = &[
     export("tb_verify_parts", Verify, 3_000, YES_OR_NO, verify_parts),
     export("tb_answers", Verify, 3_000, &[(0, 3)], answers),
     export("tb_check_signed", Verify, 4_000, &[(0, 14)], check_signed),
-    export("tb_may_use", Least, 100_000, YES_OR_NO, may_use),
+    export("tb_may_use_fields", Least, 100_000, YES_OR_NO, may_use),
     export("tb_same_delegation_fields", Least, 100_000, YES_OR_NO, same_delegation),
 ];
 
@@ -139,7 +139,7 @@ fn check_signed(t: &mut Trial) {
 fn may_use(t: &mut Trial) {
     let code = if t.make.random.once_in(2) { 0 } else { t.make.word() };
     let (maxt, time) = (t.make.number(), t.make.number());
-    t.call(|_| Answer::yes_or_no(unsafe { raw::tb_may_use(code, maxt, time) }));
+    t.call(|_| Answer::yes_or_no(unsafe { raw::tb_may_use_fields(code, maxt, time) }));
 }
 
 fn same_delegation(t: &mut Trial) {
