@@ -89,7 +89,8 @@ impl Exchange<'_> {
                     return Ok(true);
                 }
                 Err(why) => {
-                    self.says(format!("refuses the answer with code {}: {why}", why.code()))
+                    let (name, code) = (self.known.name, why.code());
+                    self.says(format!("refuses {name}'s answer with code {code}: {why}"));
                 }
             }
         }

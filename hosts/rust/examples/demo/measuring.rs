@@ -85,7 +85,8 @@ impl Console {
             match walk.take_signed(&packet[..length], sent, received, &keys::random()?) {
                 Ok(outcome) => return Ok(Some(outcome)),
                 Err(why) => {
-                    self.says(format!("refuses the answer with code {}: {why}", why.code()))
+                    let (name, code) = (self.name(asked.server), why.code());
+                    self.says(format!("refuses {name}'s answer with code {code}: {why}"));
                 }
             }
         }

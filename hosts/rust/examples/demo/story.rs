@@ -79,7 +79,7 @@ pub fn tell(folder: &Path, seed: u64) -> Result<(), Ended> {
     lie(&console, &measured, teller)?;
     convict(&measured.pile, &keys, folder, teller)?;
     teller.line(String::new());
-    has_the_time(&console, "has the time all the same", teller)?;
+    has_the_time(&console, "has the time all the same", &[], teller)?;
     switch_off(&mut servers, teller);
     ask(&mut console, "has the time again", teller)?;
     teller.line("\nThe console is switched off and on: all that it had heard is gone.\n");
@@ -107,20 +107,24 @@ fn opening(seed: u64) -> String {
 /// The console asks all servers, and has the time.
 fn ask(console: &mut Console, how: &str, teller: Teller) -> Result<(), Ended> {
     let silent = console.ask_all()?;
-    let time = has_the_time(console, how, teller)?;
-    for server in silent.into_iter().filter(|server| time.agree.contains(*server)) {
-        let name = console.name(server);
-        teller.says("console", format!("counts what {name} said before, as long as it is trusted"));
-    }
-    Ok(())
+    has_the_time(console, how, &silent, teller)
 }
 
 /// The time that the console has, who says so and who is suspect; and whether that is so.
-fn has_the_time(console: &Console, how: &str, teller: Teller) -> Result<Time, Ended> {
+fn has_the_time(
+    console: &Console,
+    how: &str,
+    silent: &[usize],
+    teller: Teller,
+) -> Result<(), Ended> {
     let time = console.time()?;
     let true_time = SystemTime::now().duration_since(UNIX_EPOCH)?.as_micros() as u64;
-    teller.says("console", format!("{how}: {}", words::span(&time)));
-    teller.says("console", doubt(console, &time));
+    let says = |what: String| teller.says("console", what);
+    says(format!("{how}: {}", words::span(&time)));
+    says(doubt(console, &time));
+    for server in silent.iter().filter(|server| time.agree.contains(**server)) {
+        says(format!("goes on with what {} said before", console.name(*server)));
+    }
     let true_words = words::fine(true_time);
     teller.says("machine", format!("has {true_words} by its own clock, which no console sees"));
     if !(time.low..=time.high).contains(&true_time) {
@@ -129,7 +133,7 @@ fn has_the_time(console: &Console, how: &str, teller: Teller) -> Result<Time, En
     if time.suspects.iter().any(|suspect| suspect != LIAR) {
         return Err("a server is suspect that does not lie".into());
     }
-    Ok(time)
+    Ok(())
 }
 
 /// Who agrees, and how far that is to be believed.
