@@ -5,7 +5,7 @@ use Prim.Native.Nat.{ℕ, zero, suc, _+_, _*_, _-_, _/_, _^_, _≤_, _<_}
 use native.Mathlib.Nat.{zero-add}
 use native.Mathlib.Omega.{arith}
 use lib.ListN.{length, getD, length-append, List·getD-append}
-use lib.Pow.{pow-pos, pow-mono}
+use lib.Pow.{pow-pos}
 use lib.Seq.{getD-append-add}
 use Rattle.laws.specs.Flat.{flat}
 use Rattle.laws.specs.Upto.{upto}
@@ -14,19 +14,30 @@ use Rattle.tree.specs.Tree.{nodeIn, nodeAt, rootOf, beside, siblings, pathOf}
 use Rattle.batch.specs.AllRows.{levels, nodesOf, levelStart, laidAt, pathIn}
 use Rattle.tree.proofs.Nodes.{Whole, whole-append, whole-upto, flat-length, flat-at}
 
+-- where a level with l levels above it starts: it and those above have 2^(l + 1) - 1 nodes
+pub start-is : (d m l : ℕ) → m + l ≡ d → levelStart d m + 2 ^ suc l ≡ 2 ^ suc d
+unfolding levelStart
+start-is d zero l e =
+    let q : l ≡ d = omega arith in
+    rw q (omega arith)
+start-is d (suc m) l e =
+    let q : d - m ≡ suc l = omega arith in
+    rw q (omega (arith, start-is d m (suc l) (omega arith)))
+
 -- node j of the level m above level k
 levels-at : (xs : List (List ℕ)) (d k m j : ℕ) → m ≤ d → j < 2 ^ (d - m)
     → getD (levels xs d k) (levelStart d m + j) [] ≡ nodeAt xs (k + m) j
 unfolding levels
 levels-at xs zero k m j h g =
     let z : m ≡ 0 = omega arith in
-    let y : j ≡ 0 = omega (arith, ap (λ (n : ℕ). 2 ^ (0 - n)) z) in
+    let y : levelStart 0 m + j ≡ 0 = omega (arith, ap (λ (n : ℕ). 2 ^ (0 - n)) z, start-is 0 m 0 (omega arith)) in
+    let x : j ≡ 0 = omega arith in
     let e : k + m ≡ k = omega arith in
-    rw (y, e, z)
+    rw (y, e, x)
 levels-at xs (suc d) k zero j h g =
     let n = 2 ^ suc d in
     let b : suc d - 0 ≡ suc d = omega arith in
-    let i : levelStart (suc d) 0 + j ≡ j = rw b (omega arith) in
+    let i : levelStart (suc d) 0 + j ≡ j = omega (arith, start-is (suc d) 0 (suc d) (omega arith)) in
     let e : k + 0 ≡ k = omega arith in
     let l : j < n = rw b at g in
     rw (i, e)
@@ -36,8 +47,9 @@ levels-at xs (suc d) k (suc m) j h g =
     let n = 2 ^ suc d in
     let row = upto (nodeAt xs k) n in
     let b : suc d - suc m ≡ d - m = omega arith in
-    let u : 2 ^ suc (d - m) ≤ 2 ^ suc d = pow-mono {i = suc (d - m)} {j = suc d} (omega arith) in
-    let i : levelStart (suc d) (suc m) + j ≡ length row + (levelStart d m + j) = rw (b, upto-length) (omega arith) in
+    let u = start-is (suc d) (suc m) (d - m) (omega arith) in
+    let v = start-is d m (d - m) (omega arith) in
+    let i : levelStart (suc d) (suc m) + j ≡ length row + (levelStart d m + j) = rw upto-length (omega (arith, u, v)) in
     let e : suc k + m ≡ k + suc m = omega arith in
     ap (λ (x : ℕ). getD (row ++ levels xs d (suc k)) x []) i
     ∙ getD-append-add row (levels xs d (suc k)) (levelStart d m + j) []
@@ -66,8 +78,8 @@ module _ (xs : List (List ℕ)) (long : (k j : ℕ) → length (nodeAt xs k j) �
   laid-at : (more : List ℕ) (d k j : ℕ) → k ≤ d → j < 2 ^ (d - k)
       → laidAt (flat (levels xs d 0) ++ more) d k j ≡ nodeAt xs k j
   laid-at more d k j h g =
-      let u : 2 ^ suc (d - k) ≤ 2 ^ suc d = pow-mono {i = suc (d - k)} {j = suc d} (omega arith) in
-      let i : levelStart d k + j < length (levels xs d 0) = rw levels-length (omega (arith, pow-pos (d - k))) in
+      let u = start-is d k (d - k) (omega arith) in
+      let i : levelStart d k + j < length (levels xs d 0) = rw levels-length (omega (arith, u, pow-pos (d - k))) in
       flat-at (levels xs d 0) more (levels-whole d 0) (levelStart d k + j) i
       ∙ (rw zero-add at (levels-at xs d 0 k j h g))
 
@@ -90,5 +102,5 @@ module _ (xs : List (List ℕ)) (long : (k j : ℕ) → length (nodeAt xs k j) �
   pub root-laid : (more : List ℕ) (d : ℕ) → nodeIn (flat (levels xs d 0) ++ more) (nodesOf d - 1) ≡ rootOf xs d
   root-laid more d =
       let b : d - d ≡ 0 = omega arith in
-      let i : nodesOf d - 1 ≡ levelStart d d + 0 = rw b (omega arith) in
+      let i : nodesOf d - 1 ≡ levelStart d d + 0 = omega (arith, start-is d d 0 (omega arith)) in
       ap (nodeIn (flat (levels xs d 0) ++ more)) i ∙ laid-at more d d 0 (omega arith) (rw b (omega arith))

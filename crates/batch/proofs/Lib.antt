@@ -3,9 +3,9 @@
 pub mod Leads
 pub mod Depth
 pub mod Leaves
-pub mod Halving
+pub mod Filling
 pub mod Coming
-pub mod Laying
+pub mod Ascending
 pub mod Reading
 pub mod AllRows
 pub mod Answers

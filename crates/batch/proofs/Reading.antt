@@ -1,18 +1,18 @@
--- What the loops keep that write a path, whether they read it out of rows or build the tree on the way: a law for the
--- start, a turn and the end; and where the sibling stands, in rows and in a row.
+-- What the loop keeps that reads a path out of rows: a law for the start, a turn and the end; and where the sibling
+-- stands.
 use mathlib.Core.Path.{_≡_, refl, sym, ap, _∙_}
 use mathlib.Core.List.{List, [], _∷_, _++_}
 use Prim.Native.Nat.{ℕ, zero, suc, _+_, _*_, _-_, _/_, _^_, _≤_, _<_}
 use native.Mathlib.Omega.{arith}
-use lib.ListN.{length, getD}
+use lib.ListN.{length}
 use Rattle.laws.specs.Flat.{flat}
 use Rattle.laws.specs.Written.{Puts}
 use Rattle.laws.proofs.Written.{puts-none, puts-length, puts-more, puts-as}
-use Rattle.tree.specs.Tree.{nodeIn, nodeAt, beside, siblings}
+use Rattle.tree.specs.Tree.{nodeIn, beside, siblings}
 use Rattle.batch.specs.AllRows.{nodesOf, levelStart, laidAt}
 use Rattle.tree.proofs.Width.{pow-half}
+use Rattle.batch.proofs.AllRows.{start-is}
 use Rattle.batch.proofs.Coming.{coming-next, coming-done}
-use Rattle.batch.proofs.Laying.{AtLevel}
 
 -- the sibling of node j comes next: the level has n nodes, and `left` levels above it; `node` says what each node is
 pub record Reading (node : ℕ → ℕ → List ℕ) (d place : ℕ) (o : List ℕ) (n left j at : ℕ) (out : List ℕ) : Type 0 where
@@ -79,20 +79,8 @@ module _ {node : ℕ → ℕ → List ℕ} {d place : ℕ} {o : List ℕ} where
         let all : at ≡ 32 * d = omega (arith, r .ends) in
         rw all at (puts-as (coming-done (r .done) (r .whole) none) (r .puts))
 
--- ---- Where the sibling stands, number i of its level
+-- ---- Where the sibling stands, number i of its level, in rows of which that level has n nodes, from number `first` on
 
--- in the row of its level
-module _ {xs was row : List (List ℕ)} {d place n left j at i : ℕ} {o out : List ℕ} (l : AtLevel xs d was left n row)
-    (r : Reading (nodeAt xs) d place o n left j at out) (p : 0 < left) (e : i ≡ beside j) where
-  pub row-beside : i < n
-  row-beside =
-      let w = pow-half left n p (r .wide) in
-      omega (arith, w .0, r .inside)
-
-  pub row-node : getD row i [] ≡ nodeAt xs (d - left) (beside j)
-  row-node = l .nodes i row-beside ∙ ap (nodeAt xs (d - left)) e
-
--- in rows of which that level has n nodes, from number `first` on
 module _ (rows : List ℕ) (first : ℕ) {d place n left j at : ℕ} {o out : List ℕ}
     (r : Reading (laidAt rows d) d place o n left j at out) (start : first + 2 * n ≡ 2 * 2 ^ d) (p : 0 < left) where
   -- the next level starts behind them
@@ -109,6 +97,6 @@ module _ (rows : List ℕ) (first : ℕ) {d place n left j at : ℕ} {o out : Li
 
     pub rows-node : nodeIn rows (first + i) ≡ laidAt rows d (d - left) (beside j)
     rows-node =
-        let back : d - (d - left) ≡ left = omega (arith, r .under) in
-        let number : first + i ≡ levelStart d (d - left) + beside j = rw back (omega (arith, start, r .wide)) in
+        let level = start-is d (d - left) left (omega (arith, r .under)) in
+        let number : first + i ≡ levelStart d (d - left) + beside j = omega (arith, start, level, r .wide) in
         ap (nodeIn rows) number

@@ -14,9 +14,10 @@ levels xs (suc d) level = upto (nodeAt xs level) (2 ^ suc d) ++ levels xs d (suc
 abbrev pub nodesOf : ℕ → ℕ
 nodesOf d = 2 ^ suc d - 1
 
--- the number of the first node of a level, behind all nodes of the levels below it
-abbrev pub levelStart : ℕ → ℕ → ℕ
-levelStart d level = 2 ^ suc d - 2 ^ suc (d - level)
+-- the number of the first node of a level: how many nodes the levels below it have, of which level k has 2^(d - k)
+unfoldable pub levelStart : ℕ → ℕ → ℕ
+levelStart d zero = 0
+levelStart d (suc level) = levelStart d level + 2 ^ (d - level)
 
 -- node j of a level, as the bytes rows have it
 abbrev pub laidAt : List ℕ → ℕ → ℕ → ℕ → List ℕ

@@ -8,9 +8,9 @@ ghost use Rattle.batch.specs.Answers.{laidNumber, LaysRows, rowsBytes};
 use super::Laid;
 use super::Placed;
 use super::Rooted;
-use super::local::find_path;
-use super::local::find_root;
-use super::local::lay_rows;
+use super::Wanted;
+use super::ascent::ascend;
+use super::siblings::put_node;
 use super::siblings::read_path;
 use super::size::bytes;
 use super::size::count_of;
@@ -33,7 +33,8 @@ pub fn root(leaves: &[u8]) -> Rooted
         };
     }
     let d = depth(count);
-    let root = find_root(leaves, count, d);
+    let mut none = [0u8; 0];
+    let root = ascend(leaves, count, d, Wanted::Nothing, 0, &mut none);
     Rooted {
         refusal: PASSED,
         depth: d,
@@ -57,7 +58,7 @@ pub fn path(leaves: &[u8], place: usize, out: &mut [u8]) -> Placed
     if out.len() < 32 * (d as usize) {
         return Placed::Short;
     }
-    find_path(leaves, count, d, place, out);
+    ascend(leaves, count, d, Wanted::Sibling, place, out);
     Placed::Written {
         indx: place as u32,
         depth: d,
@@ -74,10 +75,12 @@ pub fn rows(leaves: &[u8], out: &mut [u8]) -> Laid
         return Laid::NoLeaves;
     }
     let d = depth(count);
-    if out.len() < bytes(d) {
+    let size = bytes(d);
+    if out.len() < size {
         return Laid::Short;
     }
-    lay_rows(leaves, count, d, out);
+    let root = ascend(leaves, count, d, Wanted::Row, 0, out);
+    put_node(root, out, size - 32);
     Laid::Written { depth: d }
 }
 

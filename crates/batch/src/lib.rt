@@ -1,8 +1,9 @@
 // Trees that a server builds (draft 19, section 5.3): the root and the paths of a batch of leaves, and all rows of its
 // tree at once, for a server that answers the whole batch. No public function has a `requires`.
+mod ascent;
 mod build;
 mod level;
-mod local;
+mod part;
 mod row;
 mod siblings;
 mod size;
@@ -34,4 +35,12 @@ pub enum Laid {
     Written { depth: u32 },
     NoLeaves,
     Short,
+}
+
+// What is written of each level of a tree as it is built: nothing, where the root is all that is wanted; the sibling of
+// one node, for a path; or all nodes.
+enum Wanted {
+    Nothing,
+    Sibling,
+    Row,
 }

@@ -1,4 +1,5 @@
-// One level of a tree, as a row of nodes that is lent: filled with the leaves, halved where it stands, and written out.
+// The nodes of a level, whatever its size, as a row that is lent: filled with the leaves, made of the level below, and
+// written out.
 ghost use mathlib.Core.Path.{_≡_};
 ghost use Prim.Native.Nat.{_+_, _*_, _≤_};
 ghost use lib.ListN.{length};
@@ -41,16 +42,16 @@ pub fn bottom(leaves: &[u8], count: usize, n: usize, row: &mut [[u8; 32]])
     pad(row, count, n);
 }
 
-// The level above, in the same row: each of the n parents takes the place of a node that has been read.
-pub fn halve(row: &mut [[u8; 32]], n: usize)
-    requires { ⌜ 2 * n ≤ length (now row) ⌝ }
-    ensures { λ _. ⌜ Halved (now (row .entry)) n (now (row .exit)) ⌝ }
+// The level above row, of n nodes, in up: each the parent of its two children.
+pub fn parents(row: &[[u8; 32]], n: usize, up: &mut [[u8; 32]])
+    requires { ⌜ (2 * n ≤ length (now row)) × (n ≤ length (now up)) ⌝ }
+    ensures { λ _. ⌜ Halved (now (row .entry)) n (length (now (up .entry))) (now (up .exit)) ⌝ }
 {
     let mut i: usize = 0;
     while i < n {
         let left = row[2 * i];
         let right = row[2 * i + 1];
-        row[i] = parent(left, right);
+        up[i] = parent(left, right);
         i += 1;
     }
 }

@@ -6,7 +6,7 @@ use native.Mathlib.Omega.{arith}
 use lib.ListN.{length, getD, length-set}
 use Rattle.laws.proofs.Fill.{fill-next}
 use Rattle.tree.specs.Tree.{nodeIn}
-use Rattle.batch.proofs.Halving.{level-padded}
+use Rattle.batch.proofs.Filling.{level-padded}
 use borrow.Author.Needs.{needs}
 use Rattle.batch.proofs.row.bottom.Statement.{statement}
 use Rattle.batch.proofs.row.bottom.Tie as tie

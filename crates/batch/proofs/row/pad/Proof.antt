@@ -3,7 +3,7 @@ use Prim.Native.Nat.{_-_, _≤_}
 use mathlib.Core.Path.{_≡_}
 use native.Mathlib.Omega.{arith}
 use Rattle.batch.specs.Level.{Padded}
-use Rattle.batch.proofs.Halving.{padded-none, padded-next}
+use Rattle.batch.proofs.Filling.{padded-none, padded-next}
 use borrow.Author.Needs.{needs}
 use Rattle.batch.proofs.row.pad.Statement.{statement}
 use Rattle.batch.proofs.row.pad.Tie as tie

@@ -8,7 +8,7 @@ use Rattle.laws.specs.Upto.{upto}
 use Rattle.laws.specs.Written.{Puts}
 use Rattle.laws.proofs.Written.{puts-none, puts-length}
 use Rattle.batch.specs.Level.{bytesOf}
-use Rattle.batch.proofs.Laying.{row-next}
+use Rattle.batch.proofs.Filling.{row-next}
 use borrow.Author.Needs.{needs}
 use Rattle.batch.proofs.row.put_row.Statement.{statement}
 use Rattle.batch.proofs.row.put_row.Tie as tie

@@ -1,34 +1,36 @@
--- `batch::row::halve` meets its contract. The loop keeps a `Halving`.
+-- `batch::row::parents` meets its contract. The loop keeps: what is promised, up to node `i`.
 use Prim.Native.Nat.{_≤_, _-_}
 use mathlib.Core.Path.{_≡_}
+use lib.ListN.{length}
 use native.Mathlib.Omega.{arith}
-use Rattle.batch.proofs.Halving.{Halving, halving-first, halving-next}
+use Rattle.batch.specs.Level.{Halved}
+use Rattle.batch.proofs.Filling.{halved-first, halved-next}
 use borrow.Author.Needs.{needs}
-use Rattle.batch.proofs.row.halve.Statement.{statement}
-use Rattle.batch.proofs.row.halve.Tie as tie
+use Rattle.batch.proofs.row.parents.Statement.{statement}
+use Rattle.batch.proofs.row.parents.Tie as tie
 
 abbrev Inv-loop : tie.InvT-loop
-Inv-loop row₀ n i₀ row i = (i ≤ n) × Halving row₀ i row
+Inv-loop row n up₀ i₀ up i = (i ≤ n) × Halved row i (length up₀) up
 
 abbrev μ-loop : tie.MeasureT-loop
-μ-loop row₀ n i₀ row i = n - i
+μ-loop row n up₀ i₀ up i = n - i
 
 loop-holds : tie.Need-loop-holds Inv-loop μ-loop
-loop-holds c = (omega arith, halving-first _)
+loop-holds c = (omega arith, halved-first _ _)
 
 loop-again : tie.Need-loop-again Inv-loop μ-loop
 loop-again c =
     let l = c .before .before .before .before .loop in
-    (omega arith, halving-next _ (l .inv .1) (omega (arith, l .inv .1 .done .size)) (c .parent .ensures))
+    (omega arith, halved-next _ (l .inv .1) (omega (arith, l .inv .1 .size)) (c .parent .ensures))
 
 returns : tie.Need-returns Inv-loop μ-loop
 returns c =
     let l = c .before .loop in
     let all : l .i ≡ c .before .before .args .n = omega arith in
-    rw all at (l .inv .1 .done)
+    rw all at (l .inv .1)
 
-pub halve-spec : {M : Type 1} → statement M
-halve-spec =
+pub parents-spec : {M : Type 1} → statement M
+parents-spec =
     tie.close
     (tie.spec
     Inv-loop

@@ -1,5 +1,6 @@
--- What the loops over one row keep, and the laws of their turns: a row as it is padded, and as it is halved in place.
-use mathlib.Core.Path.{_≡_, refl, sym, ap₂, _∙_}
+-- What the loops over one level keep, and the laws of their turns: a row as it is padded, as it is filled with parents,
+-- and as it is put.
+use mathlib.Core.Path.{_≡_, refl, sym, _∙_}
 use mathlib.Core.List.{List, []}
 use Prim.Native.Nat.{ℕ, _+_, _*_, _≤_, _<_}
 use native.Mathlib.Omega.{arith}
@@ -7,10 +8,12 @@ use lib.ListN.{length, set, getD, length-set}
 use lib.Seq.{getD-set-same, getD-set-other}
 use Rattle.laws.proofs.Fill.{fill-next}
 use Rattle.laws.proofs.Split.{split}
+use Rattle.laws.specs.Written.{Puts}
+use Rattle.laws.proofs.Written.{puts-more, puts-as}
 use Rattle.hash.specs.Hashes.{parentOf, emptyPlace}
 use Rattle.tree.specs.Tree.{nodeIn, nodesIn, nodeAt}
-use Rattle.tree.proofs.Nodes.{nodes-at, nodes-past}
-use Rattle.batch.specs.Level.{Level, Padded, Halved}
+use Rattle.tree.proofs.Nodes.{nodes-at, nodes-past, flat-more}
+use Rattle.batch.specs.Level.{Level, bytesOf, Padded, Halved}
 
 -- ---- A row as it is padded
 
@@ -38,25 +41,24 @@ level-padded {row} {was} {count} {n} s h p j l = split count j
     (λ g. p .empty j g l ∙ sym (nodes-past count s j emptyPlace g))
     (λ g. p .front j g ∙ h j g ∙ sym (nodes-at count s j emptyPlace g))
 
--- ---- A row as it is halved in place: the first i parents stand where nodes were that have been read
+-- ---- A row as it is filled with parents: its first i are there
 
-pub record Halving (was : List (List ℕ)) (i : ℕ) (row : List (List ℕ)) : Type 0 where
-  pub done : Halved was i row
-  pub rest : (j : ℕ) → i ≤ j → getD row j [] ≡ getD was j []
+pub halved-first : (row up : List (List ℕ)) → Halved row 0 (length up) up
+halved-first row up = record { size = refl; parents = λ j g. absurd (omega arith) }
 
-pub halving-first : (was : List (List ℕ)) → Halving was 0 was
-halving-first was =
-    record { done = record { size = refl; parents = λ j g. absurd (omega arith) }; rest = λ j g. refl }
-
-pub halving-next : {was row : List (List ℕ)} {i : ℕ} (v : List ℕ) → Halving was i row → i < length row
-    → v ≡ parentOf (getD row (2 * i) []) (getD row (2 * i + 1) []) → Halving was (i + 1) (set row i v)
-halving-next {was} {row} {i} v t g e =
+pub halved-next : {row up : List (List ℕ)} {i places : ℕ} (v : List ℕ) → Halved row i places up → i < length up
+    → v ≡ parentOf (getD row (2 * i) []) (getD row (2 * i + 1) []) → Halved row (i + 1) places (set up i v)
+halved-next {row} {up} {i} v t g e =
     record {
-      done = record {
-        size = simp length-set (t .done .size);
-        parents = fill-next (λ j. parentOf (getD was (2 * j) []) (getD was (2 * j + 1) [])) [] row i v g
-            (t .done .parents)
-            (e ∙ ap₂ parentOf (t .rest (2 * i) (omega arith)) (t .rest (2 * i + 1) (omega arith)));
-      };
-      rest = λ j l. getD-set-other row i j v [] (λ (q : j ≡ i). omega arith) ∙ t .rest j (omega arith);
+      size = simp length-set (t .size);
+      parents = fill-next (λ j. parentOf (getD row (2 * j) []) (getD row (2 * j + 1) [])) [] up i v g (t .parents) e;
     }
+
+-- ---- A row as it is put from byte `at` on: its first i nodes are
+
+pub row-next : (row : List (List ℕ)) {o out next : List ℕ} {at : ℕ} (i : ℕ)
+    → Puts o at (bytesOf row i) out (at + 32 * i) → Puts out (at + 32 * i) (getD row i []) next (at + 32 * i + 32)
+    → Puts o at (bytesOf row (i + 1)) next (at + 32 * (i + 1))
+row-next row {at = at} i p t =
+    let e : at + 32 * i + 32 ≡ at + 32 * (i + 1) = omega arith in
+    puts-as (sym (flat-more (λ j. getD row j []) i)) (rw e at (puts-more p t))
