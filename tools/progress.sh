@@ -61,10 +61,11 @@ left() { # HERE SO-FAR REST
 # same again where nothing was told for a while. The kept seconds are another machine's: those that were measured so far scale them.
 # A crate that was proved before is counted, and not told of.
 tell_progress() { # NAME...
-    local line part='' name took now=$SECONDS since=$SECONDS told=$SECONDS next=0 due=0 measured=0
-    local -a names takes batch later
+    local line part='' name took now=$SECONDS since=$SECONDS told=$SECONDS next=0 count=0 due=0 measured=0
+    local -a names batch later
+    local -A takes seen=()
     while IFS=$'\t' read -r name took line part; do
-        names+=("$name") takes+=("$took") batch+=("$line") later+=("$part")
+        names+=("$name") takes[$name]=$took batch+=("$line") later+=("$part")
     done < <(planned "$@")
     part=''
     while :; do
@@ -76,14 +77,14 @@ tell_progress() { # NAME...
             break
         fi
         now=$SECONDS
-        if [[ $line =~ ^rt:\ ([a-z0-9_]+)\ proved\ \((.*)\)$ ]] && [ "${BASH_REMATCH[1]}" = "${names[next]-}" ]; then
+        if [[ $line =~ ^rt:\ ([a-z0-9_]+)\ proved\ \((.*)\)$ ]] && [ -n "${takes[${BASH_REMATCH[1]}]-}" ]; then
             name=${BASH_REMATCH[1]} took=${BASH_REMATCH[2]} since=$now
-            if [[ $took =~ ^([0-9]+)\ s$ ]]; then
-                due=$((due + takes[next])) measured=$((measured + BASH_REMATCH[1])) told=$now next=$((next + 1))
-                progress "proved $name ($took):"
-            else
-                next=$((next + 1))
-            fi
+            [ -n "${seen[$name]-}" ] || count=$((count + 1))
+            seen[$name]=yes
+            while [ -n "${seen[${names[next]-none}]-}" ]; do next=$((next + 1)); done
+            [[ $took =~ ^([0-9]+)\ s$ ]] || continue
+            due=$((due + takes[$name])) measured=$((measured + BASH_REMATCH[1])) told=$now
+            progress "proved $name ($took):"
         elif [ $((now - told)) -ge "${TRAWLBEACON_PULSE:-20}" ] && [ "$next" -lt "${#names[@]}" ]; then
             told=$now
             progress "proving ${names[next]}:"
@@ -95,9 +96,9 @@ tell_progress() { # NAME...
 progress() { # WHAT
     local here=${batch[next]-0} rest=${later[next]-0}
     if [ "$due" -ge 10 ]; then here=$((here * measured / due)) rest=$((rest * measured / due)); fi
-    if [ "$next" -lt "${#names[@]}" ]; then
-        say "$1 $next of ${#names[@]} crates, $(left "$here" $((now - since)) "$rest")" >&2
+    if [ "$count" -lt "${#names[@]}" ]; then
+        say "$1 $count of ${#names[@]} crates, $(left "$here" $((now - since)) "$rest")" >&2
     else
-        say "$1 $next of $next crates" >&2
+        say "$1 $count of $count crates" >&2
     fi
 }

@@ -49,6 +49,13 @@ have_library() { # ARCHIVE
     (. tools/kit.sh && find_kit && made_of_these "$1")
 }
 
+# Puts a copy of a file in its place in one step, once it is on the disk, so that there is the old one or the new one, whole.
+put_whole() { # FILE PLACE
+    cp "$1" "$2.new"
+    sync "$2.new"
+    mv "$2.new" "$2"
+}
+
 # Runs a command whose words go to standard error, and says every so often that it still runs.
 patiently() { # WHAT COMMAND...
     local what=$1 line began=$SECONDS

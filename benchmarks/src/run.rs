@@ -7,8 +7,9 @@ use crate::sides::{Side, Subject, Work};
 use crate::table::{or_none, wrapped, Columns, Table};
 use crate::timing::Pace;
 
-/// How often a subject is timed again that is above a limit. The best of all its turns counts.
-const AGAIN: usize = 2;
+/// How often a subject is timed again, at the most, that is above a limit, so that it is sure that
+/// it is. The best of all its turns counts.
+const AGAIN: usize = 8;
 
 /// A ratio that was held to a limit.
 struct Held {
@@ -51,7 +52,7 @@ impl Run {
         Run { pace, held: Vec::new(), pieces: Vec::new(), lines: Vec::new() }
     }
 
-    /// Times a subject, and once more where it is above a limit.
+    /// Times a subject, and again where it is above a limit.
     pub fn time(&mut self, mut subject: Subject) -> Measured {
         let times = self.pace.best_times(&mut subject.works);
         let mut measured = Measured::new(subject.name, subject.length, times);

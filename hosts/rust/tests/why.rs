@@ -121,6 +121,24 @@ fn each_cause_is_told() {
     println!("why a text is no report: {texts} texts, {causes} causes");
 }
 
+/// What other programs write in the place of plain UTF-8 is called by its name.
+#[test]
+fn other_encodings_are_named() {
+    let told = |bytes: &[u8]| why::no_report(bytes).map(|why| why.to_string()).unwrap_or_default();
+    let text = vectors("malfeasance-report.json");
+    let marked = ["\u{feff}", &text].concat();
+    assert!(told(marked.as_bytes()).contains("byte 0: it begins with a byte order mark"));
+    for order in [u16::to_le_bytes, u16::to_be_bytes] {
+        for text in [&text, &marked, "\u{feff}時", "\u{feff}"] {
+            let wide: Vec<u8> = text.encode_utf16().flat_map(order).collect();
+            assert!(why::is_utf16(&wide) && told(&wide).contains("UTF-16"), "{text}");
+        }
+    }
+    for bytes in [&[][..], b"{}", &[0; 4096], &[1, 0], text.as_bytes()] {
+        assert!(!why::is_utf16(bytes), "{bytes:?}");
+    }
+}
+
 /// Every byte of the draft's own report is changed in turn.
 #[test]
 fn a_changed_byte_is_found() {

@@ -137,6 +137,9 @@ enum Value {
 }
 
 fn json(text: &[u8]) -> Result<Value, Why> {
+    if is_utf16(text) {
+        return Err(Why::Json(0, "it is a text in UTF-16, and JSON is written in UTF-8"));
+    }
     if text.starts_with(b"\xef\xbb\xbf") {
         return Err(Why::Json(0, "it begins with a byte order mark, which JSON does not have"));
     }
