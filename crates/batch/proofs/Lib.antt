@@ -4,7 +4,7 @@ pub mod Leads
 pub mod Depth
 pub mod Leaves
 pub mod Filling
-pub mod Coming
+pub mod Writing
 pub mod Ascending
 pub mod Reading
 pub mod AllRows

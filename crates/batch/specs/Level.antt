@@ -71,6 +71,13 @@ pub record CanPut (wanted : Wanted) (n j places at room : ℕ) : Type 0 where
   pub inside : j < n
   pub enough : at + 32 * partSize wanted n ≤ room
 
+-- it is written: the buffer o, once it has it from index at on, is out, and it ends before index e; `node` says what
+-- each node is
+pub record PutPart (wanted : Wanted) (node : ℕ → List ℕ) (n j : ℕ) (o : List ℕ) (at : ℕ) (out : List ℕ) (e : ℕ)
+    : Type 0 where
+  pub ends : e ≡ at + 32 * partSize wanted n
+  pub puts : Puts o at (flat (part wanted node n j)) out e
+
 -- what is wanted of a tree of depth d can be written: it has that place, and there is room
 pub record Fits (wanted : Wanted) (d place at room : ℕ) : Type 0 where
   pub inside : place < 2 ^ d

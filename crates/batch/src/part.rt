@@ -1,11 +1,7 @@
 // What is written of a level before it is halved.
-ghost use mathlib.Core.Path.{_≡_};
 ghost use mathlib.Core.List.{[]};
-ghost use Prim.Native.Nat.{_+_, _*_};
 ghost use lib.ListN.{length, getD};
-ghost use Rattle.laws.specs.Flat.{flat};
-ghost use Rattle.laws.specs.Written.{Puts};
-ghost use Rattle.batch.specs.Level.{part, partSize, CanPut};
+ghost use Rattle.batch.specs.Level.{CanPut, PutPart};
 use super::Wanted;
 use super::row::put_row;
 use super::siblings::other;
@@ -23,8 +19,7 @@ pub fn put_part(
 ) -> usize
     requires { ⌜ CanPut wanted n j (length (now row)) at (length (now out)) ⌝ }
     ensures { λ r. ⌜
-        (r ≡ at + 32 * partSize wanted n)
-        × Puts (now (out .entry)) at (flat (part wanted (λ i. getD (now (row .entry)) i []) n j)) (now (out .exit)) r
+        PutPart wanted (λ i. getD (now (row .entry)) i []) n j (now (out .entry)) at (now (out .exit)) r
         ⌝ }
 {
     match wanted {

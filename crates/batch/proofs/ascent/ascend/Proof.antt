@@ -5,7 +5,8 @@ use Rattle.laws.proofs.Written.{puts-length}
 use Rattle.tree.specs.Tree.{nodesIn}
 use Rattle.batch.specs.Leaves.{most}
 use Rattle.batch.proofs.Ascending.{Ascending, ascending-first, above-one, ascending-can, ascending-next}
-use Rattle.batch.proofs.Ascending.{ascending-fits, ascending-rest}
+use Rattle.batch.proofs.Ascending.{ascending-put, ascending-rest}
+use Rattle.batch.proofs.Writing.{writing-fits}
 use borrow.Author.Needs.{needs}
 use Rattle.batch.proofs.ascent.ascend.Statement.{statement}
 use Rattle.batch.proofs.ascent.ascend.Tie as tie
@@ -23,8 +24,8 @@ returns c =
     let at-bottom = at-few .before .before .before in
     let at-width = at-bottom .before .before .before in
     let s = at-width .before .before .before in
-    ascending-rest
-    (ascending-first (at-width .width .ensures) (s .pre .0 .deep) (omega arith) (at-bottom .bottom .ensures) (s .pre .1))
+    let level = at-bottom .bottom .ensures in
+    ascending-rest (ascending-first (at-width .width .ensures) (s .pre .0 .deep) (omega arith) level (s .pre .1))
     (at-few .ascend-few .ensures)
 
 loop-holds : tie.Need-loop-holds Inv-loop μ-loop
@@ -45,7 +46,8 @@ ascend-few-requires-2 c κs =
     let at-if = c .before .before in
     let at-put = at-if .before .before .before in
     let l = at-put .before .before .before .loop in
-    ascending-fits (l .inv .0) (l .inv .1) (at-put .put-part .ensures) (at-if .if2 .taken)
+    let w = ascending-put (l .inv .0) (l .inv .1) (at-put .put-part .ensures) in
+    (omega (arith, w .wide), writing-fits w)
 
 returns-2 : tie.Need-returns-2 Inv-loop μ-loop
 returns-2 c =
@@ -62,7 +64,8 @@ loop-again : tie.Need-loop-again Inv-loop μ-loop
 loop-again c =
     let at-put = c .before .before .before .before in
     let l = at-put .before .before .before .loop in
-    let r = ascending-next (l .inv .0) (l .inv .1) (at-put .put-part .ensures) (omega arith) (c .halved-many .ensures) in
+    let up = c .halved-many .ensures in
+    let r = ascending-next (l .inv .0) (l .inv .1) (at-put .put-part .ensures) (omega arith) up in
     (r, above-one r (omega arith))
 
 pub ascend-spec : {M : Type 1} → statement M

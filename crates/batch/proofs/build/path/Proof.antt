@@ -1,6 +1,6 @@
 -- `batch::build::path` meets its contract. Each way out has its law, and what is left in the buffer has one.
 use mathlib.Core.Path.{refl}
-use Rattle.batch.proofs.Ascending.{ascends-path}
+use Rattle.batch.proofs.Writing.{path-puts}
 use Rattle.batch.proofs.Answers.{place-short, place-written, path-left}
 use borrow.Author.Needs.{needs}
 use Rattle.batch.proofs.build.path.Statement.{statement}
@@ -13,7 +13,7 @@ returns-3 c =
     let there = fits .before .before in
     let n = there .before .count-of .ensures .0 in
     let d = fits .before .depth .ensures .0 in
-    let puts = ascends-path (at-ascend .ascend .ensures) in
+    let puts = path-puts _ _ _ (at-ascend .ascend .ensures .puts) in
     (place-written n d (there .if1 .left) refl (fits .if2 .left), path-left _ n d _ puts)
 
 pub path-spec : {M : Type 1} → statement M

@@ -1,7 +1,7 @@
 -- `batch::build::rows` meets its contract. Each way out has its law, and what is left in the buffer has one.
 use native.Mathlib.Omega.{arith}
 use lib.Pow.{pow-pos}
-use Rattle.batch.proofs.Ascending.{ascends-rows}
+use Rattle.batch.proofs.Ascending.{rows-puts}
 use Rattle.batch.proofs.Answers.{rows-short, rows-written, rows-left}
 use borrow.Author.Needs.{needs}
 use Rattle.batch.proofs.build.rows.Statement.{statement}
@@ -23,7 +23,7 @@ returns-3 c =
     let n = there .before .count-of .ensures .0 in
     let d = at-depth .depth .ensures .0 in
     let size = at-bytes .bytes .ensures in
-    let puts = ascends-rows size (at-ascend .ascend .ensures) (at-put .put-node .ensures) in
+    let puts = rows-puts size (at-ascend .ascend .ensures) (at-put .put-node .ensures) in
     (rows-written n d (there .if1 .left) size (omega arith), rows-left _ n d puts)
 
 pub rows-spec : {M : Type 1} → statement M

@@ -2,7 +2,7 @@
 use native.Mathlib.Omega.{arith}
 use Rattle.laws.specs.Flat.{flat}
 use Rattle.laws.proofs.Written.{puts-none}
-use Rattle.batch.proofs.Ascending.{sibling-put}
+use Rattle.batch.proofs.Writing.{sibling-put}
 use borrow.Author.Needs.{needs}
 use Rattle.batch.proofs.part.put_part.Statement.{statement}
 use Rattle.batch.proofs.part.put_part.Tie as tie
@@ -22,21 +22,19 @@ put-row-requires c κs =
 returns : tie.Need-returns
 unfolding flat
 returns c =
-    rw (c .enum-told .given .1) (omega arith, puts-none _ _ (omega (arith, c .before .before .before .pre .enough)))
+    let s = c .before .before .before in
+    rw (c .enum-told .given .1) (record { ends = omega arith; puts = puts-none _ _ (omega (arith, s .pre .enough)) })
 
 returns-2 : tie.Need-returns-2
 returns-2 c =
     let at-put = c .before .before in
     let at-other = at-put .before .before .before in
-    let told = at-other .before in
-    let a = told .before .before .before .args in
-    sibling-put (a .row .now) (a .n) (a .j) (told .enum-told2 .given .1) (at-other .other .ensures)
-    (at-put .put-node .ensures)
+    sibling-put _ _ (at-other .before .enum-told2 .given .1) (at-other .other .ensures) (at-put .put-node .ensures)
 
 returns-3 : tie.Need-returns-3
 returns-3 c =
     let at-put = c .before .before in
-    rw (at-put .before .before .enum-told3 .given .1) (omega arith, at-put .put-row .ensures)
+    rw (at-put .before .before .enum-told3 .given .1) (record { ends = omega arith; puts = at-put .put-row .ensures })
 
 pub put-part-spec : {M : Type 1} → statement M
 put-part-spec =

@@ -1,24 +1,29 @@
--- `batch::siblings::read_path` meets its contract. The loop keeps a `Reading`, and where its level starts.
-use mathlib.Core.Path.{_≡_, _∙_}
+-- `batch::siblings::read_path` meets its contract. The loop keeps a `Writing`, and where its level starts.
+use mathlib.Core.Path.{_≡_}
 use Prim.Native.Nat.{_+_, _*_, _^_}
 use native.Mathlib.Omega.{arith}
+use Rattle.laws.proofs.Written.{puts-length}
 use Rattle.tree.specs.Tree.{nodeIn}
 use Rattle.batch.specs.AllRows.{laidAt}
-use Rattle.batch.proofs.Reading.{Reading, reading-first, reading-next, reading-done}
-use Rattle.batch.proofs.Reading.{rows-next, rows-beside, rows-node}
+use Rattle.batch.specs.declared.Wanted.the-variants.{Sibling}
+use Rattle.batch.proofs.Writing.{Writing, writing-first, writing-done, path-puts}
+use Rattle.batch.proofs.Reading.{rows-next, rows-beside, rows-put}
 use borrow.Author.Needs.{needs}
 use Rattle.batch.proofs.siblings.read_path.Statement.{statement}
 use Rattle.batch.proofs.siblings.read_path.Tie as tie
 
 abbrev Inv-loop : tie.InvT-loop
 Inv-loop rows d place out₀ first₀ n₀ left₀ j₀ at₀ out first n left j at =
-    (first + 2 * n ≡ 2 * 2 ^ d) × Reading (laidAt rows d) d place out₀ n left j at out
+    (first + 2 * n ≡ 2 * 2 ^ d) × Writing Sibling (laidAt rows d) d place out₀ 0 n left j at out
 
 abbrev μ-loop : tie.MeasureT-loop
 μ-loop rows d place out₀ first₀ n₀ left₀ j₀ at₀ out first n left j at = left
 
 loop-holds : tie.Need-loop-holds Inv-loop μ-loop
-loop-holds c = (omega arith, search (reading-first, needs))
+loop-holds c =
+    let s = c .before .before .before in
+    let enough = s .pre .enough in
+    (omega arith, writing-first (c .width .ensures) (record { inside = s .pre .inside; enough = omega arith }))
 
 copy32-requires : tie.Need-copy32-requires Inv-loop μ-loop
 copy32-requires c κs =
@@ -35,11 +40,13 @@ loop-again c =
     let at-other = at-copy .before in
     let l = at-other .before .before .loop in
     let live = at-other .before .loop-test .taken in
-    let is = at-copy .copy32 .ensures ∙ rows-node _ _ (l .inv .1) (l .inv .0) live (at-other .other .ensures) in
-    (rows-next _ _ (l .inv .1) (l .inv .0) live, reading-next (l .inv .1) live is (at-put .put-node .ensures))
+    let is = at-copy .copy32 .ensures in (
+      rows-next _ _ (l .inv .1) (l .inv .0) live,
+      rows-put _ _ (l .inv .1) (l .inv .0) live (at-other .other .ensures) is (at-put .put-node .ensures),
+    )
 
 returns : tie.Need-returns Inv-loop μ-loop
-returns c = reading-done (c .before .loop .inv .1) (omega arith)
+returns c = path-puts _ _ _ (writing-done (c .before .loop .inv .1) (omega arith))
 
 pub read-path-spec : {M : Type 1} → statement M
 read-path-spec =
@@ -59,5 +66,5 @@ read-path-spec =
     (λ c. search needs)
     (λ c. search needs)
     loop-again
-    (λ c. search needs)
+    (λ c. puts-length (returns c))
     returns)
