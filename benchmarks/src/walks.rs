@@ -77,7 +77,8 @@ impl Step {
         let mut walk = Walk::start(&keys, &[7; 32], 5, &pile).expect("nothing is wrong");
         for _ in 0..steps {
             let response = servers.answer(&walk, kind.0, kind.1);
-            assert_eq!(walk.take(&heard(&response), &mut pile), Ok(Stand::GoesOn));
+            let taken = walk.take(&heard(&response), &mut pile).map(|taken| taken.stand);
+            assert_eq!(taken, Ok(Stand::GoesOn));
         }
         let response = servers.answer(&walk, kind.0, kind.1);
         Step { name, walk, pile, response }

@@ -1113,6 +1113,23 @@ static void expect_took(const char *what, struct tb_took is, struct tb_took shou
     expect_number(what, is.at, should.at);
     expect_number(what, is.first, should.first);
     expect_number(what, is.second, should.second);
+    expect_number(what, is.midp, should.midp);
+    expect_number(what, is.low, should.low);
+    expect_number(what, is.high, should.high);
+    expect_number(what, is.mint, should.mint);
+    expect_number(what, is.maxt, should.maxt);
+    expect_number(what, is.radi, should.radi);
+}
+
+/* What is said of an accepted response that tells this time: how the walk stands, and the window. */
+static struct tb_took with_window(struct tb_took stands, struct tb_verdict time) {
+    stands.midp = time.midp;
+    stands.low = time.midp - time.radi;
+    stands.high = time.midp + time.radi;
+    stands.mint = time.mint;
+    stands.maxt = time.maxt;
+    stands.radi = time.radi;
+    return stands;
 }
 
 /* A call of tb_walk_take that is refused, which leaves the state and the pile. */
@@ -1256,9 +1273,10 @@ static void expect_walk(size_t servers, uint64_t lag, bool altered, struct tb_to
     late.midp -= lag;
     start_walk(&walk, servers);
     for (size_t k = 0; k < last; k++)
-        expect_took("a step of a walk", expect_step(&walk, k, HONEST), goes_on);
+        expect_took("a step of a walk", expect_step(&walk, k, HONEST),
+                    with_window(goes_on, HONEST));
     if (altered) walk_should[RAND_AT] = walk_pile[RAND_AT] = 1;
-    expect_took("the end of a walk", expect_step(&walk, last, late), end);
+    expect_took("the end of a walk", expect_step(&walk, last, late), with_window(end, late));
     expect_untaken("a walk that has ended", &walk, 0, 1, 0, walk_pile, 0, 0, TB_ENDED, 0);
     expect_number("a walk that has ended", tb_walk_ask(&walk, run, 0).code, TB_ENDED);
     expect_loops_end(&walk);
@@ -1354,11 +1372,13 @@ static void expect_signed_walk(void) {
             expect_taken_alike("another's key", &other, sent, sent, right, DRAFT_LENGTH, room);
         /* The key is in the request, and so in the leaf that the path begins with. */
         expect_number("another's key", took.code, TB_PATH);
+        took = expect_taken_alike("a step by signatures", &walk, sent, sent + LONGEST, right,
+                                  DRAFT_LENGTH, room);
         const struct tb_took goes_on = {.outcome = TB_GOES_ON};
-        expect_took("a step by signatures",
-                    expect_taken_alike("a step by signatures", &walk, sent, sent + LONGEST, right,
-                                       DRAFT_LENGTH, room),
-                    goes_on);
+        const struct tb_judged judged = tb_judge_signed(walk_pile, (k + 1) * TB_RECORD_LENGTH, k);
+        expect_took("a step by signatures", took, with_window(goes_on, tb_verdict_of(judged)));
+        expect_number("the time of a step by signatures", took.midp,
+                      k == 0 ? 1773685571 : 1773599171);
     }
     lay_report(report);
     expect_bytes("the draft's report by a walk", walk_pile, report, sizeof report);

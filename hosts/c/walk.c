@@ -40,7 +40,7 @@ int main(int argc, char **argv) {
         response[TB_LONGEST_PACKET + 1];
     const uint8_t nonce[32] = {4}, rand[32] = {5};
     struct tb_walk walk = {{0}, 0, 0, {0}, {0}, 0, 0};
-    struct tb_took took = {0, TB_NOTHING_SAID, 0, 0, 0};
+    struct tb_took took = {.outcome = TB_NOTHING_SAID};
     lag = argc > 1 ? strtoull(argv[1], NULL, 10) : 0;
 
     uint32_t code =

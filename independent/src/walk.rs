@@ -2,7 +2,7 @@
 //! the same ones in the same order once more. What each request and response was goes into a pile,
 //! and the pile says at the end whether a server lied.
 
-use crate::check::{self, Valid};
+use crate::check::{self, Valid, Window};
 use crate::ed25519::Ed25519;
 use crate::hash::{self, Hash};
 use crate::making;
@@ -88,6 +88,15 @@ pub enum Stand {
     Altered,
 }
 
+/// A response that was accepted.
+#[derive(Clone, Copy, Debug, PartialEq, Eq)]
+pub struct Taken {
+    /// How the walk stands after it.
+    pub stand: Stand,
+    /// The window that it tells.
+    pub window: Window,
+}
+
 impl Walk {
     /// A walk over the servers with these keys, 32 bytes each. `buffer` must have room for the whole
     /// pile, and is not written to.
@@ -135,7 +144,7 @@ impl Walk {
 
     /// Takes the response to the request that is due, and puts its record into the pile at the front
     /// of `buffer`. Where it is refused nothing is changed.
-    pub fn take(&mut self, heard: &Heard, buffer: &mut [u8]) -> Result<Stand, Refusal> {
+    pub fn take(&mut self, heard: &Heard, buffer: &mut [u8]) -> Result<Taken, Refusal> {
         let &Heard { response, delegation, signature, sent, received, rand } = heard;
         let arrived = Arrived { response, sent, received, rand };
         self.take_by(&arrived, buffer, |_, request| {
@@ -150,7 +159,7 @@ impl Walk {
         ed25519: &Ed25519,
         arrived: &Arrived,
         buffer: &mut [u8],
-    ) -> Result<Stand, Refusal> {
+    ) -> Result<Taken, Refusal> {
         self.take_by(arrived, buffer, |key, request| {
             signed::check(ed25519, key, request, arrived.response)
         })
@@ -162,13 +171,13 @@ impl Walk {
         arrived: &Arrived,
         buffer: &mut [u8],
         check: impl FnOnce(&[u8; 32], &[u8]) -> Result<Valid, Refusal>,
-    ) -> Result<Stand, Refusal> {
+    ) -> Result<Taken, Refusal> {
         let (server, request) = self.due()?;
         let pile = self.room(buffer)?;
         let delay = arrived.received.checked_sub(arrived.sent).ok_or(Refusal::Clock)?;
         arrived.sent.checked_sub(self.last).ok_or(Refusal::Clock)?;
         self.longest.checked_sub(delay).ok_or(Refusal::Delay)?;
-        check(&self.servers[server], &request)?;
+        let Valid { window, .. } = check(&self.servers[server], &request)?;
 
         let record = making::record(&self.servers[server], &self.rand, &request, arrived.response);
         let places = &mut buffer[..pile];
@@ -178,7 +187,8 @@ impl Walk {
         self.rand = arrived.rand;
         self.nonce = hash::link(arrived.response, &arrived.rand);
         self.last = arrived.received;
-        Ok(if (step + 1) * RECORD == pile { ended(places) } else { Stand::GoesOn })
+        let stand = if (step + 1) * RECORD == pile { ended(places) } else { Stand::GoesOn };
+        Ok(Taken { stand, window })
     }
 }
 
@@ -262,7 +272,10 @@ mod tests {
             assert_eq!(request::read(&out[..1036]).unwrap().nonc, asked.nonce);
             assert_eq!(out[1036..], [0xaa; 4]);
             let response = pieces(&walk, *midp, *radi).packet();
-            stand = walk.take(&heard(&response, step as u64, step as u64), &mut buffer).unwrap();
+            let taken =
+                walk.take(&heard(&response, step as u64, step as u64), &mut buffer).unwrap();
+            stand = taken.stand;
+            assert_eq!((taken.window.midp, taken.window.radi), (*midp, *radi));
             assert_eq!(walk.nonce, hash::link(&response, &[9; 32]));
             let written = &buffer[..(step + 1) * RECORD];
             let judged = pile::judge_all(written, &vec![1; 2 * step + 2]).unwrap();
@@ -347,7 +360,8 @@ mod tests {
             forge(&mut pieces);
             let response = pieces.packet();
             let arrived = Arrived { response: &response, sent, received, rand: [9; 32] };
-            walk.take_signed(&ed25519, &arrived, &mut buffer).map_err(Refusal::code)
+            let taken = walk.take_signed(&ed25519, &arrived, &mut buffer);
+            taken.map(|taken| taken.stand).map_err(Refusal::code)
         };
         let right = |_: &mut Pieces| ();
         for step in 0..6 {
@@ -380,7 +394,8 @@ mod tests {
         // At its last step it has written nothing but that one record.
         let mut last = Walk { accepted: 5, ..walk };
         let response = pieces(&last, 1000, 5).packet();
-        assert_eq!(last.take(&heard(&response, 0, 0), &mut buffer), Ok(Stand::Altered));
+        let taken = last.take(&heard(&response, 0, 0), &mut buffer).unwrap();
+        assert_eq!((taken.stand, taken.window.high), (Stand::Altered, 1005));
         assert_eq!(last.accepted, 6);
     }
 }

@@ -32,8 +32,8 @@ changed w v = walkOf (w .keys) (w .count) (v .step) (v .nonce) (v .rand) (v .las
 changed-after : (s : Said) (w : Walk) (h : Heard) (x : List ℕ)
     → changed w (walkAfter s w h x) ≡ walkAfter s w h x
 unfolding movedOn
-changed-after Next w h x = refl
-changed-after (Ended r) w h x = refl
+changed-after (Next v) w h x = refl
+changed-after (Ended v r) w h x = refl
 changed-after (Refused why) w h x = refl
 
 pub took-of : (w : Walk) {g : Heard} (h : Heard) (x pile : List ℕ) {after : List ℕ} (m : Moved) {r : TbTook} → g ≡ h

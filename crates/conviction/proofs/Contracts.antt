@@ -23,6 +23,7 @@ use Rattle.forward.proofs.cut_signed_text.Reads as cut-reads
 use Rattle.hearing.specs.Heard.{ownHeard}
 use Rattle.hearing.proofs.take_signed.Kinds as take-signed-kinds
 use Rattle.hearing.proofs.take_signed.Reads as take-signed-reads
+use Rattle.verdict.specs.declared.Window.{Window}
 use Rattle.walk.specs.Starting.{startCode, begunWalk, startedOf}
 use Rattle.walk.specs.Taking.{Takes, pileAfter, pileOf}
 use Rattle.walk.specs.Trace.{Reached}
@@ -107,14 +108,14 @@ take-signed-steps κs a x u p way l =
 pub malfeasance-convicts : {keys nonce : List ℕ} {most : ℕ} → length nonce ≡ 32 → (κs : _) (a : _) (x : _) (u : _)
     → take-signed-reads.Learnt κs a x (atExit (endedOf _ take-signed-kinds.ps take-signed-kinds.r) κs a u)
     → ReachedAlone keys nonce most (a .0) (now (a .1 .1 .1 .1 .1 .0)) → length (a .1 .1 .1 .0) ≡ 32
-    → (i j : ℕ) → x .said ≡ Ended (Pair i j) → Bytes (u .1 .1 .1 .1 .1 .0)
+    → (o : Window) (i j : ℕ) → x .said ≡ Ended o (Pair i j) → Bytes (u .1 .1 .1 .1 .1 .0)
     → WholeWay (pileOf (2 * a .0 .count) (u .1 .1 .1 .1 .1 .0)) i j
-malfeasance-convicts {keys} {nonce} {most} n32 κs a x u p way l i j e bytes =
+malfeasance-convicts {keys} {nonce} {most} n32 κs a x u p way l o i j e bytes =
     let w = a .0 in
     let response = now (a .1 .1 .1 .1 .0) in
     let b = now (a .1 .1 .1 .1 .1 .0) in
     let h = ownHeard w (a .1 .0) (a .1 .1 .0) (a .1 .1 .1 .0) response in
     let left = p .1 .1 .1 ∙ ap (λ (s : Said). pileAfter s w response b) e in
     rw left
-    (the-whole-way-alone keys nonce most n32 w b way (a .1 .0) (a .1 .1 .0) (a .1 .1 .1 .0) response l i j
+    (the-whole-way-alone keys nonce most n32 w b way (a .1 .0) (a .1 .1 .0) (a .1 .1 .1 .0) response l o i j
     (subst (Takes w h response b) e (p .1 .0)) (rw left at bytes))

@@ -16,6 +16,7 @@ use Rattle.report.specs.declared.Report.{Report}
 use Rattle.report.specs.declared.Report.the-variants.{Pair, Bad, Record, Unlinked, Clear}
 use Rattle.runs.specs.Clash.{windowsClash}
 use Rattle.verdict.specs.Check.{windowIn}
+use Rattle.verdict.specs.declared.Window.{Window}
 use Rattle.wire.specs.Packet.{body}
 use Rattle.signed.specs.Answers.{ownAnswers}
 use Rattle.walk.specs.Taking.{recorded, movedOn, pileOf, allYes, Takes}
@@ -33,23 +34,23 @@ use Rattle.conviction.proofs.Way.{goes-the-way}
 -- Of a walk over these keys, from its start to the call that says malfeasance and names records i and j:
 module _
     (keys nonce : List ℕ) (most : ℕ) (n32 : length nonce ≡ 32) (w : Walk) (b : List ℕ)
-    (way : Reached keys nonce most w b) (h : Heard) (response : List ℕ) (rl : length (h .rand) ≡ 32) (i j : ℕ)
-    (t : Takes w h response b (Ended (Pair i j))) where
+    (way : Reached keys nonce most w b) (h : Heard) (response : List ℕ) (rl : length (h .rand) ≡ 32) (o : Window)
+    (i j : ℕ) (t : Takes w h response b (Ended o (Pair i j))) where
   -- where every signature on it verifies, our own Ed25519 answers yes to all of the pile,
-  pub own-yes : AllVerify (took w b h response (Ended (Pair i j)) way rl t)
+  pub own-yes : AllVerify (took w b h response (Ended o (Pair i j)) way rl t)
       → ownAnswers (pileOf (2 * w .count) (recorded w response b)) ≡ allYes (2 * w .count)
   unfolding movedOn
   own-yes v =
       let buffer = recorded w response b in
       all-yes (pileOf (2 * w .count) buffer) (2 * w .count)
-      (ends-with keys nonce most n32 w b way h response rl (Pair i j) t)
+      (ends-with keys nonce most n32 w b way h response rl o (Pair i j) t)
       (λ k l.
       rw (record-front buffer (4096 * (2 * w .count)) k (omega arith))
       (in-records keys nonce most n32 (movedOn w h response) buffer
-      (took w b h response (Ended (Pair i j)) way rl t) v k (omega (arith, t .1 .0))))
+      (took w b h response (Ended o (Pair i j)) way rl t) v k (omega (arith, t .1 .0))))
 
   -- and the pile goes the whole way
-  pub the-whole-way : AllVerify (took w b h response (Ended (Pair i j)) way rl t) → Bytes (recorded w response b)
+  pub the-whole-way : AllVerify (took w b h response (Ended o (Pair i j)) way rl t) → Bytes (recorded w response b)
       → WholeWay (pileOf (2 * w .count) (recorded w response b)) i j
   the-whole-way v bytes =
       goes-the-way (pileOf (2 * w .count) (recorded w response b)) i j
@@ -61,20 +62,21 @@ module _
 -- of an accepted response lies wholly after that of a later one, the pile convicts
 pub lie-convicts :
     (keys nonce : List ℕ) (most : ℕ) → length nonce ≡ 32 → (w : Walk) (b : List ℕ) (way : Reached keys nonce most w b)
-    (h : Heard) (response : List ℕ) (rl : length (h .rand) ≡ 32) (r : Report) (t : Takes w h response b (Ended r))
-    → AllVerify (took w b h response (Ended r) way rl t) → Bytes (recorded w response b)
+    (h : Heard) (response : List ℕ) (rl : length (h .rand) ≡ 32) (o : Window) (r : Report)
+    (t : Takes w h response b (Ended o r))
+    → AllVerify (took w b h response (Ended o r) way rl t) → Bytes (recorded w response b)
     → (i j : ℕ) → i < j → j < 2 * w .count
     → T
-    (windowsClash (windowIn (body (getD (heard (took w b h response (Ended r) way rl t)) i [])))
-    (windowIn (body (getD (heard (took w b h response (Ended r) way rl t)) j []))))
+    (windowsClash (windowIn (body (getD (heard (took w b h response (Ended o r) way rl t)) i [])))
+    (windowIn (body (getD (heard (took w b h response (Ended o r) way rl t)) j []))))
     → Convicts (pileOf (2 * w .count) (recorded w response b))
-lie-convicts keys nonce most n32 w b way h response rl r t v bytes i j o l c =
-    by r t v (lie-heard keys nonce most n32 w b way h response rl r t i j o l c)
+lie-convicts keys nonce most n32 w b way h response rl o r t v bytes i j below l c =
+    by r t v (lie-heard keys nonce most n32 w b way h response rl o r t i j below l c)
   where
-    by : (x : Report) (u : Takes w h response b (Ended x)) → AllVerify (took w b h response (Ended x) way rl u)
+    by : (x : Report) (u : Takes w h response b (Ended o x)) → AllVerify (took w b h response (Ended o x) way rl u)
         → Accepts x → Convicts (pileOf (2 * w .count) (recorded w response b))
     by (Pair a e) u v z =
-        record { i = a; j = e; way = the-whole-way keys nonce most n32 w b way h response rl a e u v bytes }
+        record { i = a; j = e; way = the-whole-way keys nonce most n32 w b way h response rl o a e u v bytes }
     by Bad u v z = absurd z
     by (Record why k) u v z = absurd z
     by (Unlinked k) u v z = absurd z

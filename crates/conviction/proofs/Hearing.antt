@@ -12,6 +12,7 @@ use Rattle.report.specs.declared.Report.{Report}
 use Rattle.report.specs.declared.Report.the-variants.{Pair}
 use Rattle.runs.specs.Clash.{windowsClash}
 use Rattle.verdict.specs.Check.{windowIn}
+use Rattle.verdict.specs.declared.Window.{Window}
 use Rattle.wire.specs.Packet.{body}
 use Rattle.walk.specs.State.{keyOf}
 use Rattle.walk.specs.Taking.{takeCode, recorded, pileOf, Takes}
@@ -43,9 +44,9 @@ module _ {keys nonce : List ℕ} {most : ℕ} where
   pub all-verified : {w : Walk} {b : List ℕ} (way : ReachedAlone keys nonce most w b) → AllVerify (with-answers way)
   unfolding AllVerify with-answers
   all-verified (begun b e) = tt
-  all-verified (took w b sent received rand response Next way l t) =
+  all-verified (took w b sent received rand response (Next o) way l t) =
       (all-verified way, verified w sent received rand response (length b) (t .0))
-  all-verified (took w b sent received rand response (Ended r) way l t) =
+  all-verified (took w b sent received rand response (Ended o r) way l t) =
       (all-verified way, verified w sent received rand response (length b) (t .0))
   all-verified (took w b sent received rand response (Refused why) way l t) = all-verified way
 
@@ -55,23 +56,24 @@ module _
     (keys nonce : List ℕ) (most : ℕ) (n32 : length nonce ≡ 32) (w : Walk) (b : List ℕ)
     (way : ReachedAlone keys nonce most w b) (sent received : ℕ) (rand response : List ℕ) (rl : length rand ≡ 32) where
   -- where it says malfeasance and names records i and j, the pile goes the whole way,
-  pub the-whole-way-alone : (i j : ℕ) → Takes w (ownHeard w sent received rand response) response b (Ended (Pair i j))
+  pub the-whole-way-alone : (o : Window) (i j : ℕ)
+      → Takes w (ownHeard w sent received rand response) response b (Ended o (Pair i j))
       → Bytes (recorded w response b) → WholeWay (pileOf (2 * w .count) (recorded w response b)) i j
   unfolding with-answers
-  the-whole-way-alone i j t =
-      the-whole-way keys nonce most n32 w b (with-answers way) (ownHeard w sent received rand response) response rl i j
-      t (all-verified (took w b sent received rand response (Ended (Pair i j)) way rl t))
+  the-whole-way-alone o i j t =
+      the-whole-way keys nonce most n32 w b (with-answers way) (ownHeard w sent received rand response) response rl o i j
+      t (all-verified (took w b sent received rand response (Ended o (Pair i j)) way rl t))
 
   -- and where the window of an accepted response lies wholly after that of a later one, the pile convicts
   pub lie-convicts-alone :
-      (r : Report) (t : Takes w (ownHeard w sent received rand response) response b (Ended r))
+      (o : Window) (r : Report) (t : Takes w (ownHeard w sent received rand response) response b (Ended o r))
       → Bytes (recorded w response b) → (i j : ℕ) → i < j → j < 2 * w .count
       → T
       (windowsClash
-      (windowIn (body (getD (heard (with-answers (took w b sent received rand response (Ended r) way rl t))) i [])))
-      (windowIn (body (getD (heard (with-answers (took w b sent received rand response (Ended r) way rl t))) j []))))
+      (windowIn (body (getD (heard (with-answers (took w b sent received rand response (Ended o r) way rl t))) i [])))
+      (windowIn (body (getD (heard (with-answers (took w b sent received rand response (Ended o r) way rl t))) j []))))
       → Convicts (pileOf (2 * w .count) (recorded w response b))
   unfolding with-answers
-  lie-convicts-alone r t =
-      lie-convicts keys nonce most n32 w b (with-answers way) (ownHeard w sent received rand response) response rl r t
-      (all-verified (took w b sent received rand response (Ended r) way rl t))
+  lie-convicts-alone o r t =
+      lie-convicts keys nonce most n32 w b (with-answers way) (ownHeard w sent received rand response) response rl o r t
+      (all-verified (took w b sent received rand response (Ended o r) way rl t))

@@ -15,6 +15,7 @@ use Rattle.report.specs.declared.Taken.{Taken}
 use Rattle.report.specs.declared.Taken.the-variants.{Run, NoRun}
 use Rattle.signatures.proofs.Verdicts.{until-check}
 use Rattle.hearing.proofs.Verified.{both-yes}
+use Rattle.verdict.specs.declared.Window.{Window}
 use Rattle.walk.specs.State.{requestNow}
 use Rattle.walk.specs.Starting.{begunWalk}
 use Rattle.walk.specs.Taking.{takeCode, recorded, movedOn, pileOf, allYes, Takes}
@@ -49,19 +50,19 @@ pub lent-yes : {keys nonce : List ℕ} {most : ℕ} (w : Walk) (b : List ℕ) (w
     → lent way ≡ allYes (w .step)
 unfolding lent begunWalk movedOn
 lent-yes w b (begun c e) = refl
-lent-yes w b (took v c h x Next way l t) =
+lent-yes w b (took v c h x (Next o) way l t) =
     one-more (v .step) (lent way) h (lent-yes v c way) (answers-yes v h x (length c) (t .0))
-lent-yes w b (took v c h x (Ended r) way l t) =
+lent-yes w b (took v c h x (Ended o r) way l t) =
     one-more (v .step) (lent way) h (lent-yes v c way) (answers-yes v h x (length c) (t .0))
 lent-yes w b (took v c h x (Refused why) way l t) = lent-yes v c way
 
 -- Of the call that ends a walk, and the pile that it leaves:
 module _
     (keys nonce : List ℕ) (most : ℕ) (n32 : length nonce ≡ 32) (w : Walk) (b : List ℕ)
-    (way : Reached keys nonce most w b) (h : Heard) (response : List ℕ) (rl : length (h .rand) ≡ 32) (r : Report)
-    (t : Takes w h response b (Ended r)) where
+    (way : Reached keys nonce most w b) (h : Heard) (response : List ℕ) (rl : length (h .rand) ≡ 32) (o : Window)
+    (r : Report) (t : Takes w h response b (Ended o r)) where
   abbrev last-way : Reached keys nonce most (movedOn w h response) (recorded w response b)
-  last-way = took w b h response (Ended r) way rl t
+  last-way = took w b h response (Ended o r) way rl t
 
   abbrev left : List ℕ
   left = pileOf (2 * w .count) (recorded w response b)
@@ -77,15 +78,15 @@ module _
   -- with them the report check says what the walk said,
   pub checked-as-lent : (s : Report) → Reports left (lent last-way) s → s ≡ r
   checked-as-lent s p =
-      ends-checked keys nonce most n32 w b way h response rl r t s (rw ends-lent at p)
+      ends-checked keys nonce most n32 w b way h response rl o r t s (rw ends-lent at p)
 
   -- and the cutter takes a run exactly where it said malfeasance
   pub cut-as-lent : (room i j : ℕ) (c : Taken) → r ≡ Pair i j → length left ≤ room
       → cutter.Takes left (lent last-way) room c → c ≡ Run i j
   cut-as-lent room i j c e l u =
-      ends-cut keys nonce most n32 w b way h response rl r t room i j c e l (rw ends-lent at u)
+      ends-cut keys nonce most n32 w b way h response rl o r t room i j c e l (rw ends-lent at u)
 
   pub uncut-as-lent : (room : ℕ) (c : Taken) → r ≡ Clear → length left ≤ room
       → cutter.Takes left (lent last-way) room c → c ≡ NoRun
   uncut-as-lent room c e l u =
-      ends-uncut keys nonce most n32 w b way h response rl r t room c e l (rw ends-lent at u)
+      ends-uncut keys nonce most n32 w b way h response rl o r t room c e l (rw ends-lent at u)

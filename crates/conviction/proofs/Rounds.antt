@@ -13,6 +13,7 @@ use Rattle.laws.specs.Same.{same}
 use Rattle.laws.proofs.Same.{same-refl}
 use Rattle.pile.specs.Pile.{recordAt, keyIn}
 use Rattle.report.specs.declared.Report.{Report}
+use Rattle.verdict.specs.declared.Window.{Window}
 use Rattle.walk.specs.State.{keyAt}
 use Rattle.walk.specs.Starting.{serversIn, twice}
 use Rattle.walk.specs.Taking.{recorded, movedOn, pileOf, Takes}
@@ -33,8 +34,8 @@ use Rattle.conviction.specs.Rounds.{TwoRounds}
 none-twice : {keys nonce : List ℕ} {most : ℕ} {w : Walk} {b : List ℕ} → Reached keys nonce most w b
     → twice keys (serversIn keys) ≡ false
 none-twice {keys} (begun b e) = accepting.begun keys (length b) refl e .differ
-none-twice (took w b h response Next way l t) = none-twice way
-none-twice (took w b h response (Ended r) way l t) = none-twice way
+none-twice (took w b h response (Next o) way l t) = none-twice way
+none-twice (took w b h response (Ended o r) way l t) = none-twice way
 none-twice (took w b h response (Refused why) way l t) = none-twice way
 
 -- so that a key is of one server only
@@ -63,8 +64,8 @@ first-or-second m n = by (ltb m n) refl
 
 module _
     (keys nonce : List ℕ) (most : ℕ) (n32 : length nonce ≡ 32) (w : Walk) (b : List ℕ)
-    (way : Reached keys nonce most w b) (h : Heard) (response : List ℕ) (rl : length (h .rand) ≡ 32) (r : Report)
-    (t : Takes w h response b (Ended r)) where
+    (way : Reached keys nonce most w b) (h : Heard) (response : List ℕ) (rl : length (h .rand) ≡ 32) (o : Window)
+    (r : Report) (t : Takes w h response b (Ended o r)) where
   abbrev left : List ℕ
   left = pileOf (2 * w .count) (recorded w response b)
 
@@ -75,12 +76,12 @@ module _
   one-key = one-server keys (w .count) (rw servers (none-twice way))
 
   in-first : (k : ℕ) → k < w .count → keyIn (recordAt left k) ≡ keyAt keys k
-  in-first = first-round keys nonce most n32 w b way h response rl r t
+  in-first = first-round keys nonce most n32 w b way h response rl o r t
 
   in-second : (k : ℕ) → k < w .count → keyIn (recordAt left (k + w .count)) ≡ keyAt keys k
   in-second k l =
       ap (λ (m : ℕ). keyIn (recordAt left m)) (add-comm k (w .count))
-      ∙ second-round keys nonce most n32 w b way h response rl r t k l
+      ∙ second-round keys nonce most n32 w b way h response rl o r t k l
 
   same-first : (k m : ℕ) → k < w .count → m < w .count → keyIn (recordAt left m) ≡ keyAt keys k → m ≡ k
   same-first k m l i e = one-key m k i l (sym (in-first m i) ∙ e)
@@ -96,7 +97,7 @@ module _
   -- the pile that a walk leaves is that of two rounds,
   pub ends-in-two-rounds : TwoRounds keys (w .count) left
   ends-in-two-rounds = record {
-    two-each = ends-with keys nonce most n32 w b way h response rl r t;
+    two-each = ends-with keys nonce most n32 w b way h response rl o r t;
     first = in-first;
     second = in-second;
     no-other = λ k m l u e.
@@ -105,17 +106,17 @@ module _
   }
 
   -- of as many responses as were accepted,
-  pub all-heard : length (heard (took w b h response (Ended r) way rl t)) ≡ 2 * w .count
+  pub all-heard : length (heard (took w b h response (Ended o r) way rl t)) ≡ 2 * w .count
   unfolding movedOn
   all-heard =
       let a = accepted w h response (length b) refl (t .0) in
       holds keys nonce most n32 (movedOn w h response) (recorded w response b)
-      (took w b h response (Ended r) way rl t) .many
+      (took w b h response (Ended o r) way rl t) .many
       ∙ omega (arith, a .goes .inside, t .1 .0)
 
   -- and with 8 servers, whose keys are 256 bytes, they are 16
   pub sixteen-for-eight : length keys ≡ 256
-      → (length (heard (took w b h response (Ended r) way rl t)) ≡ 16)
+      → (length (heard (took w b h response (Ended o r) way rl t)) ≡ 16)
       × (pileOf (2 * w .count) (recorded w response b) ≡ take 65536 (recorded w response b))
       × TwoRounds keys 8 (take 65536 (recorded w response b))
   sixteen-for-eight l =

@@ -57,10 +57,10 @@ module _ (keys nonce : List ℕ) (most : ℕ) (n32 : length nonce ≡ 32) where
       → (k : ℕ) → k < w .step → InRecord (recordAt b k)
   unfolding AllVerify begunWalk movedOn
   in-records w b (begun c e) v k l = absurd (omega arith)
-  in-records w b (took u c h x Next way rl t) v k l =
+  in-records w b (took u c h x (Next o) way rl t) v k l =
       these-more u c (standing keys nonce most n32 u c way) h x (accepted u h x (length c) refl (t .0)) rl (v .1)
       (λ m g. in-records u c way (v .0) m g) k l
-  in-records w b (took u c h x (Ended r) way rl t) v k l =
+  in-records w b (took u c h x (Ended o r) way rl t) v k l =
       these-more u c (standing keys nonce most n32 u c way) h x (accepted u h x (length c) refl (t .0)) rl (v .1)
       (λ m g. in-records u c way (v .0) m g) k l
   in-records w b (took u c h x (Refused why) way rl t) v k l = in-records u c way v k l

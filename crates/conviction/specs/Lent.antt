@@ -16,6 +16,6 @@ answersIn h = answerByte (h .delegation) ∷ answerByte (h .signature) ∷ []
 unfoldable pub lent : {keys nonce : List ℕ} {most : ℕ} {w : Walk} {buffer : List ℕ}
     → Reached keys nonce most w buffer → List ℕ
 lent (begun buffer e) = []
-lent (took w buffer h response Next way l t) = lent way ++ answersIn h
-lent (took w buffer h response (Ended r) way l t) = lent way ++ answersIn h
+lent (took w buffer h response (Next v) way l t) = lent way ++ answersIn h
+lent (took w buffer h response (Ended v r) way l t) = lent way ++ answersIn h
 lent (took w buffer h response (Refused why) way l t) = lent way

@@ -20,6 +20,6 @@ pub record Verifies (key response : List ℕ) : Type 0 where
 unfoldable pub AllVerify : {keys nonce : List ℕ} {most : ℕ} {w : Walk} {buffer : List ℕ}
     → Reached keys nonce most w buffer → Type 0
 AllVerify (begun buffer e) = Unit {0}
-AllVerify (took w buffer h response Next way l t) = AllVerify way × Verifies (keyOf w) response
-AllVerify (took w buffer h response (Ended r) way l t) = AllVerify way × Verifies (keyOf w) response
+AllVerify (took w buffer h response (Next v) way l t) = AllVerify way × Verifies (keyOf w) response
+AllVerify (took w buffer h response (Ended v r) way l t) = AllVerify way × Verifies (keyOf w) response
 AllVerify (took w buffer h response (Refused why) way l t) = AllVerify way

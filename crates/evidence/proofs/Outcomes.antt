@@ -15,10 +15,10 @@ use Rattle.evidence.specs.Walking.{tbTook}
 
 module _ (w : Walk) (h : Heard) (response pile : List ℕ) where
   pub nothing-said : (s : Said) → Takes w h response pile s → tbTook s .outcome ≡ 0 ↔ (tbTook s .code ≡ 0 → ⊥)
-  nothing-said Next t = (λ e. absurd (omega (arith, e)), λ n. absurd (n refl))
-  nothing-said (Ended (Pair i j)) t = (λ e. absurd (omega (arith, e)), λ n. absurd (n refl))
-  nothing-said (Ended Bad) t = (λ e. absurd (omega (arith, e)), λ n. absurd (n refl))
-  nothing-said (Ended (Record why k)) t = (λ e. absurd (omega (arith, e)), λ n. absurd (n refl))
-  nothing-said (Ended (Unlinked k)) t = (λ e. absurd (omega (arith, e)), λ n. absurd (n refl))
-  nothing-said (Ended Clear) t = (λ e. absurd (omega (arith, e)), λ n. absurd (n refl))
+  nothing-said (Next v) t = (λ e. absurd (omega (arith, e)), λ n. absurd (n refl))
+  nothing-said (Ended v (Pair i j)) t = (λ e. absurd (omega (arith, e)), λ n. absurd (n refl))
+  nothing-said (Ended v Bad) t = (λ e. absurd (omega (arith, e)), λ n. absurd (n refl))
+  nothing-said (Ended v (Record why k)) t = (λ e. absurd (omega (arith, e)), λ n. absurd (n refl))
+  nothing-said (Ended v (Unlinked k)) t = (λ e. absurd (omega (arith, e)), λ n. absurd (n refl))
+  nothing-said (Ended v Clear) t = (λ e. absurd (omega (arith, e)), λ n. absurd (n refl))
   nothing-said (Refused why) t = (λ e. t .1, λ n. refl)

@@ -84,8 +84,8 @@ pub struct TbAsked {
     pub nonce: [u8; 32],
 }
 
-// What `tb_walk_take` and `tb_walk_take_signed` answer: how the walk stands, and at its end the two records that
-// contradict.
+// What `tb_walk_take` and `tb_walk_take_signed` answer: how the walk stands, at its end the two records that
+// contradict, and the window of the response that was taken.
 #[repr(C)]
 pub struct TbTook {
     pub code: u32,
@@ -93,4 +93,10 @@ pub struct TbTook {
     pub at: u64,
     pub first: u64,
     pub second: u64,
+    pub midp: u64,
+    pub low: u64,
+    pub high: u64,
+    pub mint: u64,
+    pub maxt: u64,
+    pub radi: u32,
 }

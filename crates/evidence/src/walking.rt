@@ -4,6 +4,7 @@ ghost use Rattle.evidence.specs.Walking.{tbAsked, standsAt, endTold, tbT
 use super::TbAsked;
 use super::TbTook;
 use report::Report;
+use verdict::Window;
 use walk::Asked;
 use walk::Said;
 
@@ -26,46 +27,52 @@ pub fn took_told(s: Said) -> TbTook
     ensures { λ r. ⌜ r ≡ tbTook s ⌝ }
 {
     match s {
-        Said::Next => stands_at(1),
-        Said::Ended(r) => end_told(r),
+        Said::Next(v) => stands_at(1, v, 0, 0),
+        Said::Ended(v, r) => end_told(v, r),
         Said::Refused(why) => TbTook {
             code: why.code as u32,
             outcome: 0,
             at: why.at as u64,
             first: 0,
             second: 0,
+            midp: 0,
+            low: 0,
+            high: 0,
+            mint: 0,
+            maxt: 0,
+            radi: 0,
         },
     }
 }
 
 // The end of a walk. A pile that is not what the walk wrote is told as that, and never as consistent.
-fn end_told(r: Report) -> TbTook
-    ensures { λ x. ⌜ x ≡ endTold r ⌝ }
+fn end_told(v: Window, r: Report) -> TbTook
+    ensures { λ x. ⌜ x ≡ endTold v r ⌝ }
 {
     match r {
-        Report::Pair(i, j) => TbTook {
-            code: 0,
-            outcome: 3,
-            at: 0,
-            first: i as u64,
-            second: j as u64,
-        },
-        Report::Clear => stands_at(2),
-        Report::Bad => stands_at(4),
-        Report::Record(_, _) => stands_at(4),
-        Report::Unlinked(_) => stands_at(4),
+        Report::Pair(i, j) => stands_at(3, v, i, j),
+        Report::Clear => stands_at(2, v, 0, 0),
+        Report::Bad => stands_at(4, v, 0, 0),
+        Report::Record(_, _) => stands_at(4, v, 0, 0),
+        Report::Unlinked(_) => stands_at(4, v, 0, 0),
     }
 }
 
-// An answer that names no pair.
-fn stands_at(outcome: u32) -> TbTook
-    ensures { λ r. ⌜ r ≡ standsAt outcome ⌝ }
+// How the walk stands with an accepted response of this window, and the two records that are named.
+fn stands_at(outcome: u32, v: Window, first: usize, second: usize) -> TbTook
+    ensures { λ r. ⌜ r ≡ standsAt outcome v first second ⌝ }
 {
     TbTook {
         code: 0,
         outcome: outcome,
         at: 0,
-        first: 0,
-        second: 0,
+        first: first as u64,
+        second: second as u64,
+        midp: v.midp,
+        low: v.low,
+        high: v.high,
+        mint: v.mint,
+        maxt: v.maxt,
+        radi: v.radi,
     }
 }

@@ -1,4 +1,4 @@
--- The refusal that the response check tells: where it passes, none, which carries no place.
+-- The refusal that a check tells: where it passes, none, which carries no place.
 use Prim.Native.Nat.{ℕ}
 use mathlib.Core.Path.{_≡_, refl, sym, ap₂}
 use mathlib.Core.Bool.{Bool, true, false, cond}
@@ -10,11 +10,10 @@ use Rattle.laws.proofs.First.{row-quiet, test-quiet}
 use Rattle.refusal.specs.Refusal.{passed, refusals}
 use Rattle.refusal.specs.declared.Refusal.{Refusal}
 use Rattle.wire.specs.Places.{Bare}
-use Rattle.verdict.specs.Check.{answersCode, agreementCode, checkCode, verdictOf}
+use Rattle.verdict.specs.Check.{answersCode, agreementCode, checkCode}
 use Rattle.verdict.specs.declared.Verdict.{Verdict}
 use Rattle.verdict.specs.declared.Verdict.the-variants.{Valid, Refused}
 use Rattle.verdict.specs.declared.Window.{Window}
-use Rattle.verdict.proofs.Places.{check-bare}
 
 -- the refusal of an answer
 abbrev pub refusalIn : Verdict → Refusal
@@ -27,17 +26,14 @@ quiet-none why bare z =
     let at : why .at ≡ 0 = bare (λ k. let l = k .least in omega arith) in
     sym (ap₂ (λ (c a : ℕ). record { code = c; at = a }) z at)
 
-by-refusal : (why : Refusal) (w : Window) → Bare why
+-- the refusal in an answer that is made by one
+pub by-refusal : (why : Refusal) (w : Window) → Bare why
     → refusalIn (cond (eqb (why .code) 0) (Valid w) (Refused why)) ≡ why
 by-refusal why w bare = by (eqb (why .code) 0) refl
   where
     by : (t : Bool) → eqb (why .code) 0 ≡ t → refusalIn (cond t (Valid w) (Refused why)) ≡ why
     by true e = quiet-none why bare (eqb-true (why .code) 0 e)
     by false e = refl
-
-pub check-refusal : (q p : List ℕ) (d s : Bool) → refusalIn (verdictOf q p d s) ≡ checkCode q p d s
-unfolding verdictOf
-check-refusal q p d s = by-refusal (checkCode q p d s) _ (check-bare q p d s)
 
 -- a response that passes has both answers yes
 pub check-yes : (q p : List ℕ) (d s : Bool) → checkCode q p d s .code ≡ 0 → checkCode q p true true .code ≡ 0

@@ -16,6 +16,7 @@ use Rattle.laws.proofs.Zeros.{zeros-replicate}
 use Rattle.refusal.specs.Refusal.{refusals}
 use Rattle.verdict.specs.Check.{checkCode, windowIn}
 use Rattle.verdict.specs.declared.Verdict.the-variants.{Valid}
+use Rattle.verdict.specs.declared.Window.{Window}
 use Rattle.wire.specs.Packet.{body}
 use Rattle.wire.specs.Request.{requestBad}
 use Rattle.pile.specs.Pile.{recordsIn, recordAt, requestPacket, responsePacket, saidYes}
@@ -163,14 +164,14 @@ module _
 
 module _
     (keys nonce : List ℕ) (most : ℕ) (n32 : length nonce ≡ 32) (w : Walk) (b : List ℕ)
-    (way : Reached keys nonce most w b) (h : Heard) (response : List ℕ) (rl : length (h .rand) ≡ 32) (r : Report)
-    (t : Takes w h response b (Ended r)) where
+    (way : Reached keys nonce most w b) (h : Heard) (response : List ℕ) (rl : length (h .rand) ≡ 32) (v : Window)
+    (r : Report) (t : Takes w h response b (Ended v r)) where
   abbrev last-way : Reached keys nonce most (movedOn w h response) (recorded w response b)
-  last-way = took w b h response (Ended r) way rl t
+  last-way = took w b h response (Ended v r) way rl t
 
   -- the pile, two records a server, and its answers
   abbrev left : List ℕ
-  left = pileOf (2 * w .count) (pileAfter (Ended r) w response b)
+  left = pileOf (2 * w .count) (pileAfter (Ended v r) w response b)
 
   abbrev yeses : List ℕ
   yeses = allYes (2 * w .count)
@@ -274,7 +275,7 @@ module _
 
   pub lie-heard : (i j : ℕ) → i < j → j < 2 * w .count
       → T
-      (windowsClash (windowIn (body (getD (heard (took w b h response (Ended r) way rl t)) i [])))
-      (windowIn (body (getD (heard (took w b h response (Ended r) way rl t)) j []))))
+      (windowsClash (windowIn (body (getD (heard (took w b h response (Ended v r) way rl t)) i [])))
+      (windowIn (body (getD (heard (took w b h response (Ended v r) way rl t)) j []))))
       → Accepts r
   lie-heard i j o l c = lie-told i j o l (rw (window-of i (omega arith), window-of j l) c)

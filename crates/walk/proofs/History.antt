@@ -68,10 +68,10 @@ module _ (keys nonce : List ℕ) (most : ℕ) (n32 : length nonce ≡ 32) where
   pub holds : (w : Walk) (b : List ℕ) (way : Reached keys nonce most w b) → Holds w b (heard way) (records way)
   unfolding heard records begunWalk
   holds w b (begun c e) = record { many = refl; each = λ k l. absurd (omega arith); all = refl }
-  holds w b (took v c h x Next way l t) =
+  holds w b (took v c h x (Next u) way l t) =
       holds-more v c (standing keys nonce most n32 v c way) (heard way) (records way) (holds v c way) h x
       (accepted v h x (length c) refl (t .0)) l
-  holds w b (took v c h x (Ended r) way l t) =
+  holds w b (took v c h x (Ended u r) way l t) =
       holds-more v c (standing keys nonce most n32 v c way) (heard way) (records way) (holds v c way) h x
       (accepted v h x (length c) refl (t .0)) l
   holds w b (took v c h x (Refused why) way l t) = holds v c way

@@ -6,6 +6,7 @@ pub mod Laid
 pub mod Checked
 pub mod Taken
 pub mod Codes
+pub mod Answering
 pub mod Once
 pub mod Standing
 pub mod History

@@ -28,14 +28,15 @@ quiet e n z = n (ap (λ (r : Refusal). r .code) e ∙ z)
 
 module _ (w : Walk) (h : Heard) (x b : List ℕ) where
   pub said-once : (s t : Said) → Takes w h x b s → Takes w h x b t → s ≡ t
-  said-once Next Next p q = refl
-  said-once Next (Ended r) p q = absurd (omega (arith, p .1, q .1 .0))
-  said-once Next (Refused c) p q = absurd (quiet (q .0) (q .1) (p .0))
-  said-once (Ended r) Next p q = absurd (omega (arith, q .1, p .1 .0))
-  said-once (Ended r) (Ended s) p q = ap Ended (report-once _ _ r s (p .1 .1) (q .1 .1))
-  said-once (Ended r) (Refused c) p q = absurd (quiet (q .0) (q .1) (p .0))
-  said-once (Refused c) Next p q = absurd (quiet (p .0) (p .1) (q .0))
-  said-once (Refused c) (Ended r) p q = absurd (quiet (p .0) (p .1) (q .0))
+  said-once (Next v) (Next u) p q = ap Next (p .1 .1 ∙ sym (q .1 .1))
+  said-once (Next v) (Ended u r) p q = absurd (omega (arith, p .1 .0, q .1 .0))
+  said-once (Next v) (Refused c) p q = absurd (quiet (q .0) (q .1) (p .0))
+  said-once (Ended v r) (Next u) p q = absurd (omega (arith, q .1 .0, p .1 .0))
+  said-once (Ended v r) (Ended u s) p q =
+      ap₂ Ended (p .1 .2 ∙ sym (q .1 .2)) (report-once _ _ r s (p .1 .1) (q .1 .1))
+  said-once (Ended v r) (Refused c) p q = absurd (quiet (q .0) (q .1) (p .0))
+  said-once (Refused c) (Next v) p q = absurd (quiet (p .0) (p .1) (q .0))
+  said-once (Refused c) (Ended v r) p q = absurd (quiet (p .0) (p .1) (q .0))
   said-once (Refused c) (Refused d) p q = ap Refused (p .0 ∙ sym (q .0))
 
   -- the state and the buffer too

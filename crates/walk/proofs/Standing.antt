@@ -213,8 +213,8 @@ module _ (keys nonce : List ℕ) (most : ℕ) where
     -- wherever the caller comes to
     pub standing : (w : Walk) (b : List ℕ) → Reached keys nonce most w b → Stands keys nonce most w b
     standing w b (begun c e) = stands-first c e
-    standing w b (took v c h x Next s l t) =
+    standing w b (took v c h x (Next u) s l t) =
         stands-more v c (standing v c s) h x (accepted v h x (length c) refl (t .0)) l
-    standing w b (took v c h x (Ended r) s l t) =
+    standing w b (took v c h x (Ended u r) s l t) =
         stands-more v c (standing v c s) h x (accepted v h x (length c) refl (t .0)) l
     standing w b (took v c h x (Refused why) s l t) = standing v c s

@@ -12,7 +12,10 @@ use Rattle.pile.specs.Recording.{recordBytes}
 use Rattle.refusal.specs.Refusal.{first, when}
 use Rattle.refusal.specs.declared.Refusal.{Refusal}
 use Rattle.report.specs.Report.{Reports}
-use Rattle.verdict.specs.Check.{checkCode}
+use Rattle.verdict.specs.Check.{checkCode, windowIn, verdictBy}
+use Rattle.verdict.specs.declared.Verdict.{Verdict}
+use Rattle.verdict.specs.declared.Window.{Window}
+use Rattle.wire.specs.Packet.{body}
 use Rattle.walk.specs.State.{overOf, keyOf, requestNow}
 use Rattle.walk.specs.declared.Walk.{Walk}
 use Rattle.walk.specs.declared.Heard.{Heard}
@@ -44,6 +47,10 @@ takeCode w h response room =
     ∷ when (tooSlow w h) 27
     ∷ responseCodeNow w h response
     ∷ [])
+
+-- the answer of these checks: the window of the response, where nothing is refused (request P9)
+unfoldable pub takeVerdict : Walk → Heard → List ℕ → ℕ → Verdict
+takeVerdict w h response room = verdictBy (takeCode w h response room) (windowIn (body response))
 
 -- ---- an accepted response
 
@@ -77,40 +84,44 @@ pileOf n buffer = take (4096 * n) buffer
 abbrev pub allYes : ℕ → List ℕ
 allYes n = replicate (2 * n) 1
 
--- what is said once the record of this step stands in the buffer: there is a next, or the walk has ended, two records a
--- server, with what the report check says of the pile
-abbrev pub SaidOf : Walk → List ℕ → Said → Type 0
-SaidOf w buffer Next = w .step + 1 < 2 * w .count
-SaidOf w buffer (Ended r) =
-    (2 * w .count ≤ w .step + 1) × Reports (pileOf (2 * w .count) buffer) (allYes (2 * w .count)) r
-SaidOf w buffer (Refused why) = ⊥
+-- what is said of a response with the window v once its record stands in the buffer: that window, and there is a next,
+-- or the walk has ended, two records a server, with what the report check says of the pile
+abbrev pub SaidOf : Walk → Window → List ℕ → Said → Type 0
+SaidOf w v buffer (Next window) = (w .step + 1 < 2 * w .count) × (window ≡ v)
+SaidOf w v buffer (Ended window r) =
+    (2 * w .count ≤ w .step + 1)
+    × Reports (pileOf (2 * w .count) buffer) (allYes (2 * w .count)) r
+    × (window ≡ v)
+SaidOf w v buffer (Refused why) = ⊥
 
--- the answer: that, where nothing is refused, or the first refusal
+-- the answer: that, with the response's own window, where nothing is refused, or the first refusal
 abbrev pub Takes : Walk → Heard → List ℕ → List ℕ → Said → Type 0
-Takes w h response buffer Next =
-    (takeCode w h response (length buffer) .code ≡ 0) × SaidOf w (recorded w response buffer) Next
-Takes w h response buffer (Ended r) =
-    (takeCode w h response (length buffer) .code ≡ 0) × SaidOf w (recorded w response buffer) (Ended r)
+Takes w h response buffer (Next v) =
+    (takeCode w h response (length buffer) .code ≡ 0)
+    × SaidOf w (windowIn (body response)) (recorded w response buffer) (Next v)
+Takes w h response buffer (Ended v r) =
+    (takeCode w h response (length buffer) .code ≡ 0)
+    × SaidOf w (windowIn (body response)) (recorded w response buffer) (Ended v r)
 Takes w h response buffer (Refused why) = (why ≡ takeCode w h response (length buffer)) × (why .code ≡ 0 → ⊥)
 
 -- its number and its byte place, 0 where nothing is refused
 abbrev pub saidNumber : Said → ℕ
-saidNumber Next = 0
-saidNumber (Ended r) = 0
+saidNumber (Next v) = 0
+saidNumber (Ended v r) = 0
 saidNumber (Refused why) = why .code
 
 abbrev pub saidAt : Said → ℕ
-saidAt Next = 0
-saidAt (Ended r) = 0
+saidAt (Next v) = 0
+saidAt (Ended v r) = 0
 saidAt (Refused why) = why .at
 
 -- the state and the buffer afterwards, by the answer: a refusal leaves both
 abbrev pub walkAfter : Said → Walk → Heard → List ℕ → Walk
-walkAfter Next w h response = movedOn w h response
-walkAfter (Ended r) w h response = movedOn w h response
+walkAfter (Next v) w h response = movedOn w h response
+walkAfter (Ended v r) w h response = movedOn w h response
 walkAfter (Refused why) w h response = w
 
 abbrev pub pileAfter : Said → Walk → List ℕ → List ℕ → List ℕ
-pileAfter Next w response buffer = recorded w response buffer
-pileAfter (Ended r) w response buffer = recorded w response buffer
+pileAfter (Next v) w response buffer = recorded w response buffer
+pileAfter (Ended v r) w response buffer = recorded w response buffer
 pileAfter (Refused why) w response buffer = buffer

@@ -23,14 +23,14 @@ pub data Reached (keys nonce : List ℕ) (most : ℕ) : Walk → List ℕ → Ty
 unfoldable pub heard : {keys nonce : List ℕ} {most : ℕ} {w : Walk} {buffer : List ℕ} → Reached keys nonce most w buffer
     → List (List ℕ)
 heard (begun buffer e) = []
-heard (took w buffer h response Next way l t) = heard way ++ (response ∷ [])
-heard (took w buffer h response (Ended r) way l t) = heard way ++ (response ∷ [])
+heard (took w buffer h response (Next v) way l t) = heard way ++ (response ∷ [])
+heard (took w buffer h response (Ended v r) way l t) = heard way ++ (response ∷ [])
 heard (took w buffer h response (Refused why) way l t) = heard way
 
 -- their records, one after the other
 unfoldable pub records : {keys nonce : List ℕ} {most : ℕ} {w : Walk} {buffer : List ℕ}
     → Reached keys nonce most w buffer → List ℕ
 records (begun buffer e) = []
-records (took w buffer h response Next way l t) = records way ++ recordNow w response
-records (took w buffer h response (Ended r) way l t) = records way ++ recordNow w response
+records (took w buffer h response (Next v) way l t) = records way ++ recordNow w response
+records (took w buffer h response (Ended v r) way l t) = records way ++ recordNow w response
 records (took w buffer h response (Refused why) way l t) = records way

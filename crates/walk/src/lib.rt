@@ -13,6 +13,7 @@ use report::Report;
 pub use starting::start;
 pub use taking::take;
 pub use taking::take_code;
+use verdict::Window;
 
 // The state between packets: the servers' keys, 32 bytes each, and how many there are; the step, from 0; the nonce of
 // the request that is asked, and the rand that it was made with; when the last accepted response was received; and the
@@ -50,11 +51,11 @@ pub struct Heard {
     pub rand: [u8; 32],
 }
 
-// What is said of a response: it is accepted and there is a next to ask; it is accepted and the last, with what the
-// report check says of the pile; or it is refused.
+// What is said of a response: it is accepted, with its window, and there is a next to ask; it is accepted, with its
+// window, and the last, with what the report check says of the pile; or it is refused.
 pub enum Said {
-    Next,
-    Ended(Report),
+    Next(Window),
+    Ended(Window, Report),
     Refused(Refusal),
 }
 

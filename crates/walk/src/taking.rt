@@ -2,8 +2,10 @@
 ghost use mathlib.Core.Path.{_≡_};
 ghost use Prim.Native.Nat.{_*_, _≤_};
 ghost use lib.ListN.{length};
-ghost use Rattle.walk.specs.State.{Going};
-ghost use Rattle.walk.specs.Taking.{clockWrong, responseCodeNow, takeCode, movedOn, SaidOf, Takes};
+ghost use Rattle.wire.specs.Packet.{body};
+ghost use Rattle.verdict.specs.Check.{windowIn, verdictOf};
+ghost use Rattle.walk.specs.State.{Going, requestNow};
+ghost use Rattle.walk.specs.Taking.{clockWrong, takeCode, takeVerdict, movedOn, SaidOf, Takes};
 ghost use Rattle.walk.specs.Taking.{saidNumber, walkAfter, pileAfter};
 use super::Heard;
 use super::Moved;
@@ -20,6 +22,7 @@ use refusal::codes;
 use refusal::refuse;
 use report::check_report;
 use verdict::Verdict;
+use verdict::Window;
 use verdict::check_response;
 
 // Takes the response to the request that was asked. A refusal leaves the state and the pile as they were.
@@ -31,15 +34,30 @@ pub fn take(w: Walk, h: Heard, response: &[u8], pile: &mut [u8]) -> Moved
     ensures { λ r. ⌜ r .walk ≡ walkAfter (r .said) w h (now (response .entry)) ⌝ }
     ensures { λ r. ⌜ now (pile .exit) ≡ pileAfter (r .said) w (now (response .entry)) (now (pile .entry)) ⌝ }
 {
-    let c = take_code(w, h, response, pile.len());
-    if c.code != 0 {
-        return Moved {
-            said: Said::Refused(c),
+    let v = take_verdict(w, h, response, pile.len());
+    match v {
+        Verdict::Refused(why) => Moved {
+            said: Said::Refused(why),
             walk: w,
-        };
+        },
+        Verdict::Valid(window) => accept(w, h, window, response, pile),
     }
+}
+
+// Writes the record of a response that nothing refuses, and moves on.
+fn accept(w: Walk, h: Heard, window: Window, response: &[u8], pile: &mut [u8]) -> Moved
+    requires { ⌜
+        (takeCode w h (now response) (length (now pile)) .code ≡ 0) × (window ≡ windowIn (body (now response)))
+        ⌝ }
+    ensures { λ r. ⌜
+        saidNumber (r .said) ≡ takeCode w h (now (response .entry)) (length (now (pile .entry))) .code
+        ⌝ }
+    ensures { λ r. ⌜ Takes w h (now (response .entry)) (now (pile .entry)) (r .said) ⌝ }
+    ensures { λ r. ⌜ r .walk ≡ walkAfter (r .said) w h (now (response .entry)) ⌝ }
+    ensures { λ r. ⌜ now (pile .exit) ≡ pileAfter (r .said) w (now (response .entry)) (now (pile .entry)) ⌝ }
+{
     put_record(w, response, pile);
-    let s = said_of(w, pile);
+    let s = said_of(w, window, pile);
     let next = moved_on(w, h, response);
     Moved {
         said: s,
@@ -51,19 +69,30 @@ pub fn take(w: Walk, h: Heard, response: &[u8], pile: &mut [u8]) -> Moved
 pub fn take_code(w: Walk, h: Heard, response: &[u8], room: usize) -> Refusal
     ensures { λ r. ⌜ r ≡ takeCode w h (now (response .entry)) room ⌝ }
 {
+    let v = take_verdict(w, h, response, room);
+    match v {
+        Verdict::Valid(_) => PASSED,
+        Verdict::Refused(why) => why,
+    }
+}
+
+// The same, or the window of the response where nothing refuses it.
+fn take_verdict(w: Walk, h: Heard, response: &[u8], room: usize) -> Verdict
+    ensures { λ r. ⌜ r ≡ takeVerdict w h (now (response .entry)) room ⌝ }
+{
     if over(w) {
-        return refuse(codes::ENDED);
+        return Verdict::Refused(refuse(codes::ENDED));
     }
     if room < 2 * RECORD * w.count {
-        return refuse(codes::ROOM);
+        return Verdict::Refused(refuse(codes::ROOM));
     }
     if clock_wrong(w, h) {
-        return refuse(codes::CLOCK);
+        return Verdict::Refused(refuse(codes::CLOCK));
     }
     if w.most < h.received - h.sent {
-        return refuse(codes::DELAY);
+        return Verdict::Refused(refuse(codes::DELAY));
     }
-    response_code_now(w, h, response)
+    verdict_now(w, h, response)
 }
 
 // It was received before it was sent for, or sent for before the last was received.
@@ -76,33 +105,29 @@ fn clock_wrong(w: Walk, h: Heard) -> bool
     h.sent < w.last
 }
 
-// Codes 1 to 13 of the response to the request that was asked.
-fn response_code_now(w: Walk, h: Heard, response: &[u8]) -> Refusal
+// What the response check says of the response to the request that was asked.
+fn verdict_now(w: Walk, h: Heard, response: &[u8]) -> Verdict
     requires { ⌜ Going w ⌝ }
-    ensures { λ r. ⌜ r ≡ responseCodeNow w h (now (response .entry)) ⌝ }
+    ensures { λ r. ⌜ r ≡ verdictOf (requestNow w) (now (response .entry)) (h .delegation) (h .signature) ⌝ }
 {
     let q = request_now(w);
     let c = check_response(&q, response, h.delegation, h.signature);
-    let v = c.verdict;
-    match v {
-        Verdict::Valid(_) => PASSED,
-        Verdict::Refused(why) => why,
-    }
+    c.verdict
 }
 
-// What is said once the record of this step is written: the last one ends the walk, with what the report check says of
-// the pile.
-fn said_of(w: Walk, pile: &[u8]) -> Said
+// What is said of a response with this window once its record is written: the last one ends the walk, with what the
+// report check says of the pile.
+fn said_of(w: Walk, window: Window, pile: &[u8]) -> Said
     requires { ⌜ Going w × (8192 * w .count ≤ length (now pile)) ⌝ }
-    ensures { λ r. ⌜ SaidOf w (now (pile .entry)) r ⌝ }
+    ensures { λ r. ⌜ SaidOf w window (now (pile .entry)) r ⌝ }
 {
     let n = 2 * w.count;
     if w.step + 1 < n {
-        return Said::Next;
+        return Said::Next(window);
     }
     let yes = [1u8; 32];
     let r = check_report(&pile[..RECORD * n], &yes[..2 * n]);
-    Said::Ended(r)
+    Said::Ended(window, r)
 }
 
 // The state behind this step: the next nonce is the hash of the response and the rand.

@@ -103,7 +103,7 @@ pub use trees::{
     leads, path, path_from, root, rows, Laid, Placed, Rooted, MOST_LEAVES, MOST_ROWS_LENGTH,
 };
 pub use verifying::{verify, verify_parts};
-pub use walk::{Asked, Heard, Outcome, Walk, FEWEST_SERVERS, MOST_SERVERS};
+pub use walk::{Asked, Heard, Outcome, Taken, Walk, FEWEST_SERVERS, MOST_SERVERS};
 
 /// A SHA-512 digest.
 pub type Digest = [u8; 64];

@@ -340,6 +340,18 @@ pub struct tb_took {
     pub first: u64,
     /// The place of the later one; else 0.
     pub second: u64,
+    /// MIDP of the response that was taken.
+    pub midp: u64,
+    /// The low end of its window.
+    pub low: u64,
+    /// The high end of its window.
+    pub high: u64,
+    /// MINT.
+    pub mint: u64,
+    /// MAXT.
+    pub maxt: u64,
+    /// RADI.
+    pub radi: u32,
 }
 
 /// What [`tb_clock_now_fields`] answers.

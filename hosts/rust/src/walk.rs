@@ -6,7 +6,7 @@ use alloc::{vec, vec::Vec};
 use core::slice;
 
 use crate::raw::{self, tb_asked, tb_took, tb_walk};
-use crate::{Hash, PacketRefusal, Pair, Refusal, RECORD_LENGTH, REQUEST_LENGTH};
+use crate::{Hash, PacketRefusal, Pair, Refusal, Window, RECORD_LENGTH, REQUEST_LENGTH};
 
 /// The fewest servers of a walk.
 pub const FEWEST_SERVERS: usize = 3;
@@ -57,6 +57,17 @@ pub enum Outcome {
     PileAltered,
 }
 
+/// What a walk says of a response that it took.
+#[derive(Clone, Copy, Debug, PartialEq, Eq)]
+#[must_use]
+pub struct Taken {
+    /// How the walk stands.
+    pub outcome: Outcome,
+    /// The window of the response: what the server that was [asked](Asked::server) said. The last
+    /// one has it, too, whatever the walk ends in.
+    pub window: Window,
+}
+
 /// A measuring walk (draft 19, section 8.2) over 3 to 8 servers: each is asked once, and then each
 /// once more in the same order. It holds the state between packets and the pile of the records.
 ///
@@ -81,8 +92,9 @@ pub enum Outcome {
 ///     let asked = walk.ask()?;
 ///     let (sent, response, received) = (now(), exchange(&asked), now());
 ///     // What is refused changes nothing: a host waits, and the same is asked again.
-///     if let Ok(said) = walk.take_signed(&response, sent, received, &random()) {
-///         outcome = said;
+///     if let Ok(taken) = walk.take_signed(&response, sent, received, &random()) {
+///         assert_eq!((taken.window.low, taken.window.high), (997, 1003));
+///         outcome = taken.outcome;
 ///     }
 /// }
 /// assert_eq!(outcome, Outcome::Consistent);
@@ -181,11 +193,10 @@ impl<Buffer: AsRef<[u8]> + AsMut<[u8]>> Walk<Buffer> {
     /// has under two records a server; 26 where the response was received before it was sent for,
     /// or sent for before the last one was received; 27 where it took too long; and 1 to 13 as
     /// [`check_response`](crate::check_response) has them. The walk stays as it was.
-    pub fn take(&mut self, response: &[u8], heard: &Heard) -> Result<Outcome, PacketRefusal> {
+    pub fn take(&mut self, response: &[u8], heard: &Heard) -> Result<Taken, PacketRefusal> {
         let answers = [heard.delegation, heard.signature].map(u32::from);
         let (when, pile) = ([heard.sent, heard.received], self.buffer.as_mut());
-        let took = self.state.take(answers, when, &heard.rand, response, pile);
-        outcome(took)
+        of_took(self.state.take(answers, when, &heard.rand, response, pile))
     }
 
     /// The same with no answers: the response's two signatures are verified under the key of the
@@ -202,8 +213,8 @@ impl<Buffer: AsRef<[u8]> + AsMut<[u8]>> Walk<Buffer> {
         sent: u64,
         received: u64,
         rand: &[u8; 32],
-    ) -> Result<Outcome, PacketRefusal> {
-        outcome(self.state.take_signed([sent, received], rand, response, self.buffer.as_mut()))
+    ) -> Result<Taken, PacketRefusal> {
+        of_took(self.state.take_signed([sent, received], rand, response, self.buffer.as_mut()))
     }
 
     /// The records so far, one for each response that was taken. With answers that are all 1 they
@@ -342,15 +353,18 @@ impl tb_walk {
 }
 
 /// What a call of a taker answered.
-fn outcome(took: tb_took) -> Result<Outcome, PacketRefusal> {
+fn of_took(took: tb_took) -> Result<Taken, PacketRefusal> {
     PacketRefusal::check(took.code, took.at)?;
+    let tb_took { midp, radi, low, high, mint, maxt, .. } = took;
+    let window = Window { midp, radi, low, high, mint, maxt };
     // A pair is of two records of the pile, so that nothing is lost.
-    Ok(match took.outcome {
+    let outcome = match took.outcome {
         raw::TB_GOES_ON => Outcome::GoesOn,
         raw::TB_CONSISTENT => Outcome::Consistent,
         raw::TB_MALFEASANCE => {
             Outcome::Malfeasance(Pair { first: took.first as usize, second: took.second as usize })
         }
         _ => Outcome::PileAltered,
-    })
+    };
+    Ok(Taken { outcome, window })
 }

@@ -13,12 +13,13 @@ use independent::walk::{Arrived, Heard};
 use independent::write;
 use std::collections::BTreeMap;
 use support::guarded::Guarded;
+use support::packets::ResponseFields;
 use support::signing::{Forgery, Servers, FORGERIES};
 use support::tally::Tally;
 use support::walks::{self, Between, Story, Window, FAULTS};
 use support::{counted, shortest, Xorshift};
-use trawlbeacon::raw::{self, tb_took, tb_walk};
-use trawlbeacon::{Answers, Outcome, Pair, Walk};
+use trawlbeacon::raw::{tb_took, tb_walk};
+use trawlbeacon::{Answers, Pair, Walk};
 
 const WALKS: usize = 300;
 const MADE_UP: usize = 3_000;
@@ -65,17 +66,7 @@ fn given(state: &tb_walk, pile: &[u8], arrived: &Arrived) -> Left {
 fn safe_is(left: &Left, state: &tb_walk, pile: &[u8], arrived: &Arrived) -> bool {
     let mut walk = Walk::resume(*state, pile.to_vec());
     let said = walk.take_signed(arrived.response, arrived.sent, arrived.received, &arrived.rand);
-    let tb_took { code, outcome, at, first, second } = left.took;
-    let pair = Pair { first: first as usize, second: second as usize };
-    let same = match said {
-        Err(why) => (why.code(), why.at.unwrap_or(0) as u64) == (code, at),
-        Ok(Outcome::GoesOn) => (code, outcome) == (0, raw::TB_GOES_ON),
-        Ok(Outcome::Consistent) => (code, outcome) == (0, raw::TB_CONSISTENT),
-        Ok(Outcome::Malfeasance(named)) => {
-            (code, outcome) == (0, raw::TB_MALFEASANCE) && named == pair
-        }
-        Ok(Outcome::PileAltered) => (code, outcome) == (0, raw::TB_PILE_ALTERED),
-    };
+    let same = walks::safe(said) == left.took;
     same && walk.state() == left.state && left.pile.starts_with(walk.pile())
 }
 
@@ -216,6 +207,17 @@ impl Comparison {
 
     /// A response to what is asked, with these faults.
     fn response(&mut self, pace: &Pace, window: Window, wrong: &[u32]) -> (Vec<u8>, u32) {
+        let (_, packet, code) = self.told(pace, window, wrong);
+        (packet, code)
+    }
+
+    /// What it says, too.
+    fn told(
+        &mut self,
+        pace: &Pace,
+        window: Window,
+        wrong: &[u32],
+    ) -> (ResponseFields, Vec<u8>, u32) {
         let request = write::request(&key_asked(&pace.state), &pace.state.nonce);
         let mut fields = walks::answer(&mut self.random, &request, &pace.state.nonce, window);
         walks::wrong(&mut self.random, &mut fields, wrong);
@@ -232,10 +234,10 @@ impl Comparison {
             12 if next => "NextServer".to_string(),
             12 => format!("{:?}", forged[0].expect("it is forged")),
             13 => format!("{:?}", forged[1].expect("it is forged")),
-            _ => return (packet, code),
+            _ => return (fields, packet, code),
         };
         *self.forged.entry((code, how)).or_insert(0) += 1;
-        (packet, code)
+        (fields, packet, code)
     }
 
     /// A call that is refused, for one reason or several, of which the first counts.
@@ -267,11 +269,11 @@ impl Comparison {
     /// A call that is accepted.
     fn accepted(&mut self, pace: &mut Pace, story: &Story) {
         let step = pace.step();
-        let (response, _) = self.response(pace, story.windows[step], &[]);
+        let (fields, response, _) = self.told(pace, story.windows[step], &[]);
         let (sent, received) = self.right_times(&pace.state);
         let rand = self.random.array();
         let arrived = Arrived { response: &response, sent, received, rand };
-        let due = walks::due(&story.windows, step);
+        let due = walks::due(&story.windows, step, &fields);
         let left = self.take(&pace.state, &pace.pile, &arrived, Some(due));
         assert_eq!(left.state.step as usize, step + 1, "a right response was not accepted");
         (pace.state, pace.pile) = (left.state, left.pile);

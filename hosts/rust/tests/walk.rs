@@ -276,7 +276,8 @@ impl Comparison {
     /// A call that is accepted. Gives the response.
     fn accepted(&mut self, pace: &mut Pace, request: &[u8], story: &Story, step: usize) -> Vec<u8> {
         let (nonce, window) = (pace.state.nonce, story.windows[step]);
-        let response = walks::answer(&mut self.random, request, &nonce, window).packet();
+        let fields = walks::answer(&mut self.random, request, &nonce, window);
+        let response = fields.packet();
         let (sent, received) = self.right_times(&pace.state);
         self.border("0: sent when the last was received", sent == pace.state.last);
         self.border("0: received when it was sent", sent == received);
@@ -289,7 +290,7 @@ impl Comparison {
             received,
             rand: self.random.array(),
         };
-        let due = walks::due(&story.windows, step);
+        let due = walks::due(&story.windows, step, &fields);
         let room = pace.pile.len();
         self.take(pace, &heard, room, due);
         let server = step % pace.state.count as usize;
@@ -634,16 +635,11 @@ fn the_safe_walk_is_the_lent_one() {
                 let heard = trawlbeacon::Heard { delegation, signature, sent, received, rand };
                 // What is kept and gone on with is the same walk.
                 walk = Walk::resume(walk.state(), pile_of(&walk, count));
-                match walk.take(packet, &heard) {
-                    Err(why) => {
-                        let at = why.at.unwrap_or(0) as u64;
-                        assert_eq!((why.code(), at), (took.code, took.at));
-                        refused += 1;
-                    }
-                    Ok(outcome) => {
-                        assert_eq!((took.code, same_outcome(took)), (0, outcome));
-                        said = outcome;
-                    }
+                let taken = walk.take(packet, &heard);
+                assert_eq!(walks::safe(taken), took);
+                match taken {
+                    Err(_) => refused += 1,
+                    Ok(taken) => said = taken.outcome,
                 }
                 assert_eq!(walk.state(), state);
                 assert!(walk.pile() == &pile[..state.step as usize * RECORD]);
@@ -661,18 +657,18 @@ fn the_safe_walk_is_the_lent_one() {
     println!("{SAFE} walks by the safe type, with {refused} refused calls, as with a lent pile");
 }
 
-/// What a host loops over: the code at which it stops, how often it asked, and what was last said.
+/// What a host loops over: the code at which it stops, how often it asked, and the last outcome.
 fn looped(
     state: &mut tb_walk,
     pile: &mut [u8],
     answer: &mut dyn FnMut(&[u8], &Hash) -> Vec<u8>,
-) -> (u32, usize, tb_took) {
+) -> (u32, usize, u32) {
     let (mut took, mut turns) = (walks::NOTHING, 0);
     loop {
         let mut request = [0; trawlbeacon::REQUEST_LENGTH];
         let asked = state.ask(&mut request);
         if asked.code != 0 {
-            return (asked.code, turns, took);
+            return (asked.code, turns, took.outcome);
         }
         turns += 1;
         let response = answer(&request, &asked.nonce);
@@ -699,10 +695,10 @@ fn a_loop_over_a_walk_that_has_ended_ends() {
             packet
         };
         let said = looped(&mut state, &mut pile, &mut answer);
-        assert_eq!(said, (28, 4 * count, walks::ended(None)));
+        assert_eq!(said, (28, 4 * count, raw::TB_CONSISTENT));
         let mut nobody = |_: &[u8], _: &Hash| panic!("a walk that has ended asks");
         let again = looped(&mut state, &mut pile, &mut nobody);
-        assert_eq!(again, (28, 0, walks::NOTHING));
+        assert_eq!(again, (28, 0, raw::TB_NOTHING_SAID));
         // By the outcome.
         let (mut outcome, mut turns) = (raw::TB_GOES_ON, 0);
         while outcome == raw::TB_GOES_ON {
@@ -725,16 +721,4 @@ fn pile_of(walk: &Walk, count: usize) -> Vec<u8> {
     let mut pile = walk.pile().to_vec();
     pile.resize(2 * count * RECORD, 0);
     pile
-}
-
-fn same_outcome(took: tb_took) -> Outcome {
-    match took.outcome {
-        raw::TB_GOES_ON => Outcome::GoesOn,
-        raw::TB_CONSISTENT => Outcome::Consistent,
-        raw::TB_MALFEASANCE => {
-            let (first, second) = (took.first as usize, took.second as usize);
-            Outcome::Malfeasance(Pair { first, second })
-        }
-        _ => Outcome::PileAltered,
-    }
 }

@@ -94,7 +94,9 @@ fn walked(random: &mut Xorshift, ed25519: &Ed25519, servers: &[Server]) -> Seen 
             let refused = take(&servers[(asked.server + 1) % servers.len()]);
             assert_eq!(refused.unwrap_err().refusal, Refusal::Delegation);
         }
-        outcome = take(&servers[asked.server]).expect("a right answer");
+        let taken = take(&servers[asked.server]).expect("a right answer");
+        assert_eq!((taken.window.midp, taken.window.radi), window);
+        outcome = taken.outcome;
         windows.push(window);
         moment += 1 + random.below(5) as u64;
     }

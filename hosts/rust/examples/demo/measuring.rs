@@ -8,7 +8,7 @@ use std::error::Error;
 use std::io;
 use std::net::UdpSocket;
 use std::thread;
-use trawlbeacon::{Asked, Outcome, Walk, Window, LONGEST_PACKET};
+use trawlbeacon::{Asked, Outcome, Taken, Walk, Window, LONGEST_PACKET};
 
 /// The longest delay that the walk accepts, in whole seconds.
 const LONGEST: u64 = 1;
@@ -36,23 +36,24 @@ impl Console {
             let asked = walk.ask()?;
             self.says(format!("asks {} for record {}", self.name(asked.server), windows.len()));
             let sent = self.teller.micros_down();
-            outcome = self.step(&mut walk, &asked)?;
+            let taken = self.step(&mut walk, &asked)?;
             let received = self.teller.micros_up();
-            let window = trawlbeacon::judge_signed(walk.pile(), windows.len())?.window;
-            self.clock.take(asked.server, &window, sent, received)?;
-            self.says(format!("hears {}: {}", self.name(asked.server), words::window(&window)));
-            windows.push(window);
+            self.clock.take(asked.server, &taken.window, sent, received)?;
+            let said = words::window(&taken.window);
+            self.says(format!("hears {}: {said}", self.name(asked.server)));
+            windows.push(taken.window);
+            outcome = taken.outcome;
         }
         Ok(Measured { outcome, pile: walk.pile().to_vec(), windows })
     }
 
     /// Asks one server, with the same request over and over, until an answer is taken.
-    fn step(&mut self, walk: &mut Walk, asked: &Asked) -> Result<Outcome, Box<dyn Error>> {
+    fn step(&mut self, walk: &mut Walk, asked: &Asked) -> Result<Taken, Box<dyn Error>> {
         let name = self.name(asked.server);
         loop {
-            if let Some(outcome) = self.attempt(walk, asked)? {
+            if let Some(taken) = self.attempt(walk, asked)? {
                 self.backoffs[asked.server].answered();
-                return Ok(outcome);
+                return Ok(taken);
             }
             let backoff = &mut self.backoffs[asked.server];
             let wait = backoff.failed();
@@ -67,7 +68,7 @@ impl Console {
 
     /// Sends the request once, from a port of its own, and listens for a while. A packet that is
     /// refused changes nothing: the right one may still come behind it.
-    fn attempt(&self, walk: &mut Walk, asked: &Asked) -> io::Result<Option<Outcome>> {
+    fn attempt(&self, walk: &mut Walk, asked: &Asked) -> io::Result<Option<Taken>> {
         let socket = UdpSocket::bind("127.0.0.1:0")?;
         socket.connect(self.servers[asked.server].address)?;
         let sent = self.teller.since_boot();
@@ -83,7 +84,7 @@ impl Console {
             let Ok(length) = socket.recv(&mut packet) else { continue };
             let (sent, received) = (sent.as_secs(), self.teller.since_boot().as_secs());
             match walk.take_signed(&packet[..length], sent, received, &keys::random()?) {
-                Ok(outcome) => return Ok(Some(outcome)),
+                Ok(taken) => return Ok(Some(taken)),
                 Err(why) => {
                     let (name, code) = (self.name(asked.server), why.code());
                     self.says(format!("refuses {name}'s answer with code {code}: {why}"));

@@ -176,8 +176,11 @@ impl From<raw::tb_asked> for Answer {
 
 impl From<raw::tb_took> for Answer {
     fn from(told: raw::tb_took) -> Self {
-        let raw::tb_took { code, outcome, at, first, second } = told;
-        Answer::code(code).at(at).numbers(&[outcome.into(), first, second])
+        let raw::tb_took { code, outcome, at, first, second, midp, low, high, mint, maxt, radi } =
+            told;
+        let pair = [outcome.into(), first, second];
+        let window = [midp, low, high, mint, maxt, radi.into()];
+        Answer::code(code).at(at).numbers(&[&pair[..], &window].concat())
     }
 }
 

@@ -4,13 +4,15 @@ use super::damage;
 use super::packets::{number, ResponseFields};
 use super::pairs::NOES;
 use super::Xorshift;
+use independent::check;
 use independent::hash::{self, Hash};
 use independent::pile::RECORD;
 use independent::place;
 use independent::refusal::Refusal;
 use independent::tree;
-use independent::walk::{Arrived, Asked, Heard, Stand, Walk};
+use independent::walk::{self, Arrived, Asked, Heard, Stand, Walk};
 use trawlbeacon::raw::{self, tb_asked, tb_took, tb_walk};
+use trawlbeacon::{Outcome, PacketRefusal, Pair, Taken};
 
 /// A window, by its MIDP and RADI.
 pub type Window = (u64, u32);
@@ -84,45 +86,75 @@ pub fn asked(answer: Result<Asked, Refusal>) -> tb_asked {
 }
 
 /// What stands beside the code of a refusal, but for its place.
-pub const NOTHING: tb_took =
-    tb_took { code: 0, outcome: raw::TB_NOTHING_SAID, at: 0, first: 0, second: 0 };
+pub const NOTHING: tb_took = tb_took {
+    code: 0,
+    outcome: raw::TB_NOTHING_SAID,
+    at: 0,
+    first: 0,
+    second: 0,
+    midp: 0,
+    low: 0,
+    high: 0,
+    mint: 0,
+    maxt: 0,
+    radi: 0,
+};
 
-/// What ours must answer where the walk goes on.
-const GOES_ON: tb_took = tb_took { outcome: raw::TB_GOES_ON, ..NOTHING };
-
-/// Where it ends with windows of which these two contradict each other, or none do.
-pub fn ended(contradict: Option<(usize, usize)>) -> tb_took {
-    match contradict {
-        None => tb_took { outcome: raw::TB_CONSISTENT, ..NOTHING },
-        Some((first, second)) => {
-            let (first, second) = (first as u64, second as u64);
-            tb_took { outcome: raw::TB_MALFEASANCE, first, second, ..NOTHING }
-        }
-    }
+/// What ours must answer to an accepted response where the walk stands so.
+fn standing(stand: Stand) -> tb_took {
+    let outcome = match stand {
+        Stand::GoesOn => raw::TB_GOES_ON,
+        Stand::Consistent => raw::TB_CONSISTENT,
+        Stand::Malfeasance(..) => raw::TB_MALFEASANCE,
+        Stand::Altered => raw::TB_PILE_ALTERED,
+    };
+    let (first, second) = match stand {
+        Stand::Malfeasance(first, second) => (first as u64, second as u64),
+        _ => (0, 0),
+    };
+    tb_took { outcome, first, second, ..NOTHING }
 }
 
-/// Where the response of this step is taken, in a walk whose servers tell these windows.
-pub fn due(windows: &[Window], step: usize) -> tb_took {
-    if step + 1 < windows.len() {
-        GOES_ON
-    } else {
-        ended(contradiction(windows))
-    }
+/// Where this response, the one of this step, is taken in a walk whose servers tell these windows.
+pub fn due(windows: &[Window], step: usize, response: &ResponseFields) -> tb_took {
+    let ended = contradiction(windows)
+        .map_or(Stand::Consistent, |(first, second)| Stand::Malfeasance(first, second));
+    let stand = if step + 1 < windows.len() { Stand::GoesOn } else { ended };
+    let &ResponseFields { midp, radi, mint, maxt, .. } = response;
+    let [low, high] = [midp.saturating_sub(radi.into()), midp.saturating_add(radi.into())];
+    tb_took { midp, radi, low, high, mint, maxt, ..standing(stand) }
 }
 
 /// Where the independent side answered that to a response.
-pub fn took(answer: Result<Stand, Refusal>, response: &[u8]) -> tb_took {
+pub fn took(answer: Result<walk::Taken, Refusal>, response: &[u8]) -> tb_took {
     match answer {
-        Ok(Stand::GoesOn) => GOES_ON,
-        Ok(Stand::Consistent) => ended(None),
-        Ok(Stand::Malfeasance(first, second)) => ended(Some((first, second))),
-        Ok(Stand::Altered) => tb_took { outcome: raw::TB_PILE_ALTERED, ..NOTHING },
+        Ok(walk::Taken { stand, window: check::Window { midp, radi, low, high, mint, maxt } }) => {
+            tb_took { midp, radi, low, high, mint, maxt, ..standing(stand) }
+        }
         Err(refusal) => {
             let code = refusal.code();
             let at = (4..=7).contains(&code).then(|| place::in_response(response)).flatten();
             tb_took { code, at: at.map_or(0, |place| place.at as u64), ..NOTHING }
         }
     }
+}
+
+/// What the safe walk said, as the library tells it.
+pub fn safe(said: Result<Taken, PacketRefusal>) -> tb_took {
+    let Taken { outcome, window } = match said {
+        Ok(taken) => taken,
+        Err(why) => {
+            return tb_took { code: why.code(), at: why.at.unwrap_or(0) as u64, ..NOTHING };
+        }
+    };
+    let stand = match outcome {
+        Outcome::GoesOn => Stand::GoesOn,
+        Outcome::Consistent => Stand::Consistent,
+        Outcome::Malfeasance(Pair { first, second }) => Stand::Malfeasance(first, second),
+        Outcome::PileAltered => Stand::Altered,
+    };
+    let trawlbeacon::Window { midp, radi, low, high, mint, maxt } = window;
+    tb_took { midp, radi, low, high, mint, maxt, ..standing(stand) }
 }
 
 /// A valid response to this request, short but now and then.

@@ -6,13 +6,13 @@ use Rattle.evidence.proofs.walking.took_told.Statement.{statement}
 use Rattle.evidence.proofs.walking.took_told.Tie as tie
 
 returns : tie.Need-returns
-returns c = c .stands-at .ensures ∙ sym (ap tbTook (c .before .enum-told .given .1))
+returns c = c .stands-at .ensures ∙ sym (ap tbTook (c .before .before .s .given .1))
 
 returns-2 : tie.Need-returns-2
-returns-2 c = c .end-told .ensures ∙ sym (ap tbTook (c .before .before .s .given .1))
+returns-2 c = c .end-told .ensures ∙ sym (ap tbTook (c .before .before .s2 .given .1))
 
 returns-3 : tie.Need-returns-3
-returns-3 c = sym (ap tbTook (c .before .before .s2 .given .1))
+returns-3 c = sym (ap tbTook (c .before .before .s3 .given .1))
 
 pub took-told-spec : {M : Type 1} → statement M
 took-told-spec =

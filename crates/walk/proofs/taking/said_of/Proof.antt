@@ -8,6 +8,9 @@ use borrow.Author.Needs.{needs}
 use Rattle.walk.proofs.taking.said_of.Statement.{statement}
 use Rattle.walk.proofs.taking.said_of.Tie as tie
 
+returns : tie.Need-returns
+returns c = (c .if1 .taken, refl)
+
 slice-aggregate-check-report : tie.Need-slice-aggregate-check-report
 slice-aggregate-check-report c = simp length-take (omega arith)
 
@@ -20,7 +23,7 @@ returns-2 : tie.Need-returns-2
 returns-2 c =
     let s = c .before .before .before .before .before .before .before in
     let w = s .args .w in
-    ends w (s .args .pile .now) (2 * w .count) (c .check-report .result) (s .pre .0) (omega arith) refl
+    ends w (s .args .window) (s .args .pile .now) (2 * w .count) (c .check-report .result) (s .pre .0) (omega arith) refl
     (c .check-report .ensures .1)
 
 pub said-of-spec : {M : Type 1} → statement M
@@ -29,7 +32,7 @@ said-of-spec =
     (tie.spec
     (λ c. search needs)
     (λ c. search needs)
-    (λ c. search needs)
+    returns
     (λ c. search needs)
     slice-aggregate-check-report
     (λ c. search needs)
