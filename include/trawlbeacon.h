@@ -233,10 +233,11 @@ static inline const char *tb_code_text(uint32_t code) {
 #define TB_MOST_ROWS_LENGTH (32 * (2 * TB_MOST_LEAVES - 1))
 
 /* Bytes of stack that are enough for every tree operation; hosts/c/stack.c sees on the machine at
- * hand whether they are. tb_root, tb_path and tb_rows have room for a row of TB_MOST_LEAVES nodes
- * there, also where few leaves are built in a shorter one: 34,576 bytes at the most, measured on
- * aarch64. tb_path_from takes next to nothing, and tb_leads 1,456. */
-#define TB_TREE_STACK 40960
+ * hand whether they are. tb_root, tb_path and tb_rows have room there for two levels of
+ * TB_MOST_LEAVES nodes, one of which is made of the other: 69,280 bytes at the most, measured on
+ * aarch64, and half of that for up to 32 leaves. tb_path_from takes next to nothing, and tb_leads
+ * 1,456. */
+#define TB_TREE_STACK 131072
 
 /* Bytes of stack that are enough for a verification, which has a table of 10,240 numbers there, and
  * for every function that verifies by itself but tb_cut_signed_text. A verification takes 48,744 at
@@ -247,7 +248,7 @@ static inline const char *tb_code_text(uint32_t code) {
 /* Bytes of stack that are enough for tb_cut_text and tb_cut_signed_text, which hold sixteen records
  * there: 72,944 and 118,072, measured under an emulator of aarch64, and 73,032 and 118,000 on
  * x86-64. hosts/c/stack.c measures them anew. Of functions for which none of the three constants is
- * meant it measures 26, and none takes over 10,856. */
+ * meant it measures 26, and none takes over 11,680. */
 #define TB_TEXT_STACK 163840
 
 /* Bytes of a record of a list of servers. */
@@ -924,13 +925,22 @@ enum tb_outcome {
 
 /* What is said of a response: a code, beside which the outcome is TB_NOTHING_SAID, or how the walk
  * stands. first and second are the places of two records that contradict each other, as
- * tb_check_report names them, on TB_MALFEASANCE only. at is a byte of the response packet. */
+ * tb_check_report names them, on TB_MALFEASANCE only. at is a byte of the response packet. The rest
+ * is the window of the response that was taken, as tb_verdict tells it: that of the server that
+ * tb_asked named. The last response has one, too, whatever is said of the walk; beside a code it is
+ * zeros. */
 struct tb_took {
     uint32_t code;
     uint32_t outcome;
     uint64_t at;
     uint64_t first;
     uint64_t second;
+    uint64_t midp;
+    uint64_t low;
+    uint64_t high;
+    uint64_t mint;
+    uint64_t maxt;
+    uint32_t radi;
 };
 
 /* What the functions below call, with the fields of a state one by one, which must not overlap each

@@ -14,6 +14,7 @@ use std::collections::BTreeSet;
 #[derive(Clone, Copy)]
 pub enum Stack {
     Least,
+    Tree,
     Verify,
     Text,
 }
@@ -21,8 +22,8 @@ pub enum Stack {
 impl Stack {
     pub fn bytes(self) -> usize {
         any_header::number(match self {
-            Stack::Least => "TB_TREE_STACK",
-            Stack::Verify => "TB_VERIFY_STACK",
+            Stack::Tree => "TB_TREE_STACK",
+            Stack::Least | Stack::Verify => "TB_VERIFY_STACK",
             Stack::Text => "TB_TEXT_STACK",
         })
     }

@@ -1,7 +1,7 @@
 //! Hashes, at once and in pieces, and trees.
 
 use crate::any_answers::Answer;
-use crate::any_exports::{export, Export, Stack::Least, NOTHING, YES_OR_NO};
+use crate::any_exports::{export, Export, Stack, Stack::Least, NOTHING, YES_OR_NO};
 use crate::any_trial::{Id, Trial, Use};
 use independent::hash::Hash;
 use independent::tree::{self, Tree};
@@ -20,9 +20,9 @@ pub const EXPORTS: &[Export] = &[
     export("tb_sha512_finish_fields", Least, 100_000, NOTHING, finish),
     export("tb_hash_finish_fields", Least, 100_000, NOTHING, hash_finish),
     export("tb_leads", Least, 60_000, YES_OR_NO, leads),
-    export("tb_root", Least, 40_000, &[(0, 0), (20, 20)], root),
-    export("tb_path", Least, 40_000, &[(0, 0), (19, 20)], path),
-    export("tb_rows", Least, 40_000, &[(0, 0), (19, 20)], rows),
+    export("tb_root", Stack::Tree, 40_000, &[(0, 0), (20, 20)], root),
+    export("tb_path", Stack::Tree, 40_000, &[(0, 0), (19, 20)], path),
+    export("tb_rows", Stack::Tree, 40_000, &[(0, 0), (19, 20)], rows),
     export("tb_path_from", Least, 100_000, &[(0, 0), (19, 20)], path_from),
 ];
 

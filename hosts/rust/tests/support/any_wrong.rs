@@ -143,7 +143,7 @@ fn before_start(t: &mut Trial) {
 }
 
 fn too_deep(t: &mut Trial) {
-    t.call(|_| Answer::yes_or_no(black_box([0u8; 72 << 10])[black_box(5)] == 1));
+    t.call(|_| Answer::yes_or_no(black_box([0u8; 96 << 10])[black_box(5)] == 1));
 }
 
 /// Makes the wrong call that the environment names, if it names one.
