@@ -235,8 +235,7 @@ static inline const char *tb_code_text(uint32_t code) {
 /* Bytes of stack that are enough for every tree operation; hosts/c/stack.c sees on the machine at
  * hand whether they are. tb_root, tb_path and tb_rows have room there for two levels of
  * TB_MOST_LEAVES nodes, one of which is made of the other: 69,280 bytes at the most, measured on
- * aarch64, and half of that for up to 32 leaves. tb_path_from takes next to nothing, and tb_leads
- * 1,456. */
+ * aarch64, and 35,184 for one leaf. tb_path_from takes next to nothing, and tb_leads 1,456. */
 #define TB_TREE_STACK 131072
 
 /* Bytes of stack that are enough for a verification, which has a table of 10,240 numbers there, and
@@ -862,8 +861,9 @@ struct tb_forwarded tb_cut_signed_text(const uint8_t *text, size_t text_len, uin
  *         took = tb_walk_take_signed(&walk, ..);   where it is refused: wait, and ask again
  *     }
  *
- * The loop goes by the code of tb_walk_ask, so that it ends, too, for a walk that had ended before
- * it, as one that was kept: took.outcome is then still TB_NOTHING_SAID.
+ * The loop goes by the code of tb_walk_ask, so that it ends, too, where a walk that was kept is gone
+ * on with, in the place of the start, and had ended before: took.outcome is then still
+ * TB_NOTHING_SAID.
  *
  * tb_walk_take_signed verifies the two signatures of a response by itself, under the key of the
  * server that was asked. tb_walk_take is for a caller with an Ed25519 of its own.
@@ -926,9 +926,9 @@ enum tb_outcome {
 /* What is said of a response: a code, beside which the outcome is TB_NOTHING_SAID, or how the walk
  * stands. first and second are the places of two records that contradict each other, as
  * tb_check_report names them, on TB_MALFEASANCE only. at is a byte of the response packet. The rest
- * is the window of the response that was taken, as tb_verdict tells it: that of the server that
- * tb_asked named. The last response has one, too, whatever is said of the walk; beside a code it is
- * zeros. */
+ * is the window of the response that was taken, as tb_verdict tells it but for pubk, which
+ * tb_judge_signed of its record has: that of the server that tb_asked named. The last response has
+ * one, too, whatever is said of the walk; beside a code it is zeros. */
 struct tb_took {
     uint32_t code;
     uint32_t outcome;
@@ -1023,9 +1023,9 @@ static inline struct tb_took tb_walk_take_signed(struct tb_walk *walk, uint64_t 
  *     start; take the window of each valid response, of a walk or of a single exchange; ask.
  *
  * Where at most `liars` of the servers that are counted lie, it is proved that the true time is
- * between the two ends, and that every suspect lies. Where 2 * liars < counted, too, each end comes
- * from a server that does not lie, so that no liar pulls it further from the truth than an honest
- * window is wide.
+ * between the two ends, and that every suspect lies. Where 2 * liars < counted, too, each end lies,
+ * when they are counted, in the span of a server that does not lie, so that no liar pulls it further
+ * from the truth than that span is wide.
  *
  * How it is found (Marzullo 1984). The span of a window at a moment runs from low, plus what has
  * passed since it was received, less the drift, to high, plus what has passed since its request was
@@ -1034,14 +1034,16 @@ static inline struct tb_took tb_walk_take_signed(struct tb_walk *walk, uint64_t 
  * span of a server is what all its windows that are used allow; a server that has one is counted.
  * The servers are counted at the newest receipt among the windows that are used. From there the two
  * ends drift on to the moment that is asked about. So waiting brings no agreement and clears no
- * suspect: code, counted, agree and suspects stay until a window is taken or one passes its maxt.
+ * suspect: code, but for 26, counted, agree and suspects stay until a window is taken or one passes
+ * its maxt.
  *
  * What the host must see to:
  *   - liars: of n servers that are asked, (n - 1) / 2 is the most that may lie before the honest
  *     ones are too few. A silent server lowers counted: with 2 * liars >= counted the answer is
  *     still right, and one liar may stretch it. counted tells which it is.
  *   - drift: what the maker of the machine's clock crystal states, and more for heat and age; 100
- *     is usual. A drift that is too small is the one lie that nothing shows.
+ *     is usual, and 500 more where the system slews it. A drift that is too small is the one lie
+ *     that nothing shows.
  *   - one clock for sent, received and moment that goes on in suspend and is never set:
  *     CLOCK_BOOTTIME on Linux. After a restart of the machine, start the clock anew.
  *   - sent is read before the first copy of a request is sent, and rounded down: an answer may be
@@ -1049,9 +1051,10 @@ static inline struct tb_took tb_walk_take_signed(struct tb_walk *walk, uint64_t 
  *   - one number for each server, for good; windows of valid responses alone, each of a request
  *     whose nonce nobody could guess.
  *   - leap seconds: the time that is told is that of timestamps, which stand still for a second at
- *     one (draft 19, 4.1.4). A window from before it is a second too late after it. Servers allow
- *     for it in their radi while it happens; the host takes a second off the low end, until every
- *     window that was taken before has been followed by two that were taken after it.
+ *     one (draft 19, 4.1.4). A window from before it is a second too late after it, as if its
+ *     server lied; beside windows from after it the time may be wrong, and honest servers suspect.
+ *     Servers allow for it in their radi while it happens. A host that knows of one starts a new
+ *     state after it.
  *
  * The state is the caller's, can be copied and kept as long as the machine runs, and is initialised
  * memory before it is started ({0} in C, {} in C++). One that no start led to does no harm: each
@@ -1108,9 +1111,9 @@ static inline uint32_t tb_clock_start(struct tb_clock *clock, uint32_t drift) {
                                  clock->received, drift);
 }
 
-/* Takes the window of a valid response of a server, 0 to 7: low, high and maxt as its tb_verdict or
- * tb_judged tells them, and when the first copy of its request was sent and it was received. It is
- * that server's newest, and the one before the newest so far is forgotten.
+/* Takes the window of a valid response of a server, 0 to 7: low, high and maxt as its tb_verdict,
+ * tb_judged or tb_took tells them, and when the first copy of its request was sent and it was
+ * received. It is that server's newest, and the one before the newest so far is forgotten.
  * The codes are 32, where the server is above 7; and 26, where it was received before it was sent
  * for, or before the last window that was taken of that server. Of two servers, the later receipt
  * may be taken first. On a refusal the state stays as it was. */

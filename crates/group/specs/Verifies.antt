@@ -22,7 +22,7 @@ pub record Verifies (key text signature : List ℕ) : Type 0 where
   pub R-is : Encodes (take 32 signature) (R .x) (R .y)
   -- S, the second half, is below L
   pub S-below : le 32 (drop 32 signature) 0 < L
-  -- [S]B = R + [k]A
+  -- [S]B = R + [k]A, without the cofactor; k is the digest modulo L (section 6)
   pub equation :
       timesOf (le 32 (drop 32 signature) 0) (pointOf base)
       ≡ sumOf R (timesOf (kOf (take 32 signature) key text) A)

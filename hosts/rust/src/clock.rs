@@ -60,7 +60,7 @@ pub struct Time {
 
 impl Time {
     /// Whether less than half of the servers that were counted may lie. Then no liar has moved an
-    /// end further than some honest server's own window allows; else one may have, though the time
+    /// end further than some honest server's span allows; else one may have, though the time
     /// is still between the two.
     #[must_use]
     pub fn is_exact(&self, liars: u64) -> bool {
