@@ -51,9 +51,9 @@ have_library() { # ARCHIVE
 
 # Puts a copy of a file in its place in one step, once it is on the disk, so that there is the old one or the new one, whole.
 put_whole() { # FILE PLACE
-    cp "$1" "$2.new"
-    sync "$2.new"
-    mv "$2.new" "$2"
+    cp "$1" "$2.new" && sync "$2.new" && mv "$2.new" "$2" && return
+    rm -f "$2.new"
+    return 1
 }
 
 # Runs a command whose words go to standard error, and says every so often that it still runs.
