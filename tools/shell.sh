@@ -58,12 +58,14 @@ put_whole() { # FILE PLACE
 
 # Runs a command whose words go to standard error, and says every so often that it still runs.
 patiently() { # WHAT COMMAND...
-    local what=$1 line began=$SECONDS
+    local what=$1 line part='' began=$SECONDS
     shift
     "$@" </dev/null 2>&1 | while :; do
         if IFS= read -r -t "${TRAWLBEACON_PULSE:-20}" line; then
-            printf '%s\n' "$line" >&2
+            printf '%s%s\n' "$part" "$line" >&2
+            part=''
         elif [ $? -gt 128 ]; then
+            part=$part$line
             say "still $what, $((SECONDS - began)) seconds so far" >&2
         else
             break
