@@ -12,7 +12,7 @@ BEGIN {
     for (at = 2; at < ARGC && ARGV[at] != "--"; at++) if (ARGV[at] ~ /^-./) flag(ARGV[at])
     if (asked == "" && (("--json" in given) || ("--dates" in given))) asked = "--judge"
     for (at = 1; at <= flags; at++) if (!((asked, order[at]) in goes)) wrong(order[at] " goes with " with[order[at]], called[asked])
-    exit asked == "--version" ? 8 : 9
+    exit (asked == "--version" ? 8 : 9)
 }
 
 # What a line of usage says: which flags an action takes, and which of them name a file.

@@ -129,7 +129,7 @@ fn other_encodings_are_named() {
     let marked = ["\u{feff}", &text].concat();
     assert!(told(marked.as_bytes()).contains("byte 0: it begins with a byte order mark"));
     for order in [u16::to_le_bytes, u16::to_be_bytes] {
-        for text in [&text, &marked, "\u{feff}時", "\u{feff}"] {
+        for text in [&text[..], &marked[..], "\u{feff}時", "\u{feff}"] {
             let wide: Vec<u8> = text.encode_utf16().flat_map(order).collect();
             assert!(why::is_utf16(&wide) && told(&wide).contains("UTF-16"), "{text}");
         }
