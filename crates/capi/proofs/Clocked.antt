@@ -5,7 +5,7 @@ use Rattle.clock.specs.State.{startedOf, takenOf}
 use Rattle.clock.specs.declared.Clock.{Clock}
 use Rattle.clock.specs.declared.Moved.{Moved}
 use Rattle.clock.proofs.Takes.{taken-drift}
-use Rattle.spans.specs.declared.Kept.{Kept}
+use Rattle.clock_spans.specs.declared.Kept.{Kept}
 use Rattle.capi.specs.Clocking.{clockOf}
 
 -- Code has what the call answers as m, and the number of its refusal as n. The drift is not written: it stays.

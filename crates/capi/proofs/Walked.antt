@@ -4,8 +4,8 @@ use mathlib.Core.Bool.{Bool}
 use mathlib.Core.Path.{_≡_, refl, subst, ap, ap₂, _∙_}
 use mathlib.Core.List.{List}
 use lib.Dec.{eqb}
-use Rattle.evidence.specs.Walking.{tbTook}
-use Rattle.evidence.specs.declared.TbTook.{TbTook}
+use Rattle.c_evidence.specs.Walking.{tbTook}
+use Rattle.c_evidence.specs.declared.TbTook.{TbTook}
 use Rattle.walk.specs.Taking.{movedOn, walkAfter}
 use Rattle.walk.specs.declared.Walk.{Walk}
 use Rattle.walk.specs.declared.Heard.{Heard}

@@ -5,9 +5,9 @@ use mathlib.Core.List.{List}
 use Prim.Native.Nat.{ℕ, _-_}
 use Rattle.refusal.specs.Refusal.{refusal}
 use Rattle.refusal.specs.declared.Refusal.{Refusal}
-use Rattle.spans.specs.declared.Span.{Span}
-use Rattle.agreement.specs.Agreement.{agreementOf}
-use Rattle.agreement.specs.declared.Agreement.{Agreement}
+use Rattle.clock_spans.specs.declared.Span.{Span}
+use Rattle.clock_agreement.specs.Agreement.{agreementOf}
+use Rattle.clock_agreement.specs.declared.Agreement.{Agreement}
 use Rattle.clock.specs.Used.{tooEarly, countingAt, spansOf}
 use Rattle.clock.specs.Answer.{later, answerOf}
 use Rattle.clock.specs.declared.Clock.{Clock}

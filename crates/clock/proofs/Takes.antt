@@ -9,7 +9,7 @@ use borrow.Author.Tests.{eq-eqb, ne-eqb, ltb-false}
 use Rattle.laws.proofs.First.{row-quiet, test-quiet}
 use Rattle.refusal.specs.Refusal.{refusal, refusals, when}
 use Rattle.refusal.specs.declared.Refusal.{Refusal}
-use Rattle.spans.specs.declared.Kept.{Kept}
+use Rattle.clock_spans.specs.declared.Kept.{Kept}
 use Rattle.clock.specs.State.{newest, takeCode, keeping, takenOf}
 use Rattle.clock.specs.declared.Clock.{Clock}
 use Rattle.clock.specs.declared.Moved.{Moved}

@@ -7,7 +7,7 @@ use lib.Dec.{eqb, ltb}
 use lib.ListN.{getD, set, replicate}
 use Rattle.refusal.specs.Refusal.{first, when}
 use Rattle.refusal.specs.declared.Refusal.{Refusal}
-use Rattle.spans.specs.declared.Kept.{Kept}
+use Rattle.clock_spans.specs.declared.Kept.{Kept}
 use Rattle.clock.specs.declared.Clock.{Clock}
 use Rattle.clock.specs.declared.Moved.{Moved}
 

@@ -4,11 +4,11 @@ ghost use Prim.Native.Nat.{_<_};
 ghost use Rattle.clock.specs.State.{startCode, startOf, startedOf, takeCode, pushed, keeping, takenOf};
 use super::Clock;
 use super::Moved;
+use clock_spans::Kept;
 use refusal::PASSED;
 use refusal::Refusal;
 use refusal::codes;
 use refusal::refuse;
-use spans::Kept;
 
 // Starts, before any window, by a clock that goes wrong by at most drift parts per million.
 pub fn start(clock: Clock, drift: u32) -> Moved

@@ -8,17 +8,17 @@ use lib.ListN.{length}
 use Rattle.laws.proofs.First.{says-0, says-more, is-last, none-quiet}
 use Rattle.refusal.specs.Refusal.{refusals, first, moved}
 use Rattle.refusal.specs.declared.Refusal.{Refusal}
-use Rattle.message.specs.Frame.{count, tagAt, frameCode}
-use Rattle.message.specs.Rules.{Row, messageCode}
-use Rattle.message.specs.Sentences.{TagsRise}
-use Rattle.message.proofs.Codes.{code-5}
-use Rattle.wire.specs.Packet.{packetCode, packetOf, body, bodyStart}
-use Rattle.wire.specs.Request.{requestCode, requestMessageCode}
-use Rattle.wire.specs.Response.{responseCode, responseMessageCode, shapeCode}
-use Rattle.wire.specs.Tables.{requestTable, rootTable}
-use Rattle.wire.proofs.Packets.{length-packet, body-packed, packet-packed}
-use Rattle.wire.proofs.RequestCodes.{request-says}
-use Rattle.wire.proofs.ResponseCodes.{response-says}
+use Rattle.wire_message.specs.Frame.{count, tagAt, frameCode}
+use Rattle.wire_message.specs.Rules.{Row, messageCode}
+use Rattle.wire_message.specs.Sentences.{TagsRise}
+use Rattle.wire_message.proofs.Codes.{code-5}
+use Rattle.wire_packet.specs.Packet.{packetCode, packetOf, body, bodyStart}
+use Rattle.wire_packet.specs.Request.{requestCode, requestMessageCode}
+use Rattle.wire_packet.specs.Response.{responseCode, responseMessageCode, shapeCode}
+use Rattle.wire_packet.specs.Tables.{requestTable, rootTable}
+use Rattle.wire_packet.proofs.Packets.{length-packet, body-packed, packet-packed}
+use Rattle.wire_packet.proofs.RequestCodes.{request-says}
+use Rattle.wire_packet.proofs.ResponseCodes.{response-says}
 use Rattle.examples.specs.Claims.{EqualTags, Refuses}
 
 -- equal refusals have one number

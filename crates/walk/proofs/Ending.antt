@@ -14,30 +14,30 @@ use Rattle.laws.specs.Pasted.{fronted}
 use Rattle.laws.proofs.First.{row-quiet, test-quiet}
 use Rattle.laws.proofs.Zeros.{zeros-replicate}
 use Rattle.refusal.specs.Refusal.{refusals}
-use Rattle.verdict.specs.Check.{checkCode, windowIn}
-use Rattle.verdict.specs.declared.Verdict.the-variants.{Valid}
-use Rattle.verdict.specs.declared.Window.{Window}
-use Rattle.wire.specs.Packet.{body}
-use Rattle.wire.specs.Request.{requestBad}
+use Rattle.check_response.specs.Check.{checkCode, windowIn}
+use Rattle.check_response.specs.declared.Verdict.the-variants.{Valid}
+use Rattle.check_response.specs.declared.Window.{Window}
+use Rattle.wire_packet.specs.Packet.{body}
+use Rattle.wire_packet.specs.Request.{requestBad}
 use Rattle.pile.specs.Pile.{recordsIn, recordAt, requestPacket, responsePacket, saidYes}
 use Rattle.pile.specs.Links.{firstRandZero}
 use Rattle.pile.specs.Valid.{windowAt}
 use Rattle.pile.specs.Meaning.{WholePile, GoodPile, ValidRecord, IsLinked, ZeroRand, Undamaged}
 use Rattle.pile.proofs.Exactly.{whole-exactly, undamaged-exactly, passed-judged, tested-links}
 use Rattle.pile.proofs.Recorded.{record-front}
-use Rattle.runs.specs.Clash.{windowsClash}
-use Rattle.report.specs.Report.{judged, joined, Reports, reportNumber}
-use Rattle.report.specs.Meaning.{Sound, Accepts, Decides}
-use Rattle.report.specs.Taking as cutter
-use Rattle.report.specs.declared.Report.{Report}
-use Rattle.report.specs.declared.Report.the-variants.{Pair, Clear}
-use Rattle.report.specs.declared.Taken.{Taken}
-use Rattle.report.specs.declared.Taken.the-variants.{Run, NoRun}
-use Rattle.report.proofs.Says.{report-once}
-use Rattle.report.proofs.Runs.{joined-later, takes-once}
-use Rattle.report.proofs.Exactly.{joined-first}
-use Rattle.report.proofs.Sound.{sound-decides, sound-convicts, sound-valid, sound-linked, sound-rand}
-use Rattle.report.proofs.Agree.{named-is-cut}
+use Rattle.pile_runs.specs.Clash.{windowsClash}
+use Rattle.pile_report.specs.Report.{judged, joined, Reports, reportNumber}
+use Rattle.pile_report.specs.Meaning.{Sound, Accepts, Decides}
+use Rattle.pile_report.specs.Taking as cutter
+use Rattle.pile_report.specs.declared.Report.{Report}
+use Rattle.pile_report.specs.declared.Report.the-variants.{Pair, Clear}
+use Rattle.pile_report.specs.declared.Taken.{Taken}
+use Rattle.pile_report.specs.declared.Taken.the-variants.{Run, NoRun}
+use Rattle.pile_report.proofs.Says.{report-once}
+use Rattle.pile_report.proofs.Runs.{joined-later, takes-once}
+use Rattle.pile_report.proofs.Exactly.{joined-first}
+use Rattle.pile_report.proofs.Sound.{sound-decides, sound-convicts, sound-valid, sound-linked, sound-rand}
+use Rattle.pile_report.proofs.Agree.{named-is-cut}
 use Rattle.walk.specs.State.{keyAt}
 use Rattle.walk.specs.Taking.{recorded, movedOn, pileOf, allYes, Takes, pileAfter}
 use Rattle.walk.specs.Trace.{Reached, heard, records}

@@ -6,7 +6,7 @@ use native.Mathlib.Omega.{arith}
 use Rattle.laws.specs.Written.{written}
 use Rattle.laws.proofs.Once.{Settles}
 use Rattle.refusal.specs.declared.Refusal.{Refusal}
-use Rattle.report.proofs.Says.{report-once}
+use Rattle.pile_report.proofs.Says.{report-once}
 use Rattle.walk.specs.State.{requestNow}
 use Rattle.walk.specs.Taking.{Takes, walkAfter, pileAfter}
 use Rattle.walk.specs.declared.Asked.{Asked}

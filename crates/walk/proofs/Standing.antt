@@ -9,17 +9,17 @@ use native.Mathlib.Omega.{arith}
 use lib.ListN.{length, take, length-append, length-drop, length-replicate}
 use Rattle.hash.specs.Hashes.{linkOf}
 use Rattle.hash.proofs.Lengths.{length-link}
-use Rattle.message.specs.Tags.{NONC}
-use Rattle.message.specs.Values.{valueOf}
+use Rattle.wire_message.specs.Tags.{NONC}
+use Rattle.wire_message.specs.Values.{valueOf}
 use Rattle.pile.specs.Pile.{recordAt, randIn, requestPacket, responsePacket}
 use Rattle.pile.specs.Valid.{recordBad}
 use Rattle.pile.specs.Meaning.{IsLinked}
 use Rattle.pile.proofs.Recorded as reads
-use Rattle.verdict.specs.Check.{checkCode}
-use Rattle.wire.specs.Blank.{zeros32}
-use Rattle.wire.specs.Packet.{body}
-use Rattle.writer.specs.Request.{requestBytes}
-use Rattle.writer.proofs.ReadBack.{nonce-reads}
+use Rattle.check_response.specs.Check.{checkCode}
+use Rattle.wire_packet.specs.Blank.{zeros32}
+use Rattle.wire_packet.specs.Packet.{body}
+use Rattle.wire_request.specs.Request.{requestBytes}
+use Rattle.wire_request.proofs.ReadBack.{nonce-reads}
 use Rattle.walk.specs.State.{keyAt, keyOf, requestNow}
 use Rattle.walk.specs.Starting.{startCode, begunWalk}
 use Rattle.walk.specs.Taking.{recordNow, recorded, movedOn}

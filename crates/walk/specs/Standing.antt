@@ -7,15 +7,15 @@ use mathlib.Core.List.{List}
 use lib.ListN.{length, take, replicate}
 use Rattle.hash.specs.Hashes.{linkOf}
 use Rattle.laws.specs.Pasted.{fronted}
-use Rattle.message.specs.Tags.{NONC}
-use Rattle.message.specs.Values.{valueOf}
+use Rattle.wire_message.specs.Tags.{NONC}
+use Rattle.wire_message.specs.Values.{valueOf}
 use Rattle.pile.specs.Pile.{recordAt, randIn, requestPacket, responsePacket}
 use Rattle.pile.specs.Valid.{recordBad}
 use Rattle.pile.specs.Meaning.{IsLinked}
-use Rattle.verdict.specs.Check.{checkCode}
-use Rattle.wire.specs.Blank.{zeros32}
-use Rattle.wire.specs.Packet.{body}
-use Rattle.writer.specs.Request.{requestBytes}
+use Rattle.check_response.specs.Check.{checkCode}
+use Rattle.wire_packet.specs.Blank.{zeros32}
+use Rattle.wire_packet.specs.Packet.{body}
+use Rattle.wire_request.specs.Request.{requestBytes}
 use Rattle.walk.specs.State.{keyAt}
 use Rattle.walk.specs.Starting.{serversIn}
 use Rattle.walk.specs.declared.Walk.{Walk}

@@ -2,8 +2,8 @@
 ghost use mathlib.Core.Path.{_≡_};
 ghost use Prim.Native.Nat.{_*_, _≤_};
 ghost use lib.ListN.{length};
-ghost use Rattle.wire.specs.Packet.{body};
-ghost use Rattle.verdict.specs.Check.{windowIn, verdictOf};
+ghost use Rattle.wire_packet.specs.Packet.{body};
+ghost use Rattle.check_response.specs.Check.{windowIn, verdictOf};
 ghost use Rattle.walk.specs.State.{Going, requestNow};
 ghost use Rattle.walk.specs.Taking.{clockWrong, takeCode, takeVerdict, movedOn, SaidOf, Takes};
 ghost use Rattle.walk.specs.Taking.{saidNumber, walkAfter, pileAfter};
@@ -14,16 +14,16 @@ use super::Walk;
 use super::asking::over;
 use super::asking::request_now;
 use super::recording::put_record;
+use check_response::Verdict;
+use check_response::Window;
+use check_response::check_response;
 use hash::link;
 use pile::RECORD;
+use pile_report::check_report;
 use refusal::PASSED;
 use refusal::Refusal;
 use refusal::codes;
 use refusal::refuse;
-use report::check_report;
-use verdict::Verdict;
-use verdict::Window;
-use verdict::check_response;
 
 // Takes the response to the request that was asked. A refusal leaves the state and the pile as they were.
 pub fn take(w: Walk, h: Heard, response: &[u8], pile: &mut [u8]) -> Moved
