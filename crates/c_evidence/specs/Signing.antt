@@ -2,7 +2,7 @@
 -- for yes and 0 for no.
 use Prim.Native.Nat.{ℕ}
 use mathlib.Core.List.{List, [], _∷_}
-use Rattle.pile_signed.specs.Answers.{answerByte}
+use Rattle.pile_signed.specs.OwnAnswers.{answerByte}
 use Rattle.check_signatures.specs.declared.Verified.{Verified}
 
 abbrev pub tbAnswers : Verified → List ℕ

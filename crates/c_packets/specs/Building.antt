@@ -1,6 +1,6 @@
 -- What the builders of trees answer, as structs for C.
 use Prim.Native.Nat.{ℕ}
-use Rattle.tree_build.specs.Answers.{placedNumber, laidNumber}
+use Rattle.tree_build.specs.Building.{placedNumber, laidNumber}
 use Rattle.tree_build.specs.declared.Rooted.{Rooted}
 use Rattle.tree_build.specs.declared.Placed.{Placed}
 use Rattle.tree_build.specs.declared.Placed.the-variants as placed

@@ -16,9 +16,9 @@ flagOf false = 0
 abbrev pub tbRequest : Request → TbRequest
 tbRequest q =
     record {
-      code = q .answer .code;
+      code = q .refusal .code;
       «with_srv» = flagOf (q .«with_srv»);
-      at = q .answer .at;
+      at = q .refusal .at;
       nonc = q .nonc;
       srv = q .srv;
     }
@@ -26,9 +26,9 @@ tbRequest q =
 abbrev pub tbResponse : Response → TbResponse
 tbResponse q =
     record {
-      code = q .answer .code;
+      code = q .refusal .code;
       indx = q .indx;
-      at = q .answer .at;
+      at = q .refusal .at;
       midp = q .midp;
       radi = q .radi;
       nonc = q .nonc;
@@ -38,8 +38,8 @@ tbResponse q =
 abbrev pub tbParts : SignedParts → TbParts
 tbParts q =
     record {
-      code = q .answer .code;
-      at = q .answer .at;
+      code = q .refusal .code;
+      at = q .refusal .at;
       signature = q .signature;
       delegation = q .delegation;
       pubk = q .pubk;

@@ -13,13 +13,13 @@ use wire_packet::SignedParts;
 pub fn request_told(q: Request) -> TbRequest
     ensures { λ r. ⌜ r ≡ tbRequest q ⌝ }
 {
-    let answer = q.answer;
+    let refusal = q.refusal;
     let nonc = q.nonc;
     let srv = q.srv;
     TbRequest {
-        code: answer.code as u32,
+        code: refusal.code as u32,
         with_srv: flag(q.with_srv),
-        at: answer.at as u64,
+        at: refusal.at as u64,
         nonc: nonc,
         srv: srv,
     }
@@ -29,13 +29,13 @@ pub fn request_told(q: Request) -> TbRequest
 pub fn response_told(q: Response) -> TbResponse
     ensures { λ r. ⌜ r ≡ tbResponse q ⌝ }
 {
-    let answer = q.answer;
+    let refusal = q.refusal;
     let nonc = q.nonc;
     let root = q.root;
     TbResponse {
-        code: answer.code as u32,
+        code: refusal.code as u32,
         indx: q.indx,
-        at: answer.at as u64,
+        at: refusal.at as u64,
         midp: q.midp,
         radi: q.radi,
         nonc: nonc,
@@ -47,13 +47,13 @@ pub fn response_told(q: Response) -> TbResponse
 pub fn parts_told(q: SignedParts) -> TbParts
     ensures { λ r. ⌜ r ≡ tbParts q ⌝ }
 {
-    let answer = q.answer;
+    let refusal = q.refusal;
     let signature = q.signature;
     let delegation = q.delegation;
     let pubk = q.pubk;
     TbParts {
-        code: answer.code as u32,
-        at: answer.at as u64,
+        code: refusal.code as u32,
+        at: refusal.at as u64,
         signature: signature,
         delegation: delegation,
         pubk: pubk,

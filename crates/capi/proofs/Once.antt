@@ -7,7 +7,7 @@ use Rattle.laws.proofs.Once.{Settles}
 use Rattle.sha512.specs.declared.Running.{Running}
 use Rattle.pile_tally.specs.declared.Tally.{Tally}
 use Rattle.pile_tally.specs.declared.Tallied.{Tallied}
-use Rattle.tree_build.proofs.Answers.{places-once, lays-once}
+use Rattle.tree_build.proofs.BuildingLaws.{places-once, lays-once}
 use Rattle.pile_report.proofs.Says.{report-once}
 use Rattle.pile_report.proofs.Runs.{takes-once}
 use Rattle.c_evidence.specs.Piling.{tbReported}

@@ -3,7 +3,7 @@ use Prim.Native.Nat.{ℕ}
 use mathlib.Core.Path.{_≡_, refl, ap}
 use mathlib.Core.List.{List}
 use lib.ListN.{length}
-use Rattle.tree_build.specs.Answers.{LaysRows, rowsBytes}
+use Rattle.tree_build.specs.Building.{LaysRows, rowsBytes}
 use Rattle.tree_build.specs.Leaves.{countOf, rowsLength}
 use Rattle.tree_build.specs.declared.Laid.{Laid}
 use Rattle.tree_build.specs.declared.Laid.the-variants as laid

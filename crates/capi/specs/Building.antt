@@ -4,7 +4,7 @@ use mathlib.Core.Path.{_≡_}
 use mathlib.Core.List.{List}
 use lib.ListN.{length}
 use Rattle.laws.specs.Written.{written}
-use Rattle.tree_build.specs.Answers.{placedNumber, PlacesLeaf, laidNumber, LaysRows}
+use Rattle.tree_build.specs.Building.{placedNumber, PlacesLeaf, laidNumber, LaysRows}
 use Rattle.tree_build.specs.declared.Placed.{Placed}
 use Rattle.tree_build.specs.declared.Laid.{Laid}
 use Rattle.c_packets.specs.Building.{tbPlaced, tbLaid}

@@ -40,5 +40,5 @@ pub record Took (w : Walk) (h : Heard) (response pile : List ℕ) (told : TbTook
   pub answer : Said
   pub right : Takes w h response pile answer
   pub same : told ≡ tbTook answer
-  pub moved : next ≡ walkAfter answer w h response
+  pub stepped : next ≡ walkAfter answer w h response
   pub left : afterwards ≡ pileAfter answer w response pile

@@ -1,7 +1,7 @@
 // Trees and paths for hosts.
 ghost use mathlib.Core.Path.{_≡_};
 ghost use lib.ListN.{length};
-ghost use Rattle.tree_build.specs.Answers.{rootedOf, pathBytes, fromBytes, rowsBytes};
+ghost use Rattle.tree_build.specs.Building.{rootedOf, pathBytes, fromBytes, rowsBytes};
 ghost use Rattle.tree_build.specs.Leaves.{countOf, heldOf};
 ghost use Rattle.tree.specs.PathCheck.{leadsOf};
 ghost use Rattle.c_packets.specs.Building.{tbRooted};

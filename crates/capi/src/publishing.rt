@@ -4,7 +4,7 @@ ghost use lib.ListN.{length};
 ghost use Rattle.laws.specs.Written.{written};
 ghost use Rattle.report_read.specs.Entry.{entriesOf};
 ghost use Rattle.report_read.specs.Read.{readOf, pileBytes};
-ghost use Rattle.pile_signed.specs.Answers.{ownAnswers};
+ghost use Rattle.pile_signed.specs.OwnAnswers.{ownAnswers};
 ghost use Rattle.c_evidence.specs.Publishing.{tbRecords};
 ghost use Rattle.report_text.specs.Forwarded.{pileOf};
 ghost use Rattle.capi.specs.Publishing.{Tells, TellsCut};

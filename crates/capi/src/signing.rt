@@ -2,8 +2,8 @@
 ghost use mathlib.Core.Path.{_≡_};
 ghost use Rattle.check_response.specs.Check.{checkedOf};
 ghost use Rattle.pile.specs.Valid.{judgementOf};
-ghost use Rattle.check_signatures.specs.Answers.{delegated, responded, answersOf};
-ghost use Rattle.pile_signed.specs.Answers.{ownAnswers};
+ghost use Rattle.check_signatures.specs.SignatureAnswers.{delegated, responded, answersOf};
+ghost use Rattle.pile_signed.specs.OwnAnswers.{ownAnswers};
 ghost use Rattle.c_packets.specs.Judging.{tbVerdict};
 ghost use Rattle.c_evidence.specs.Piling.{tbJudged};
 ghost use Rattle.c_evidence.specs.Signing.{tbAnswers};

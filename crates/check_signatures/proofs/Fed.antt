@@ -7,7 +7,7 @@ use denote.Triple.Clauses.{atExit}
 use borrow.Fn.Kinds.{endedOf}
 use Rattle.check_response.proofs.check_response.Kinds as check-kinds
 use Rattle.check_response.proofs.check_response.Reads as check-reads
-use Rattle.check_signatures.specs.Answers.{delegated, responded}
+use Rattle.check_signatures.specs.SignatureAnswers.{delegated, responded}
 use Rattle.check_signatures.proofs.checking.check_signed.Kinds as check-signed-kinds
 use Rattle.check_signatures.proofs.checking.check_signed.Reads as check-signed-reads
 

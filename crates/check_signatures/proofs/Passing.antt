@@ -16,7 +16,7 @@ use Rattle.check_response.specs.declared.Verdict.the-variants.{Valid}
 use Rattle.check_response.proofs.Exactly.{passes-code, passes-exactly}
 use Rattle.wire_packet.specs.Packet.{body}
 use Rattle.wire_packet.specs.Response.{signedCode}
-use Rattle.check_signatures.specs.Answers.{delegated, responded}
+use Rattle.check_signatures.specs.SignatureAnswers.{delegated, responded}
 use Rattle.check_signatures.specs.Meaning.{PassesSigned}
 use Rattle.check_signatures.proofs.Verdicts.{until-check, same-checked, checked-texts, delegated-as, responded-as}
 

@@ -22,7 +22,7 @@ use Rattle.check_response.proofs.Lent.{by-valid, valid-by, by-refused, key-by, 
 use Rattle.wire_packet.specs.Packet.{body}
 use Rattle.wire_packet.specs.Response.{cert, dele, responseMessageCode, responseCode, signedCode}
 use Rattle.wire_request.specs.Texts.{delegationText, responseText}
-use Rattle.check_signatures.specs.Answers.{delegated, responded}
+use Rattle.check_signatures.specs.SignatureAnswers.{delegated, responded}
 
 -- ---- rows of checks of which only the last differs
 

@@ -1,7 +1,7 @@
 // The response check with no answers lent.
 ghost use mathlib.Core.Path.{_≡_};
 ghost use Rattle.check_response.specs.Check.{checkCode, checkedOf, verdictNumber};
-ghost use Rattle.check_signatures.specs.Answers.{delegated, responded};
+ghost use Rattle.check_signatures.specs.SignatureAnswers.{delegated, responded};
 use super::verifying::signature_code;
 use check_response::Checked;
 use check_response::Verdict;

@@ -9,7 +9,7 @@ ghost use Rattle.check_response.specs.Check.{answersCode};
 ghost use Rattle.wire_packet.specs.Facts.{Shaped};
 ghost use Rattle.wire_packet.specs.Response.{srep, cert, dele};
 ghost use Rattle.wire_request.specs.Texts.{delegationContext, responseContext};
-ghost use Rattle.check_signatures.specs.Answers.{answersOf};
+ghost use Rattle.check_signatures.specs.SignatureAnswers.{answersOf};
 use super::Verified;
 use ed25519::verify_parts;
 use refusal::PASSED;

@@ -5,6 +5,6 @@ pub mod Sets
 pub mod Inside
 pub mod Best
 pub mod Edges
-pub mod Answers
+pub mod AnswerLaws
 pub mod Exactly
 pub mod Once

@@ -20,7 +20,7 @@ use Rattle.pile.specs.Pile.{recordAt, requestPacket, responsePacket}
 use Rattle.check_response.specs.Check.{verdictOf}
 use Rattle.check_response.specs.declared.Verdict.the-variants.{Valid}
 use Rattle.walk.specs.Trace.{Reached}
-use Rattle.walk.specs.Standing.{Stands}
+use Rattle.walk.specs.Standing.{InStep}
 use Rattle.walk.specs.declared.Walk.{Walk}
 use Rattle.walk.proofs.Standing.{standing}
 use Rattle.clock_laws.specs.Truth.{liars}
@@ -47,7 +47,7 @@ not-so false f = refl
 
 module _ (keys nonce : List ℕ) (most : ℕ) (n32 : length nonce ≡ 32) (w : Walk) (pile : List ℕ)
     (way : Reached keys nonce most w pile) where
-  st : Stands keys nonce most w pile
+  st : InStep keys nonce most w pile
   st = standing keys nonce most n32 w pile way
 
   -- what is taken of record k is the window of a valid response

@@ -1,6 +1,6 @@
 -- What a clock takes of a measuring walk (draft 19, 8.2): the window of each response that the walk has accepted, in
 -- their order, whether the walk has ended or stands still at a silent server. Record k of its pile is that of response
--- k, which is of server k in the first round and in the second (`Stands` of the walk).
+-- k, which is of server k in the first round and in the second (`InStep` of the walk).
 use mathlib.Core.List.{List}
 use Prim.Native.Nat.{ℕ, _+_, _%_, _≤_}
 use Rattle.check_response.specs.Check.{windowIn}

@@ -6,7 +6,7 @@ ghost use Rattle.laws.specs.Written.{written};
 ghost use Rattle.pile.specs.Pile.{lengthBad};
 ghost use Rattle.refusal.specs.Refusal.{when};
 ghost use Rattle.wire_request.specs.Answered.{wroteNumber, wroteLength, answered};
-ghost use Rattle.pile_signed.specs.Answers.{ownAnswers};
+ghost use Rattle.pile_signed.specs.OwnAnswers.{ownAnswers};
 use pile_signed::pile_answers;
 use wire_request::Wrote;
 

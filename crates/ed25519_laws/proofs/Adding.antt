@@ -9,7 +9,7 @@ use Rattle.ed25519_curve.specs.Points.{Pt, d, twoD, pointAdd}
 use Rattle.ed25519_curve.proofs.Affine.{add-is-sum}
 use Rattle.ed25519_prime_laws.proofs.Squares.{times-other}
 use Rattle.ed25519_laws.specs.Affine.{Affine, sumOf}
-use Rattle.ed25519_laws.specs.Standing.{Stands}
+use Rattle.ed25519_laws.specs.Standing.{StandsFor}
 use Rattle.ed25519_laws.proofs.Modulo.{Same, known, equal, same, back, _⊕_, modulo, by, not-zero, small-other}
 use Rattle.ed25519_laws.proofs.Division.{add-same, mul-same, sub-same}
 use Rattle.ed25519_laws.proofs.Sums.{k}
@@ -19,7 +19,7 @@ two-d-is : Same twoD (2 * d)
 unfolding twoD
 two-d-is = known (mod-mod (2 * d) p)
 
-module _ (P Q : Pt) (a b : Affine) (sP : Stands P a) (sQ : Stands Q b) where
+module _ (P Q : Pt) (a b : Affine) (sP : StandsFor P a) (sQ : StandsFor Q b) where
   C : ℕ
   C = mulF (mulF (P .T) twoD) (Q .T)
 
@@ -46,7 +46,7 @@ module _ (P Q : Pt) (a b : Affine) (sP : Stands P a) (sQ : Stands Q b) where
   add-G : Same (addF D C) 0 → Same (D * (1 + k a b)) 0
   add-G z = by (z ⊕ back (add-same D C) ⊕ back C-is) (omega arith)
 
-  pub sum-stands : Stands (pointAdd P Q) (sumOf a b)
+  pub sum-stands : StandsFor (pointAdd P Q) (sumOf a b)
   unfolding pointAdd C D
   sum-stands =
       stands P Q (pointAdd P Q) a b sP sQ

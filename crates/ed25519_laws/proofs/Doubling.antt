@@ -7,13 +7,13 @@ use Rattle.ed25519_curve.specs.Points.{Pt, d, pointDouble}
 use Rattle.ed25519_curve.proofs.Affine.{double-is-sum}
 use Rattle.ed25519_prime_laws.proofs.Squares.{times-other}
 use Rattle.ed25519_laws.specs.Affine.{Affine, sumOf}
-use Rattle.ed25519_laws.specs.Standing.{Stands}
+use Rattle.ed25519_laws.specs.Standing.{StandsFor}
 use Rattle.ed25519_laws.proofs.Modulo.{Same, equal, back, _⨾_, _⊕_, _⊙_, _⊗_, modulo, by}
 use Rattle.ed25519_laws.proofs.Division.{add-same, mul-same, sub-same}
 use Rattle.ed25519_laws.proofs.Sums.{k}
 use Rattle.ed25519_laws.proofs.Standing.{x-is, y-is, on, stands, product-other}
 
-module _ (P : Pt) (a : Affine) (s : Stands P a) where
+module _ (P : Pt) (a : Affine) (s : StandsFor P a) where
   abbrev ZZ : ℕ
   ZZ = P .Z * P .Z
 
@@ -51,7 +51,7 @@ module _ (P : Pt) (a : Affine) (s : Stands P a) where
   unfolding F
   double-F = grw (modulo, add-same, add-same, mul-same, mul-same) (by double-G (omega arith))
 
-  pub double-stands : Stands (pointDouble P) (sumOf a a)
+  pub double-stands : StandsFor (pointDouble P) (sumOf a a)
   unfolding pointDouble F G
   double-stands =
       stands P P (pointDouble P) a a s s (double-is-sum P (equal on-curve-z)) (mul-most _ _)

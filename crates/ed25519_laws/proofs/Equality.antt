@@ -13,7 +13,7 @@ use Rattle.ed25519_curve.specs.Points.{Pt, pointEqual}
 use Rattle.ed25519_prime_laws.proofs.Squares.{times-other}
 use Rattle.ed25519_laws.specs.Affine.{Affine, sameOf}
 use Rattle.ed25519_laws.specs.Group.{Point}
-use Rattle.ed25519_laws.specs.Standing.{Stands}
+use Rattle.ed25519_laws.specs.Standing.{StandsFor}
 use Rattle.ed25519_laws.proofs.Modulo.{Same, known, same, back, _⨾_, modulo, below}
 use Rattle.ed25519_laws.proofs.Division.{mul-same, divide}
 use Rattle.ed25519_laws.proofs.Group.{same-point}
@@ -48,7 +48,7 @@ same-exactly a b pa pb = (λ e. one (both _ _ e), λ e. rw (← e) itself)
     itself : sameOf a a ≡ true
     itself = rw (eq-eqb (a .x) (a .x) refl, eq-eqb (a .y) (a .y) refl)
 
-module _ (P Q : Pt) (a b : Affine) (s : Stands P a) (t : Stands Q b) where
+module _ (P Q : Pt) (a b : Affine) (s : StandsFor P a) (t : StandsFor Q b) where
   pub equal-is : pointEqual P Q ≡ sameOf a b
   unfolding pointEqual
   equal-is =

@@ -11,7 +11,7 @@ use Rattle.ed25519_curve.specs.Points.{Pt, affine, base, neutral, pointAdd, poi
 use Rattle.ed25519_curve.proofs.Affine.{base-on-curve}
 use Rattle.ed25519_laws.specs.Affine.{Affine, sumOf, zeroPoint, timesOf, pointOf}
 use Rattle.ed25519_laws.specs.Group.{Point}
-use Rattle.ed25519_laws.specs.Standing.{Stands}
+use Rattle.ed25519_laws.specs.Standing.{StandsFor}
 use Rattle.ed25519_laws.proofs.Modulo.{Same, equal, same, _⨾_, small-other}
 use Rattle.ed25519_laws.proofs.Division.{mul-same}
 use Rattle.ed25519_laws.proofs.Group.{zero-point, sum-zero, zero-sum, sum-associates}
@@ -20,7 +20,7 @@ use Rattle.ed25519_laws.proofs.Adding.{sum-stands}
 use Rattle.ed25519_laws.proofs.Doubling.{double-stands}
 
 -- a point (x, y) of the curve, with Z = 1
-pub affine-stands : (a : Affine) → Point a → Stands (affine (a .x) (a .y)) a
+pub affine-stands : (a : Affine) → Point a → StandsFor (affine (a .x) (a .y)) a
 affine-stands a pa =
     let once : (n : ℕ) → Same n (n * 1) = λ n. same (omega arith) in
     record {
@@ -32,7 +32,7 @@ affine-stands a pa =
       point = pa;
     }
 
-pub neutral-stands : Stands neutral zeroPoint
+pub neutral-stands : StandsFor neutral zeroPoint
 unfolding neutral mulF p
 neutral-stands = affine-stands zeroPoint zero-point
 
@@ -40,11 +40,11 @@ base-point : Point (pointOf base)
 unfolding base p
 base-point = record { x-below = lit< tt; y-below = lit< tt; on-curve = base-on-curve }
 
-pub base-stands : Stands base (pointOf base)
+pub base-stands : StandsFor base (pointOf base)
 unfolding base
 base-stands = affine-stands (pointOf base) base-point
 
-picked : (t : Bool) (P Q : Pt) (a b : Affine) → Stands P a → Stands Q b → Stands (cond t P Q) (cond t a b)
+picked : (t : Bool) (P Q : Pt) (a b : Affine) → StandsFor P a → StandsFor Q b → StandsFor (cond t P Q) (cond t a b)
 picked true P Q a b s r = s
 picked false P Q a b s r = r
 
@@ -63,8 +63,8 @@ bit s a b pa pb = rw (times-double (s / 2) a pa) (pick (eqb (s % 2) 1) refl)
         ap (λ n. sumOf b (timesOf n a)) even
 
 -- section 6's point_mul, from the lowest bit on: Q and [s]P are added up
-from-stands : (n s : ℕ) (P Q : Pt) (a b : Affine) → s < 2 ^ n → Stands P a → Stands Q b
-    → Stands (mulFrom n s P Q) (sumOf b (timesOf s a))
+from-stands : (n s : ℕ) (P Q : Pt) (a b : Affine) → s < 2 ^ n → StandsFor P a → StandsFor Q b
+    → StandsFor (mulFrom n s P Q) (sumOf b (timesOf s a))
 unfolding mulFrom timesOf
 from-stands zero s P Q a b low sP sQ =
     let none : s ≡ 0 = omega arith in
@@ -74,7 +74,7 @@ from-stands (suc n) s P Q a b low sP sQ =
     (from-stands n (s / 2) (pointDouble P) _ (sumOf a a) _ (omega (arith, div-add-mod s 2)) (double-stands P a sP)
     (picked (eqb (s % 2) 1) (pointAdd Q P) Q (sumOf b a) b (sum-stands Q P b a sQ sP) sQ))
 
-pub multiple-stands : (s : ℕ) (P : Pt) (a : Affine) → s < 2 ^ 256 → Stands P a → Stands (pointMul s P) (timesOf s a)
+pub multiple-stands : (s : ℕ) (P : Pt) (a : Affine) → s < 2 ^ 256 → StandsFor P a → StandsFor (pointMul s P) (timesOf s a)
 multiple-stands s P a low h =
     rw (← zero-sum (timesOf s a) (times-point s a (h .point)))
     (from-stands 256 s P neutral a zeroPoint low h neutral-stands)

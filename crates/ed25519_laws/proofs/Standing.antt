@@ -8,7 +8,7 @@ use Rattle.ed25519_curve.specs.Points.{Pt, d}
 use Rattle.ed25519_curve.specs.Equation.{IsSum}
 use Rattle.ed25519_prime_laws.proofs.Squares.{times-other}
 use Rattle.ed25519_laws.specs.Affine.{Affine, sumOf}
-use Rattle.ed25519_laws.specs.Standing.{Stands}
+use Rattle.ed25519_laws.specs.Standing.{StandsFor}
 use Rattle.ed25519_laws.proofs.Modulo.{Same, known, equal, back, _⊕_, _⊙_, _⊗_, by, is-zero, gone, not-zero}
 use Rattle.ed25519_laws.proofs.Division.{mul-same, divide}
 use Rattle.ed25519_laws.proofs.Curve.{On, on-plain}
@@ -17,7 +17,7 @@ use Rattle.ed25519_laws.proofs.Sums.{k, below-x, below-y, below-x-is, b
 use Rattle.ed25519_laws.proofs.Sums.{sum-x, sum-y}
 use Rattle.ed25519_laws.proofs.Group.{sum-point}
 
-module _ (P : Pt) (a : Affine) (s : Stands P a) where
+module _ (P : Pt) (a : Affine) (s : StandsFor P a) where
   pub x-is : Same (P .X) (a .x * P .Z)
   x-is = known (s .x)
 
@@ -48,7 +48,7 @@ module _ (N Z z e n XX YY W x y w : ℕ) (z-other : z % p ≡ 0 → ⊥) (e-othe
   fraction-y e-is law =
       fraction (by ((N * (z * z)) ⊙ e-is ⊕ (N * d) ⊙ (xx ⊗ yy) ⊕ law ⊕ (Z * z) ⊙ ww) (omega arith))
 
-module _ (P Q R : Pt) (a b : Affine) (sP : Stands P a) (sQ : Stands Q b) (sum : IsSum P Q R) where
+module _ (P Q R : Pt) (a b : Affine) (sP : StandsFor P a) (sQ : StandsFor Q b) (sum : IsSum P Q R) where
   z-other : (P .Z * Q .Z) % p ≡ 0 → ⊥
   z-other = times-other (P .Z) (Q .Z) (sP .other) (sQ .other)
 
@@ -74,7 +74,7 @@ module _ (P Q R : Pt) (a b : Affine) (sP : Stands P a) (sQ : Stands Q b) (sum : 
       (below-y-other a b (on P a sP) (on Q b sQ)) (sum-y a b (on P a sP) (on Q b sQ)) xx yy ww
       (below-y-is a b) (known (sum .y))
 
-  pub stands : R .X ≤ p → (R .Z % p ≡ 0 → ⊥) → Stands R (sumOf a b)
+  pub stands : R .X ≤ p → (R .Z % p ≡ 0 → ⊥) → StandsFor R (sumOf a b)
   stands low other =
       let law : Same (R .T * R .Z) (R .X * R .Y) = known (sum .t) in
       let t-sum : Same (R .T) (sumOf a b .x * sumOf a b .y * R .Z) =

@@ -17,13 +17,13 @@ use Rattle.ed25519_point.proofs.OnCurve.{decoded}
 use Rattle.ed25519.specs.Verification.{kOf, accepts, verifies, verifiesParts}
 use Rattle.ed25519.proofs.Order.{order-base}
 use Rattle.ed25519_laws.specs.Affine.{zeroPoint, timesOf, pointOf, acceptsAffine, verifiesAffine}
-use Rattle.ed25519_laws.specs.Standing.{Stands}
+use Rattle.ed25519_laws.specs.Standing.{StandsFor}
 use Rattle.ed25519_laws.proofs.Adding.{sum-stands}
 use Rattle.ed25519_laws.proofs.Multiples.{affine-stands, base-stands, neutral-stands, multiple-stands}
 use Rattle.ed25519_laws.proofs.Equality.{equal-is, equal-exactly}
 
 -- what is decoded stands for itself
-pub decoded-stands : (s : List ℕ) → decodeOf s .ok ≡ true → Stands (decodeOf s .point) (pointOf (decodeOf s .point))
+pub decoded-stands : (s : List ℕ) → decodeOf s .ok ≡ true → StandsFor (decodeOf s .point) (pointOf (decodeOf s .point))
 decoded-stands s ok =
     let h = decoded s ok in
     rw (h .is) (affine-stands _ (record { x-below = h .x-below; y-below = h .y-below; on-curve = h .on-curve }))

@@ -9,7 +9,7 @@ use Rattle.ed25519_laws.specs.Affine.{Affine}
 use Rattle.ed25519_laws.specs.Group.{Point}
 
 -- P stands for the point a of the curve: Z is not 0, and nothing is divided here
-pub record Stands (P : Pt) (a : Affine) : Type 0 where
+pub record StandsFor (P : Pt) (a : Affine) : Type 0 where
   pub other : P .Z % p ≡ 0 → ⊥
   pub x : Equal (P .X) (a .x * P .Z)
   pub y : Equal (P .Y) (a .y * P .Z)

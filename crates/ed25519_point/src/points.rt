@@ -3,7 +3,7 @@ ghost use mathlib.Core.Path.{_≡_};
 ghost use lib.ListN.{length};
 ghost use Rattle.ed25519_field.specs.Limbs.{num, Limbs};
 ghost use Rattle.ed25519_curve.specs.Coords.{Good};
-ghost use Rattle.ed25519_point.specs.Answers.{decodingIn};
+ghost use Rattle.ed25519_point.specs.OfCode.{decodingIn};
 ghost use Rattle.ed25519_point.specs.Decoding.{noPoint, withX, decodeOf};
 use super::Decoded;
 use super::constants::one;

@@ -2,7 +2,7 @@
 ghost use mathlib.Core.Path.{_≡_};
 ghost use Prim.Native.Nat.{_<_};
 ghost use Rattle.ed25519_field.specs.Limbs.{num, Limbs};
-ghost use Rattle.ed25519_point.specs.Answers.{rootIn};
+ghost use Rattle.ed25519_point.specs.OfCode.{rootIn};
 ghost use Rattle.ed25519_point.specs.Decoding.{signedOf, recoverX};
 use super::Found;
 use super::constants::curve_d;

@@ -6,11 +6,11 @@ use native.Mathlib.Omega.{arith}
 use lib.ListN.{length}
 use Rattle.tree.specs.Tree.{depthOf}
 use Rattle.tree_build.specs.Leaves.{countOf}
-use Rattle.tree_build.specs.Answers.{rootedOf, PlacesLeaf, pathBytes}
+use Rattle.tree_build.specs.Building.{rootedOf, PlacesLeaf, pathBytes}
 use Rattle.tree_build.specs.declared.Rooted.{Rooted}
 use Rattle.tree_build.specs.declared.Placed.the-variants.{Written}
 use Rattle.tree_build.proofs.Leaves.{count-bounds}
-use Rattle.tree_build.proofs.Answers.{rooted-some, place-written}
+use Rattle.tree_build.proofs.BuildingLaws.{rooted-some, place-written}
 use Rattle.tree_build.proofs.Built.{path-bytes}
 
 -- n leaves, of a tree of depth d

@@ -6,7 +6,7 @@ use Prim.Native.Nat.{ℕ, zero, suc, _+_, _-_, _≤_, _<_}
 use native.Mathlib.Omega.{arith}
 use lib.ListN.{length}
 use Rattle.laws.proofs.First.{says-0, says-more, is-last, none-quiet}
-use Rattle.refusal.specs.Refusal.{refusals, first, moved}
+use Rattle.refusal.specs.Refusal.{refusals, first, shifted}
 use Rattle.refusal.specs.declared.Refusal.{Refusal}
 use Rattle.wire_message.specs.Frame.{count, tagAt, frameCode}
 use Rattle.wire_message.specs.Rules.{Row, messageCode}
@@ -40,14 +40,14 @@ module _ (m : List ℕ) (code : ℕ) (some : 0 < code) (tabled : (rows : List Ro
   request-refused : length (packetOf m) ≤ 2000 → requestCode (packetOf m) .code ≡ code
   unfolding requestCode requestMessageCode
   request-refused h =
-      sym (code-of (message-next (λ s. moved bodyStart (requestMessageCode s)) m h))
+      sym (code-of (message-next (λ s. shifted bodyStart (requestMessageCode s)) m h))
       ∙ sym (code-of (says-more refusals _ refl (refused requestTable)))
       ∙ tabled requestTable
 
   response-refused : length (packetOf m) ≤ 2000 → responseCode (packetOf m) .code ≡ code
   unfolding responseCode responseMessageCode shapeCode
   response-refused h =
-      sym (code-of (message-next (λ s. moved bodyStart (responseMessageCode s)) m h))
+      sym (code-of (message-next (λ s. shifted bodyStart (responseMessageCode s)) m h))
       ∙ sym (code-of (says-more refusals _ (says-more refusals _ refl (refused rootTable)) (refused rootTable)))
       ∙ tabled rootTable
 

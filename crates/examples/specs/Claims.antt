@@ -17,7 +17,7 @@ use Rattle.wire_packet.specs.Request.{requestOf, requestBad}
 use Rattle.wire_packet.specs.Response.{indxIn, midpIn, mintIn, maxtIn, responseCode, responseOf}
 use Rattle.tree.specs.PathCheck.{leadsOf}
 use Rattle.tree_build.specs.Leaves.{countOf}
-use Rattle.tree_build.specs.Answers.{rootedOf, PlacesLeaf, pathBytes}
+use Rattle.tree_build.specs.Building.{rootedOf, PlacesLeaf, pathBytes}
 use Rattle.tree_build.specs.declared.Placed.the-variants.{Written}
 use Rattle.check_response.specs.Window.{windowOf}
 use Rattle.check_response.specs.Check.{versionUnasked, versionDowngraded, nonceDiffers, pathMisses, windowIn, verdictOf}
@@ -131,8 +131,8 @@ pub record EqualTags (m : List ℕ) : Type 0 where
 -- message of a request and of a response
 pub record Refuses (m : List ℕ) (code : ℕ) : Type 0 where
   pub by-table : (rows : List rules.Row) → messageCode m rows .code ≡ code
-  pub in-request : length (packetOf m) ≤ 2000 → requestOf (packetOf m) .answer .code ≡ code
-  pub in-response : length (packetOf m) ≤ 2000 → responseOf (packetOf m) .answer .code ≡ code
+  pub in-request : length (packetOf m) ≤ 2000 → requestOf (packetOf m) .refusal .code ≡ code
+  pub in-response : length (packetOf m) ≤ 2000 → responseOf (packetOf m) .refusal .code ≡ code
 
 -- ---- what they claim
 

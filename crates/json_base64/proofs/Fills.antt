@@ -11,7 +11,7 @@ use Rattle.json_strings.specs.Text.{contentAt}
 use Rattle.base64.specs.declared.Group.{Group}
 use Rattle.base64.specs.declared.Group.the-variants.{Three, Two, One}
 use Rattle.base64.specs.declared.Group.the-variants.{Bad as BadGroup}
-use Rattle.base64.specs.Decode.{Decoded, bytes, none, onto, joined, groupOf, decodeOf}
+use Rattle.base64.specs.Decode.{Decoded, bytes, none, onto, withGroup, groupOf, decode64}
 use Rattle.json_base64.specs.declared.Size.{Size}
 use Rattle.json_base64.specs.declared.Size.the-variants.{Of, Bad}
 use Rattle.json_base64.specs.Sized.{sizeOf, good, plain, Grouped}
@@ -20,37 +20,37 @@ use Rattle.json_base64.proofs.Quads.{decode-at}
 -- The state of the writer at the character k.
 pub record Filling (E : List ℕ) (s : List ℕ) (k : ℕ) (was : List ℕ) (n : ℕ) (out : List ℕ) : Type 0 where
   pub rest : List ℕ
-  pub reads : decodeOf (contentAt s k) ≡ bytes rest
+  pub reads : decode64 (contentAt s k) ≡ bytes rest
   pub filled : Filled E rest was n out
 
 is-bytes : (d : Decoded) → good d ≡ true → d ≡ bytes (plain d)
 is-bytes (bytes x) e = refl
 is-bytes none e = cc
 
-pub filling-first : (s : List ℕ) (k : ℕ) (was : List ℕ) → good (decodeOf (contentAt s k)) ≡ true
-    → length (plain (decodeOf (contentAt s k))) ≤ length was
-    → Filling (plain (decodeOf (contentAt s k))) s k was 0 was
+pub filling-first : (s : List ℕ) (k : ℕ) (was : List ℕ) → good (decode64 (contentAt s k)) ≡ true
+    → length (plain (decode64 (contentAt s k))) ≤ length was
+    → Filling (plain (decode64 (contentAt s k))) s k was 0 was
 filling-first s k was g h =
-    record { rest = plain (decodeOf (contentAt s k)); reads = is-bytes _ g; filled = filled-first _ _ h }
+    record { rest = plain (decode64 (contentAt s k)); reads = is-bytes _ g; filled = filled-first _ _ h }
 
 three-rest : {x y z : ℕ} (d : Decoded) {l : List ℕ} → onto (x ∷ y ∷ z ∷ []) d ≡ bytes l
     → (d ≡ bytes (plain d)) × (l ≡ (x ∷ y ∷ z ∷ []) ++ plain d)
 three-rest (bytes m) e = (refl, cc)
 three-rest none e = let q : _≡_ {A = ℕ} 0 1 = cc in absurd (omega arith)
 
-two-rest : {x y : ℕ} (m : List ℕ) (d : Decoded) {l : List ℕ} → joined (Two x y) m d ≡ bytes l → l ≡ (x ∷ y ∷ []) ++ []
+two-rest : {x y : ℕ} (m : List ℕ) (d : Decoded) {l : List ℕ} → withGroup (Two x y) m d ≡ bytes l → l ≡ (x ∷ y ∷ []) ++ []
 two-rest [] d e = cc
 two-rest (a ∷ m) d e = let q : _≡_ {A = ℕ} 0 1 = cc in absurd (omega arith)
 
-one-rest : {x : ℕ} (m : List ℕ) (d : Decoded) {l : List ℕ} → joined (One x) m d ≡ bytes l → l ≡ (x ∷ []) ++ []
+one-rest : {x : ℕ} (m : List ℕ) (d : Decoded) {l : List ℕ} → withGroup (One x) m d ≡ bytes l → l ≡ (x ∷ []) ++ []
 one-rest [] d e = cc
 one-rest (a ∷ m) d e = let q : _≡_ {A = ℕ} 0 1 = cc in absurd (omega arith)
 
 module _ {E s was out : List ℕ} {k n j : ℕ} {g : Group} (f : Filling E s k was n out) (q : Grouped s k g j) where
   module _ {x y z : ℕ} (e : g ≡ Three x y z) where
-    three : (decodeOf (contentAt s j) ≡ bytes (plain (decodeOf (contentAt s j)))) × (f .rest ≡ (x ∷ y ∷ z ∷ [])
-        ++ plain (decodeOf (contentAt s j)))
-    three = three-rest (decodeOf (contentAt s j)) (rw (decode-at q, e) at (f .reads))
+    three : (decode64 (contentAt s j) ≡ bytes (plain (decode64 (contentAt s j)))) × (f .rest ≡ (x ∷ y ∷ z ∷ [])
+        ++ plain (decode64 (contentAt s j)))
+    three = three-rest (decode64 (contentAt s j)) (rw (decode-at q, e) at (f .reads))
 
     pub filling-three-fits : n + 3 ≤ length out
     filling-three-fits = filled-fit (x ∷ y ∷ z ∷ []) _ (f .filled) (three .1)
@@ -58,7 +58,7 @@ module _ {E s was out : List ℕ} {k n j : ℕ} {g : Group} (f : Filling E s k w
     pub filling-three : {to : List ℕ} → to ≡ pasted out n (x ∷ y ∷ z ∷ []) → Filling E s j was (n + 3) to
     filling-three h =
         record {
-          rest = plain (decodeOf (contentAt s j));
+          rest = plain (decode64 (contentAt s j));
           reads = three .0;
           filled = filled-next (x ∷ y ∷ z ∷ []) _
               (f .filled) (three .1) h;
@@ -66,7 +66,7 @@ module _ {E s was out : List ℕ} {k n j : ℕ} {g : Group} (f : Filling E s k w
 
   module _ {x y : ℕ} (e : g ≡ Two x y) where
     two : f .rest ≡ (x ∷ y ∷ []) ++ []
-    two = two-rest (contentAt s j) (decodeOf (contentAt s j)) (rw (decode-at q, e) at (f .reads))
+    two = two-rest (contentAt s j) (decode64 (contentAt s j)) (rw (decode-at q, e) at (f .reads))
 
     pub filling-two-fits : n + 2 ≤ length out
     filling-two-fits = filled-fit (x ∷ y ∷ []) [] (f .filled) two
@@ -76,7 +76,7 @@ module _ {E s was out : List ℕ} {k n j : ℕ} {g : Group} (f : Filling E s k w
 
   module _ {x : ℕ} (e : g ≡ One x) where
     one : f .rest ≡ (x ∷ []) ++ []
-    one = one-rest (contentAt s j) (decodeOf (contentAt s j)) (rw (decode-at q, e) at (f .reads))
+    one = one-rest (contentAt s j) (decode64 (contentAt s j)) (rw (decode-at q, e) at (f .reads))
 
     pub filling-one-fits : n + 1 ≤ length out
     filling-one-fits = filled-fit (x ∷ []) [] (f .filled) one
@@ -90,11 +90,11 @@ module _ {E s was out : List ℕ} {k n j : ℕ} {g : Group} (f : Filling E s k w
 
 module _ {E s was out : List ℕ} {k n : ℕ} (f : Filling E s k was n out) where
   pub filling-end : contentAt s k ≡ [] → out ≡ fronted E was
-  unfolding decodeOf
+  unfolding decode64
   filling-end e = let h : bytes [] ≡ bytes (f .rest) = rw e at (f .reads) in let z : f .rest ≡ [] = cc in
       filled-last (rw z at (f .filled))
 
-  pub filling-fewer : decodeOf (contentAt s k) ≡ none → ⊥
+  pub filling-fewer : decode64 (contentAt s k) ≡ none → ⊥
   filling-fewer e = let z : _≡_ {A = ℕ} 0 1 = cc (f .reads) in omega arith
 
 -- ---- The ways out of `decode`.

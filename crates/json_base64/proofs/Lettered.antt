@@ -14,7 +14,7 @@ use Rattle.json_strings.proofs.Runs.{unit-unescaped}
 use Rattle.base64.specs.declared.Group.{Group}
 use Rattle.base64.specs.declared.Group.the-variants.{Three}
 use Rattle.base64.specs.Alphabet.{sextetOf, isLetter}
-use Rattle.base64.specs.Decode.{groupOf, decodeOf, high, middle, low}
+use Rattle.base64.specs.Decode.{groupOf, decode64, high, middle, low}
 use Rattle.base64.proofs.Tables.{letter-ranged}
 use Rattle.base64.proofs.Decodes.{group-letters}
 use Rattle.json_base64.specs.Sized.{sizeOf, Reads, Grouped, Lettered}
@@ -75,7 +75,7 @@ module _ {s : List ℕ} {k : ℕ} (l : Lettered s k 1) where
       (reads-letter (omega arith) (letter-then 2 (omega arith)))
       (reads-letter (omega arith) (letter-then 3 (omega arith))) e
 
-  one-group : (n : ℕ) → sizeOf (n + 3) (decodeOf (contentAt s (k + 4))) ≡ sizeOf n (decodeOf (contentAt s k))
+  one-group : (n : ℕ) → sizeOf (n + 3) (decode64 (contentAt s (k + 4))) ≡ sizeOf n (decode64 (contentAt s k))
   one-group n =
       size-three n (grouped-letters refl)
       (sym (group-letters (getD s k 0) (getD s (k + 1) 0) (getD s (k + 2) 0) (getD s (k + 3) 0) letter-first
@@ -95,8 +95,8 @@ module _ {s : List ℕ} {at : ℕ} where
   }
 
   pub size-letters : (m : ℕ) → Lettered s at m
-      → sizeOf (3 * m) (decodeOf (contentAt s (at + 4 * m))) ≡ sizeOf 0 (decodeOf (contentAt s at))
-  size-letters zero l = ap (λ k. sizeOf 0 (decodeOf (contentAt s k))) (omega arith)
+      → sizeOf (3 * m) (decode64 (contentAt s (at + 4 * m))) ≡ sizeOf 0 (decode64 (contentAt s at))
+  size-letters zero l = ap (λ k. sizeOf 0 (decode64 (contentAt s k))) (omega arith)
   size-letters (suc m) l =
       let e : 3 * suc m ≡ 3 * m + 3 = omega arith in
       let f : at + 4 * suc m ≡ at + 4 * m + 4 = omega arith in

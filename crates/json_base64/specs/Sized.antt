@@ -8,7 +8,7 @@ use Rattle.json_tokens.specs.Scan.{Passes}
 use Rattle.json_strings.specs.Text.{contentAt}
 use Rattle.base64.specs.Alphabet.{isLetter}
 use Rattle.base64.specs.declared.Group.{Group}
-use Rattle.base64.specs.Decode.{Decoded, bytes, none, groupOf, decodeOf}
+use Rattle.base64.specs.Decode.{Decoded, bytes, none, groupOf, decode64}
 use Rattle.json_base64.specs.declared.Size.{Size}
 use Rattle.json_base64.specs.declared.Size.the-variants.{Of, Bad}
 use Rattle.json_base64.specs.declared.Letter.{Letter}
@@ -61,4 +61,4 @@ pub record Grouped (s : List ℕ) (k : ℕ) (g : Group) (j : ℕ) : Type 0 where
 abbrev pub QuadOf : List ℕ → ℕ → Quad → Type 0
 QuadOf s k (Four g j) = Grouped s k g j
 QuadOf s k End = contentAt s k ≡ []
-QuadOf s k Fewer = decodeOf (contentAt s k) ≡ none
+QuadOf s k Fewer = decode64 (contentAt s k) ≡ none

@@ -4,7 +4,7 @@ ghost use Prim.Native.Nat.{_+_, _≤_};
 ghost use lib.ListN.{length};
 ghost use mathlib.Core.Bool.{true};
 ghost use Rattle.json_strings.specs.Text.{contentAt};
-ghost use Rattle.base64.specs.Decode.{decodeOf};
+ghost use Rattle.base64.specs.Decode.{decode64};
 ghost use Rattle.laws.specs.Pasted.{fronted};
 ghost use Rattle.json_base64.specs.Sized.{good, plain};
 use super::Quad;
@@ -17,11 +17,11 @@ use octets::put;
 // The bytes that the string whose characters start at a place stands for, at the front of out: the string is base64.
 fn fill(s: &[u8], at: usize, out: &mut [u8])
     requires { ⌜
-        (good (decodeOf (contentAt (now s) at)) ≡ true)
-        × (length (plain (decodeOf (contentAt (now s) at))) ≤ length (now out))
+        (good (decode64 (contentAt (now s) at)) ≡ true)
+        × (length (plain (decode64 (contentAt (now s) at))) ≤ length (now out))
         ⌝ }
     ensures { λ _. ⌜
-        now (out .exit) ≡ fronted (plain (decodeOf (contentAt (now (s .entry)) at))) (now (out .entry))
+        now (out .exit) ≡ fronted (plain (decode64 (contentAt (now (s .entry)) at))) (now (out .entry))
         ⌝ }
 {
     let mut k = at;
@@ -62,9 +62,9 @@ fn fill(s: &[u8], at: usize, out: &mut [u8])
 // The same of any string: nothing is written where it is no base64. It is a helper: its callers have tested that there
 // is room.
 pub fn decode(s: &[u8], at: usize, out: &mut [u8])
-    requires { ⌜ length (plain (decodeOf (contentAt (now s) at))) ≤ length (now out) ⌝ }
+    requires { ⌜ length (plain (decode64 (contentAt (now s) at))) ≤ length (now out) ⌝ }
     ensures { λ _. ⌜
-        now (out .exit) ≡ fronted (plain (decodeOf (contentAt (now (s .entry)) at))) (now (out .entry))
+        now (out .exit) ≡ fronted (plain (decode64 (contentAt (now (s .entry)) at))) (now (out .entry))
         ⌝ }
 {
     let Size::Of(_) = size_of(s, at) else {

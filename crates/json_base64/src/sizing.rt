@@ -2,7 +2,7 @@
 ghost use mathlib.Core.Path.{_≡_};
 ghost use Prim.Native.Nat.{_+_};
 ghost use Rattle.json_strings.specs.Text.{contentAt};
-ghost use Rattle.base64.specs.Decode.{decodeOf};
+ghost use Rattle.base64.specs.Decode.{decode64};
 ghost use Rattle.json_base64.specs.Sized.{sizeOf};
 use super::Quad;
 use super::Size;
@@ -13,7 +13,7 @@ use base64::Group;
 
 // How many bytes the string whose characters start at a place stands for.
 pub fn size_of(s: &[u8], at: usize) -> Size
-    ensures { λ r. ⌜ r ≡ sizeOf 0 (decodeOf (contentAt (now (s .entry)) at)) ⌝ }
+    ensures { λ r. ⌜ r ≡ sizeOf 0 (decode64 (contentAt (now (s .entry)) at)) ⌝ }
 {
     let quick = groups(s, at);
     let mut k = at + 4 * quick;

@@ -12,7 +12,7 @@ use Rattle.old_stamp.specs.Window.{oldWindowOf, stampedOf, stampedNumber
 use Rattle.old_stamp.specs.Meaning.{BadStamp, GoodStamp, IsWindow}
 use Rattle.old_stamp.specs.declared.OldWindow.{OldWindow}
 use Rattle.old_stamp.specs.declared.Stamped.the-variants.{Within}
-use Rattle.old_stamp.proofs.Answers.{early-bad, late-bad, else-good}
+use Rattle.old_stamp.proofs.AnswerLaws.{early-bad, late-bad, else-good}
 use Rattle.old_stamp.proofs.Rounding.{low-is, high-is, low-only, high-only}
 
 module _ (stamp : ℕ) where

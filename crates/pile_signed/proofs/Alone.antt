@@ -14,7 +14,7 @@ use Rattle.pile_report.specs.Report.{Reports}
 use Rattle.pile_report.specs.declared.Report.{Report}
 use Rattle.pile_report.proofs.Exactly.{report-exactly}
 use Rattle.check_response.specs.declared.Verdict.the-variants.{Valid}
-use Rattle.pile_signed.specs.Answers.{ownAnswers}
+use Rattle.pile_signed.specs.OwnAnswers.{ownAnswers}
 use Rattle.pile_signed.specs.Meaning.{SignedRecord, IsSignedReport}
 use Rattle.pile_signed.proofs.Own.{said-delegated, said-responded, own-good}
 use Rattle.check_signatures.proofs.Passing.{with-answers, passes-alone}

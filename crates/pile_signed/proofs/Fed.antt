@@ -13,7 +13,7 @@ use Rattle.pile_report.proofs.check_report.Kinds as report-kinds
 use Rattle.pile_report.proofs.check_report.Reads as report-reads
 use Rattle.pile_report.proofs.cut_run.Kinds as cut-kinds
 use Rattle.pile_report.proofs.cut_run.Reads as cut-reads
-use Rattle.pile_signed.specs.Answers.{ownAnswers}
+use Rattle.pile_signed.specs.OwnAnswers.{ownAnswers}
 use Rattle.pile_signed.proofs.judging.judge_signed.Kinds as judge-signed-kinds
 use Rattle.pile_signed.proofs.judging.judge_signed.Reads as judge-signed-reads
 use Rattle.pile_signed.proofs.reporting.check_signed_report.Kinds as report-signed-kinds

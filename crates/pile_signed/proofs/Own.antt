@@ -18,7 +18,7 @@ use Rattle.laws.proofs.Least.{nowhere}
 use Rattle.laws.proofs.Upto.{upto-length, upto-at}
 use Rattle.pile.specs.Meaning.{WholePile, GoodPile}
 use Rattle.pile.specs.Pile.{recordsIn, saidYes, aboveOne, lengthBad, answerBad, pileBad}
-use Rattle.pile_signed.specs.Answers.{delegatedAt, respondedAt, answerByte, answersAt, ownAnswers}
+use Rattle.pile_signed.specs.OwnAnswers.{delegatedAt, respondedAt, answerByte, answersAt, ownAnswers}
 
 byte-yes : (b : Bool) → eqb (answerByte b) 1 ≡ b
 byte-yes true = refl

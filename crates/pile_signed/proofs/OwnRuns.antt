@@ -26,8 +26,8 @@ use Rattle.pile_report.proofs.CutBytes.{RunIn, count-run, record-first, record-
 use Rattle.pile_report.proofs.CutReports.{taken-exactly, none-exactly}
 use Rattle.pile_report.proofs.Stands.{taken-run, cut-is-report, cut-stands, cut-front}
 use Rattle.pile_runs.proofs.SamePile.{same-least}
-use Rattle.check_signatures.specs.Answers.{delegated, responded}
-use Rattle.pile_signed.specs.Answers.{delegatedAt, respondedAt, ownAnswers}
+use Rattle.check_signatures.specs.SignatureAnswers.{delegated, responded}
+use Rattle.pile_signed.specs.OwnAnswers.{delegatedAt, respondedAt, ownAnswers}
 use Rattle.pile_signed.specs.Meaning.{IsSignedReport, SignedReportIn}
 use Rattle.pile_signed.proofs.Own.{ownAnswer, own-length, own-at, own-good}
 use Rattle.pile_signed.proofs.Alone.{report-alone}

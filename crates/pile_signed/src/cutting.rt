@@ -5,7 +5,7 @@ ghost use Rattle.laws.specs.Written.{written};
 ghost use Rattle.pile.specs.Meaning.{WholePile};
 ghost use Rattle.pile_runs.specs.Spans.{Answers};
 ghost use Rattle.pile_report.specs.Taking.{ConvictsIn, Takes, takenNumber, takenBytes};
-ghost use Rattle.pile_signed.specs.Answers.{ownAnswers};
+ghost use Rattle.pile_signed.specs.OwnAnswers.{ownAnswers};
 use super::gathering::signed_verdicts;
 use pile::RECORD;
 use pile::length_bad;

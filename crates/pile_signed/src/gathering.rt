@@ -6,7 +6,7 @@ ghost use Rattle.pile.specs.Pile.{recordsIn};
 ghost use Rattle.pile_report.specs.Promises.{UpToRefused};
 ghost use Rattle.pile_report.specs.Report.{judged};
 ghost use Rattle.pile_runs.specs.Convict.{verdictIn};
-ghost use Rattle.pile_signed.specs.Answers.{ownAnswers};
+ghost use Rattle.pile_signed.specs.OwnAnswers.{ownAnswers};
 use super::judging::checked_at;
 use check_response::Verdict;
 use pile::RECORD;

@@ -1,6 +1,6 @@
 // The check of a report with no answers lent.
 ghost use Rattle.pile_report.specs.Report.{Reports, reportNumber, ReportNumbered};
-ghost use Rattle.pile_signed.specs.Answers.{ownAnswers};
+ghost use Rattle.pile_signed.specs.OwnAnswers.{ownAnswers};
 use super::gathering::verdicts_until;
 use pile::RECORD;
 use pile::length_bad;

@@ -10,7 +10,7 @@ use Rattle.json.specs.declared.Found.the-variants.{At}
 use Rattle.json.specs.Members.{named, valuePlace, foundOf}
 use Rattle.json_tokens.specs.Scan.{pastWhile, blank}
 use Rattle.json_strings.specs.Text.{contentAt}
-use Rattle.base64.specs.Decode.{bytes, decodeOf}
+use Rattle.base64.specs.Decode.{bytes, decode64}
 use Rattle.report_read.specs.Entry.{Entry, randName, keyName, requestName, responseName, responsesName, elementsOf}
 use Rattle.json_laws.specs.Abnf.{JSON-text}
 
@@ -42,7 +42,7 @@ pub record Member (s : List ℕ) (at : ℕ) (name x : List ℕ) : Type 0 where
   pub place : ℕ
   pub once : foundOf s name 13 at ≡ At place
   pub string : getD s place 0 ≡ 34
-  pub base64 : decodeOf (contentAt s (place + 1)) ≡ bytes x
+  pub base64 : decode64 (contentAt s (place + 1)) ≡ bytes x
 
 -- the same, of 32 bytes (request P7)
 pub record Member32 (s : List ℕ) (at : ℕ) (name x : List ℕ) : Type 0 where

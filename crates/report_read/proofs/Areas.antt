@@ -15,7 +15,7 @@ use Rattle.laws.proofs.Numbers.{length-leBytes}
 use Rattle.json_tokens.specs.declared.Skip.{Skip}
 use Rattle.json_tokens.specs.declared.Skip.the-variants.{Past, Bad}
 use Rattle.json_strings.specs.Text.{contentAt}
-use Rattle.base64.specs.Decode.{Decoded, bytes, none, decodeOf}
+use Rattle.base64.specs.Decode.{Decoded, bytes, none, decode64}
 use Rattle.json_base64.specs.Sized.{plain}
 use Rattle.report_read.specs.Entry.{Entry, textPlace, memberOf, held, entryAt, randName, keyName, requestName}
 use Rattle.report_read.specs.Entry.{responseName}
@@ -35,18 +35,18 @@ module _ {x : Skip} {o : List ℕ} (n : ℕ) (s : List ℕ) (k : ℕ) (w : List 
   fill-none h = let q : n ≡ n - 0 = omega arith in rw (sym e ∙ h) (z ∙ ap (λ (m : ℕ). replicate m 0) q)
 
   pub fill-fits : {p : ℕ} → x ≡ Past p → length (held (memberOf s k w)) ≤ n
-      → length (plain (decodeOf (contentAt s p))) ≤ length o
+      → length (plain (decode64 (contentAt s p))) ≤ length o
   unfolding held memberOf
   fill-fits {p} h l =
-      let m : length (plain (decodeOf (contentAt s p))) ≤ n = rw (sym e ∙ h) at l in
+      let m : length (plain (decode64 (contentAt s p))) ≤ n = rw (sym e ∙ h) at l in
       omega (arith, ap length z, length-replicate {A = ℕ} n 0)
 
   pub fill-done : {p : ℕ} {to : List ℕ} → x ≡ Past p → length (held (memberOf s k w)) ≤ n
-      → to ≡ fronted (plain (decodeOf (contentAt s p))) o → to ≡ padded n (held (memberOf s k w))
+      → to ≡ fronted (plain (decode64 (contentAt s p))) o → to ≡ padded n (held (memberOf s k w))
   unfolding padded held memberOf
   fill-done {p} {to} h l g =
-      let y : List ℕ = plain (decodeOf (contentAt s p)) in
-      let m : length (plain (decodeOf (contentAt s p))) ≤ n = rw (sym e ∙ h) at l in
+      let y : List ℕ = plain (decode64 (contentAt s p)) in
+      let m : length (plain (decode64 (contentAt s p))) ≤ n = rw (sym e ∙ h) at l in
       rw (sym e ∙ h) (g ∙ rw z (ap (λ (q : List ℕ). y ++ q) (drop-replicate n (length y) 0 m)))
 
 -- ---- Two areas, one after the other.

@@ -15,7 +15,7 @@ use Rattle.json.specs.Value.{literalAt, plainAt, itemStep, memberStep, arrayOf,
 use Rattle.json.specs.Value.{isText}
 use Rattle.json.specs.Members.{membersOf, named, placeOf, valuePlace, answerOf, countOf, tally, foundOf}
 use Rattle.base64.specs.Alphabet.{sextetOf}
-use Rattle.base64.specs.Decode.{oneOf, twoOf, threeOf, groupOf, decodeOf}
+use Rattle.base64.specs.Decode.{oneOf, twoOf, threeOf, groupOf, decode64}
 use Rattle.report_read.specs.Entry.{stringOf, textPlace, memberOf, is64, held, is32, randGood, hasAll, entryAt}
 use Rattle.report_read.specs.Entry.{elementsOf, allOf, entriesAt, listOf, listPlace, entriesFrom, entriesOf}
 use Rattle.report_read.specs.Read.{readNumber, isBig, anyBig, readOf}
@@ -173,6 +173,6 @@ unfolding pick either both then thenStep pastWhile after pastColon onward walk m
     pastSign wholeAt fractionAt signedAt exponentAt integerAt numberAt escapeOf nibbleOf nibbleAt hexAt escapeAt
     leastSecond mostSecond secondAt tailAt longAt wideAt unitAt unitStep stringAt codesAt contentAt sameList literalAt
     plainAt itemStep memberStep arrayOf objectOf valueBy valueAt endsAt isText membersOf named placeOf valuePlace
-    answerOf countOf tally foundOf sextetOf oneOf twoOf threeOf groupOf decodeOf stringOf textPlace memberOf is64 held
+    answerOf countOf tally foundOf sextetOf oneOf twoOf threeOf groupOf decode64 stringOf textPlace memberOf is64 held
     is32 randGood hasAll entryAt elementsOf allOf entriesAt listOf listPlace entriesFrom entriesOf isBig anyBig readOf
 examples = tt

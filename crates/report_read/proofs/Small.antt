@@ -13,7 +13,7 @@ use Rattle.json_tokens.specs.declared.Skip.the-variants.{Past, Bad}
 use Rattle.json.specs.declared.Found.{Found}
 use Rattle.json.specs.declared.Found.the-variants.{At, Nothing, Twice}
 use Rattle.json_strings.specs.Text.{contentAt}
-use Rattle.base64.specs.Decode.{Decoded, bytes, none, decodeOf}
+use Rattle.base64.specs.Decode.{Decoded, bytes, none, decode64}
 use Rattle.json_base64.specs.declared.Size.{Size}
 use Rattle.json_base64.specs.declared.Size.the-variants.{Of}
 use Rattle.json_base64.specs.declared.Size.the-variants.{Bad as NoSize}
@@ -146,7 +146,7 @@ pub ruleset finds = (string-at, string-none, string-twice, list-at, list-none, l
 
 -- ---- Its string.
 pub member-at : {x : Skip} {p : ℕ} {r : Size} (s : List ℕ) (at : ℕ) (w : List ℕ) → x ≡ textPlace s at w → x ≡ Past p
-    → r ≡ sizeOf 0 (decodeOf (contentAt s p)) → r ≡ sizeIn (memberOf s at w)
+    → r ≡ sizeOf 0 (decode64 (contentAt s p)) → r ≡ sizeIn (memberOf s at w)
 unfolding memberOf sizeIn
 member-at s at w e h g = g ∙ ap (λ k. sizeOf 0 (decodedAt s k)) (sym h ∙ e)
 

@@ -18,7 +18,7 @@ use Rattle.json_tokens.specs.Walk.{starts}
 use Rattle.json_strings.specs.Text.{contentAt}
 use Rattle.json.specs.Value.{valueAt, itemStep, isText}
 use Rattle.json.specs.Members.{foundOf}
-use Rattle.base64.specs.Decode.{Decoded, bytes, none, decodeOf}
+use Rattle.base64.specs.Decode.{Decoded, bytes, none, decode64}
 use Rattle.json_base64.specs.declared.Size.{Size}
 use Rattle.json_base64.specs.Sized.{sizeOf, good, plain}
 
@@ -57,7 +57,7 @@ unfoldable pub textPlace : List ℕ → ℕ → List ℕ → Skip
 textPlace s at w = stringOf s (foundOf s w 13 at)
 
 abbrev pub decodedAt : List ℕ → Skip → Decoded
-decodedAt s (Past p) = decodeOf (contentAt s p)
+decodedAt s (Past p) = decode64 (contentAt s p)
 decodedAt s Bad = none
 
 -- what that string stands for in base64

@@ -19,7 +19,7 @@ use Rattle.report_read.specs.Record.{recordsOf}
 use Rattle.report_read.specs.declared.Read.{Read}
 use Rattle.report_read.specs.declared.Read.the-variants.{Records, Amount, NoReport, Short}
 use Rattle.report_read.proofs.Piles.{records-length}
-use Rattle.pile_signed.specs.Answers.{ownAnswers}
+use Rattle.pile_signed.specs.OwnAnswers.{ownAnswers}
 use Rattle.report_text.specs.declared.Forwarded.{Forwarded}
 use Rattle.report_text.specs.declared.Forwarded.the-variants.{NoReport as NoText, Amount as Much, Short as NoRoom}
 use Rattle.report_text.specs.Forwarded.{CutsText, Forwards, pileOf, forwardedNumber, forwardedBytes}

@@ -6,7 +6,7 @@ ghost use Rattle.laws.specs.Pasted.{part};
 ghost use Rattle.laws.specs.Written.{written};
 ghost use Rattle.report_write.specs.Entries.{textOf};
 ghost use Rattle.report_write.specs.Pieces.{Writable};
-ghost use Rattle.pile_signed.specs.Answers.{ownAnswers};
+ghost use Rattle.pile_signed.specs.OwnAnswers.{ownAnswers};
 ghost use Rattle.report_text.specs.Forwarded.{roomed, pileOf, CutsText, Forwards, forwardedNumber, forwardedBytes};
 use super::Forwarded;
 use pile::RECORD;

@@ -3,7 +3,7 @@ ghost use mathlib.Core.Path.{_≡_};
 ghost use lib.ListN.{length};
 ghost use Rattle.laws.specs.Written.{written};
 ghost use Rattle.report_write.specs.Published.{Publishes, publishedNumber, publishedBytes};
-ghost use Rattle.pile_signed.specs.Answers.{ownAnswers};
+ghost use Rattle.pile_signed.specs.OwnAnswers.{ownAnswers};
 use pile_report::Report;
 use pile_signed::check_signed_report;
 use report_write::Published;

@@ -16,7 +16,7 @@ use Rattle.base64.specs.declared.Group.{Group}
 use Rattle.base64.specs.declared.Group.the-variants.{Three, Two, One}
 use Rattle.base64.specs.declared.Group.the-variants.{Bad as BadGroup}
 use Rattle.base64.specs.Alphabet.{sextetOf}
-use Rattle.base64.specs.Decode.{Decoded, bytes, none, joined, oneOf, twoOf, threeOf, groupOf, decodeOf}
+use Rattle.base64.specs.Decode.{Decoded, bytes, none, joined, oneOf, twoOf, threeOf, groupOf, decode64}
 use Rattle.base64.proofs.Tables.{back-letter}
 use Rattle.report_read.specs.Entry.{Entry, randName, keyName, requestName, responseName, textPlace, decodedAt, memberOf}
 use Rattle.report_read.specs.Entry.{is32, held, randGood, hasAll, entryAt, elementsOf, allOf, entriesAt, listPlace, these}
@@ -74,14 +74,14 @@ joined-bytes (One x) [] d h a = more-bytes [] h no-bytes
 joined-bytes (One x) (c ∷ l) d h a = tt
 joined-bytes BadGroup l d h a = tt
 
-pub decode-bytes : (x : List ℕ) → All (decodeOf x)
-unfolding decodeOf
+pub decode-bytes : (x : List ℕ) → All (decode64 x)
+unfolding decode64
 decode-bytes [] = no-bytes
 decode-bytes (a ∷ []) = tt
 decode-bytes (a ∷ b ∷ []) = tt
 decode-bytes (a ∷ b ∷ c ∷ []) = tt
 decode-bytes (a ∷ b ∷ c ∷ d ∷ xs) =
-    joined-bytes (groupOf a b c d) xs (decodeOf xs) (group-bytes a b c d) (decode-bytes xs)
+    joined-bytes (groupOf a b c d) xs (decode64 xs) (group-bytes a b c d) (decode-bytes xs)
 
 held-bytes : (d : Decoded) → All d → Bytes (held d)
 unfolding held

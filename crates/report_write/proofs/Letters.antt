@@ -11,7 +11,7 @@ use Rattle.digits.proofs.Table.{at, both, both-left, both-right}
 use Rattle.json_strings.proofs.Plain.{Plain, Each, none, one}
 use Rattle.report_read.specs.Entry.{randName, keyName, requestName, responseName, responsesName}
 use Rattle.base64.specs.Alphabet.{letterOf}
-use Rattle.base64.specs.Encode.{encodeOf}
+use Rattle.base64.specs.Encode.{encode64}
 use Rattle.base64.proofs.Tables.{letters, letter-at}
 
 plain-right : ℕ → ℕ → Bool
@@ -42,8 +42,8 @@ letter-plain n h = subst (λ (x : ℕ). Plain x) (letter-at n h) (plain-of n (ge
 pad-plain : Plain 61
 pad-plain = record { low = omega arith; high = omega arith; quote = λ e. omega arith; slash = λ e. omega arith }
 
-pub each-encode : (x : List ℕ) → Bytes x → Each (encodeOf x)
-unfolding encodeOf
+pub each-encode : (x : List ℕ) → Bytes x → Each (encode64 x)
+unfolding encode64
 each-encode [] h = none
 each-encode (a ∷ []) h =
     let ha : a < 256 = h 0 in

@@ -5,7 +5,7 @@ use mathlib.Core.Bool.{Bool, true, false}
 use mathlib.Core.List.{List, [], _∷_, _++_, append-assoc}
 use native.Mathlib.Omega.{arith}
 use lib.ListN.{length, take, drop, length-append, length-take}
-use Rattle.base64.specs.Encode.{encodeOf}
+use Rattle.base64.specs.Encode.{encode64}
 use Rattle.base64.proofs.Encodes.{encode-length}
 use Rattle.report_read.specs.Entry.{Entry}
 use Rattle.laws.proofs.Pasted.{length-part}
@@ -17,13 +17,13 @@ use Rattle.report_write.specs.Pieces.{piece, headOf, packetsOf, objectTe
 
 rest-is : (e : Entry) (t : List ℕ)
     → packetsOf e ++ t
-    ≡ requestWord ++ (encodeOf (e .request) ++ (responseWord ++ (encodeOf (e .response) ++ t)))
+    ≡ requestWord ++ (encode64 (e .request) ++ (responseWord ++ (encode64 (e .response) ++ t)))
 unfolding packetsOf piece
 rest-is e t =
     append-assoc (piece requestWord (e .request)) (piece responseWord (e .response)) t
-    ∙ append-assoc requestWord (encodeOf (e .request)) (piece responseWord (e .response) ++ t)
-    ∙ ap (λ (l : List ℕ). requestWord ++ (encodeOf (e .request) ++ l))
-    (append-assoc responseWord (encodeOf (e .response)) t)
+    ∙ append-assoc requestWord (encode64 (e .request)) (piece responseWord (e .response) ++ t)
+    ∙ ap (λ (l : List ℕ). requestWord ++ (encode64 (e .request) ++ l))
+    (append-assoc responseWord (encode64 (e .response)) t)
 
 close : (first : Bool) (e : Entry) (t : List ℕ)
     → objectText first e ++ t ≡ headOf first e ++ (packetsOf e ++ (34 ∷ 125 ∷ t))
@@ -37,18 +37,18 @@ unfolding headOf piece
 object-is true e t =
     close true e t
     ∙ ap (λ (l : List ℕ). piece firstWord (e .key) ++ l) (rest-is e (34 ∷ 125 ∷ t))
-    ∙ append-assoc firstWord (encodeOf (e .key)) _
+    ∙ append-assoc firstWord (encode64 (e .key)) _
 object-is false e t =
     close false e t
     ∙ ap (λ (l : List ℕ). (piece randWord (e .rand) ++ piece keyWord (e .key)) ++ l) (rest-is e (34 ∷ 125 ∷ t))
     ∙ append-assoc (piece randWord (e .rand)) (piece keyWord (e .key)) _
-    ∙ append-assoc randWord (encodeOf (e .rand)) _
-    ∙ ap (λ (l : List ℕ). randWord ++ (encodeOf (e .rand) ++ l)) (append-assoc keyWord (encodeOf (e .key)) _)
+    ∙ append-assoc randWord (encode64 (e .rand)) _
+    ∙ ap (λ (l : List ℕ). randWord ++ (encode64 (e .rand) ++ l)) (append-assoc keyWord (encode64 (e .key)) _)
 
 -- ---- lengths
 piece-length : (w x : List ℕ) → length (piece w x) ≡ length w + (length x + 2) / 3 * 4
 unfolding piece
-piece-length w x = length-append w (encodeOf x) ∙ ap (λ (n : ℕ). length w + n) (encode-length x)
+piece-length w x = length-append w (encode64 x) ∙ ap (λ (n : ℕ). length w + n) (encode-length x)
 
 packets-length : (e : Entry)
     → length (packetsOf e) ≡ 27 + (length (e .request) + 2) / 3 * 4 + (length (e .response) + 2) / 3 * 4

@@ -8,7 +8,7 @@ use Rattle.laws.specs.Pasted.{pasted, fronted}
 use Rattle.laws.specs.Written.{Puts}
 use Rattle.laws.proofs.Pasted.{part-back, length-part}
 use Rattle.laws.proofs.Written.{puts-length}
-use Rattle.base64.specs.Encode.{encodeOf}
+use Rattle.base64.specs.Encode.{encode64}
 
 -- a piece fits where it and the next one do
 pub left-fits : {n : ℕ} (at : ℕ) (x y : List ℕ) → at + length (x ++ y) ≤ n → at + length x ≤ n
@@ -20,13 +20,13 @@ pub right-fits : {o d : List ℕ} {at k : ℕ} (x y : List ℕ) → Puts o at x 
 right-fits x y p h = omega (arith, length-append x y, p .ends, puts-length p)
 
 -- base64 in a part that is as long
-pub code-back : {y : List ℕ} (x d : List ℕ) (at n : ℕ) → n ≡ length (encodeOf x) → at + n ≤ length d
-    → y ≡ fronted (encodeOf x) (take (at + n - at) (drop at d))
-    → take at d ++ (y ++ drop (at + n - at) (drop at d)) ≡ pasted d at (encodeOf x)
+pub code-back : {y : List ℕ} (x d : List ℕ) (at n : ℕ) → n ≡ length (encode64 x) → at + n ≤ length d
+    → y ≡ fronted (encode64 x) (take (at + n - at) (drop at d))
+    → take at d ++ (y ++ drop (at + n - at) (drop at d)) ≡ pasted d at (encode64 x)
 code-back {y} x d at n q h e = part-back d at (at + n - at) (e ∙ whole) (omega arith)
   where
-    short : length (take (at + n - at) (drop at d)) ≤ length (encodeOf x)
+    short : length (take (at + n - at) (drop at d)) ≤ length (encode64 x)
     short = omega (arith, length-part d at (at + n) (omega arith) h)
 
-    whole : fronted (encodeOf x) (take (at + n - at) (drop at d)) ≡ encodeOf x
-    whole = rw (drop-of-length-le (take (at + n - at) (drop at d)) short) (append-nil (encodeOf x))
+    whole : fronted (encode64 x) (take (at + n - at) (drop at d)) ≡ encode64 x
+    whole = rw (drop-of-length-le (take (at + n - at) (drop at d)) short) (append-nil (encode64 x))

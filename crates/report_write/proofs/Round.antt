@@ -26,8 +26,8 @@ use Rattle.json.proofs.Stands.{value-string}
 use Rattle.json_tokens.proofs.Stands.{colon-reads, close-reads, comma-reads}
 use Rattle.json.proofs.Stands.{member-reads}
 use Rattle.json.proofs.Written.{Member, membersText, Clean, last, more, tallyText, find-written}
-use Rattle.base64.specs.Encode.{encodeOf}
-use Rattle.base64.specs.Decode.{bytes, decodeOf}
+use Rattle.base64.specs.Encode.{encode64}
+use Rattle.base64.specs.Decode.{bytes, decode64}
 use Rattle.laws.specs.Bytes.{Bytes}
 use Rattle.base64.proofs.Codec.{decode-encode}
 use Rattle.report_read.specs.Entry.{Entry, randName, keyName, requestName, responseName, responsesName, stringOf, textPlace}
@@ -153,10 +153,10 @@ members-found {s} {k} d w m ms t c h =
 
 -- ---- The members of an entry.
 member-value : {s : List ℕ} {v : ℕ} (k : ℕ) (w x t : List ℕ) → Bytes x → foundOf s w 13 k ≡ At v
-    → Ends s v (34 ∷ (encodeOf x ++ 34 ∷ t)) → memberOf s k w ≡ bytes x
+    → Ends s v (34 ∷ (encode64 x ++ 34 ∷ t)) → memberOf s k w ≡ bytes x
 unfolding memberOf textPlace stringOf pick
 member-value {s} {v} k w x t b f h =
-    rw f (rw (stands-at (stands h)) (ap decodeOf (string-content (encodeOf x) t (each-encode x b) (stands (next h)))
+    rw f (rw (stands-at (stands h)) (ap decode64 (string-content (encode64 x) t (each-encode x b) (stands (next h)))
     ∙ decode-encode x b))
 
 -- an entry that a report has: the first one's rand is zero
@@ -170,7 +170,7 @@ pub record Whole (first : Bool) (e : Entry) : Type 0 where
   pub response : Bytes (e .response)
 
 abbrev of : List ℕ → List ℕ → Member
-of w x = record { name = w; value = encodeOf x }
+of w x = record { name = w; value = encode64 x }
 
 abbrev lastTwo : Entry → List Member
 lastTwo e = of requestName (e .request) ∷ of responseName (e .response) ∷ []
@@ -194,22 +194,22 @@ record Held (s : List ℕ) (k : ℕ) (e : Entry) : Type 0 where
 rest-held : {s : List ℕ} (k : ℕ) {first : Bool} (e : Entry) (j : ℕ) (t : List ℕ) → Whole first e
     → Ends s j (restText e t)
     → foundOf s keyName 13 k ≡ At (j + length keyName + 3)
-    → foundOf s requestName 13 k ≡ At (j + length keyName + length (encodeOf (e .key)) + 6 + length requestName + 3)
+    → foundOf s requestName 13 k ≡ At (j + length keyName + length (encode64 (e .key)) + 6 + length requestName + 3)
     → foundOf s responseName 13 k ≡ At
-    (j + length keyName + length (encodeOf (e .key)) + 6 + length requestName + length
-    (encodeOf (e .request)) + 6 + length responseName + 3)
+    (j + length keyName + length (encode64 (e .key)) + 6 + length requestName + length
+    (encode64 (e .request)) + 6 + length responseName + 3)
     → Held s k e
 rest-held {s} k e j t w h f g i =
-    let u = member-next keyName (encodeOf (e .key)) _ h in
-    let v = member-next requestName (encodeOf (e .request)) _ u in
+    let u = member-next keyName (encode64 (e .key)) _ h in
+    let v = member-next requestName (encode64 (e .request)) _ u in
     record {
-      key = member-value k keyName (e .key) _ (w .key) f (value-place keyName (encodeOf (e .key)) _ h);
+      key = member-value k keyName (e .key) _ (w .key) f (value-place keyName (encode64 (e .key)) _ h);
       request =
           member-value k requestName (e .request) _ (w .request) g
-          (value-place requestName (encodeOf (e .request)) _ u);
+          (value-place requestName (encode64 (e .request)) _ u);
       response =
           member-value k responseName (e .response) _ (w .response) i
-          (value-place responseName (encodeOf (e .response)) _ v);
+          (value-place responseName (encode64 (e .response)) _ v);
     }
 
 first-held : {s : List ℕ} {k : ℕ} (e : Entry) (t : List ℕ) → Whole true e → Ends s k (entryText true e t) → Held s k e
@@ -223,8 +223,8 @@ first-held {s} {k} e t w h =
 later-held : {s : List ℕ} {k : ℕ} (e : Entry) (t : List ℕ) → Whole false e → Ends s k (entryText false e t) → Held s k e
 unfolding sameList both countOf answerOf pick
 later-held {s} {k} e t w h =
-    rest-held k e (k + 1 + length randName + length (encodeOf (e .rand)) + 6) t w
-    (member-next randName (encodeOf (e .rand)) (restText e t) (next h))
+    rest-held k e (k + 1 + length randName + length (encode64 (e .rand)) + 6) t w
+    (member-next randName (encode64 (e .rand)) (restText e t) (next h))
     (members-found 13 keyName (of randName (e .rand)) (of keyName (e .key) ∷ lastTwo e) t (clean-all w) h)
     (members-found 13 requestName (of randName (e .rand)) (of keyName (e .key) ∷ lastTwo e) t (clean-all w) h)
     (members-found 13 responseName (of randName (e .rand)) (of keyName (e .key) ∷ lastTwo e) t (clean-all w) h)
@@ -235,7 +235,7 @@ unfolding sameList both countOf answerOf pick
 later-rand {s} {k} e t w h =
     member-value k randName (e .rand) (44 ∷ restText e t) (w .rand)
     (members-found 13 randName (of randName (e .rand)) (of keyName (e .key) ∷ lastTwo e) t (clean-all w) h)
-    (value-place randName (encodeOf (e .rand)) (44 ∷ restText e t) (next h))
+    (value-place randName (encode64 (e .rand)) (44 ∷ restText e t) (next h))
 
 -- ---- An entry is read as it was.
 record Reading (s : List ℕ) (first : Bool) (k : ℕ) (e : Entry) (t : List ℕ) : Type 0 where
@@ -289,7 +289,7 @@ record Listed (s : List ℕ) (first : Bool) (k : ℕ) (es : List Entry) (t : Lis
 
 -- what stands after the opening brace
 abbrev laterTail : Entry → List ℕ → List ℕ
-laterTail e t = 34 ∷ (randName ++ 34 ∷ 58 ∷ 34 ∷ (encodeOf (e .rand) ++ 34 ∷ 44 ∷ restText e t))
+laterTail e t = 34 ∷ (randName ++ 34 ∷ 58 ∷ 34 ∷ (encode64 (e .rand) ++ 34 ∷ 44 ∷ restText e t))
 
 tail : Entry → List Entry → List ℕ → List ℕ
 tail e [] t = laterTail e (93 ∷ t)

@@ -4,7 +4,7 @@ use mathlib.Core.Bool.{Bool, true, false}
 use mathlib.Core.List.{List, [], _∷_, _++_}
 use mathlib.Core.Path.{_≡_}
 use lib.ListN.{length}
-use Rattle.base64.specs.Encode.{encodeOf}
+use Rattle.base64.specs.Encode.{encode64}
 use Rattle.report_read.specs.Entry.{Entry}
 use Rattle.laws.specs.Ascii.{ascii}
 use Rattle.pile.specs.Pile.{recordsIn, recordAt, requestLength, responseLength}
@@ -29,7 +29,7 @@ responseWord = ascii "\",\"response\":\""
 
 -- a word, and bytes in base64
 unfoldable pub piece : List ℕ → List ℕ → List ℕ
-piece w x = w ++ encodeOf x
+piece w x = w ++ encode64 x
 
 unfoldable pub headOf : Bool → Entry → List ℕ
 headOf true e = piece firstWord (e .key)

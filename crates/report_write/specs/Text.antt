@@ -5,12 +5,12 @@
 use Prim.Native.Nat.{ℕ}
 use mathlib.Core.Bool.{Bool, true, false}
 use mathlib.Core.List.{List, [], _∷_, _++_}
-use Rattle.base64.specs.Encode.{encodeOf}
+use Rattle.base64.specs.Encode.{encode64}
 use Rattle.report_read.specs.Entry.{Entry, randName, keyName, requestName, responseName, responsesName}
 
 -- "name":"base64"
 abbrev pub memberText : List ℕ → List ℕ → List ℕ → List ℕ
-memberText name x t = 34 ∷ (name ++ 34 ∷ 58 ∷ 34 ∷ (encodeOf x ++ 34 ∷ t))
+memberText name x t = 34 ∷ (name ++ 34 ∷ 58 ∷ 34 ∷ (encode64 x ++ 34 ∷ t))
 
 -- the three members that every object has, with commas between them, and the closing brace
 abbrev pub restText : Entry → List ℕ → List ℕ

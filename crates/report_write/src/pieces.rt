@@ -2,7 +2,7 @@
 ghost use mathlib.Core.Path.{_≡_};
 ghost use Prim.Native.Nat.{_+_, _≤_};
 ghost use lib.ListN.{length};
-ghost use Rattle.base64.specs.Encode.{encodeOf};
+ghost use Rattle.base64.specs.Encode.{encode64};
 ghost use Rattle.laws.specs.Written.{Puts};
 ghost use Rattle.report_write.specs.Entries.{entryOf};
 ghost use Rattle.report_write.specs.Pieces.{piece, headOf, packetsOf, objectText, Fits};
@@ -13,8 +13,8 @@ use pile::response_of;
 
 // Bytes in base64.
 fn put_code(out: &mut [u8], at: usize, s: &[u8]) -> usize
-    requires { ⌜ at + length (encodeOf (now s)) ≤ length (now out) ⌝ }
-    ensures { λ r. ⌜ Puts (now (out .entry)) at (encodeOf (now (s .entry))) (now (out .exit)) r ⌝ }
+    requires { ⌜ at + length (encode64 (now s)) ≤ length (now out) ⌝ }
+    ensures { λ r. ⌜ Puts (now (out .entry)) at (encode64 (now (s .entry))) (now (out .exit)) r ⌝ }
 {
     let n = (s.len() + 2) / 3 * 4;
     encode(s, &mut out[at..at + n]);

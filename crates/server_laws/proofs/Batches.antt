@@ -10,7 +10,7 @@ use borrow.Author.Tests.{eq-eqb, le-leb}
 use lib.ListN.{length, take}
 use mathlib.Core.List.{append-nil}
 use Rattle.tree_build.specs.Leaves.{most, countOf, heldOf}
-use Rattle.tree_build.specs.Answers.{PlacesLeaf, fromBytes}
+use Rattle.tree_build.specs.Building.{PlacesLeaf, fromBytes}
 use Rattle.tree_build.specs.declared.Placed.the-variants as placed
 use Rattle.tree_build.proofs.Leaves.{held-is}
 use Rattle.tree_build.proofs.Served.{last-long, served-leads}

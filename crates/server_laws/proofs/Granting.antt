@@ -12,7 +12,7 @@ use Rattle.laws.proofs.Any.{any-not, any-none, any-parts}
 use Rattle.laws.proofs.First.{says-0, test-false, is-last, is-empty, none-quiet, row-quiet, test-quiet}
 use Rattle.wire_message.specs.Rules.{messageCode}
 use Rattle.wire_message.proofs.Codes.{code-passed}
-use Rattle.refusal.specs.Refusal.{passed, moved, refusals}
+use Rattle.refusal.specs.Refusal.{passed, shifted, refusals}
 use Rattle.server_response.specs.Refusing.{deleOf, mintOf, maxtOf, certCode, replyMisses, midpOutside, replyLonger, replyCode}
 use Rattle.server_response.specs.Response.{Reply, responseBytes}
 use Rattle.tree.specs.PathCheck.{leadsOf}
@@ -63,7 +63,7 @@ module _ (a : Reply) where
         none-quiet refusals
         (sym
         (says-0 refusals _ _ refl (g .certified)
-        (is-last refusals (sym (ap (moved _) (code-passed (deleOf (a .cert)) deleTable (g .delegated)))))))
+        (is-last refusals (sym (ap (shifted _) (code-passed (deleOf (a .cert)) deleTable (g .delegated)))))))
 
     no-miss : replyMisses (a .request) (a .indx) (a .path) (a .root) ≡ false
     unfolding replyMisses

@@ -21,7 +21,7 @@ use Rattle.wire_message.proofs.Codes as codes
 use Rattle.wire_message.proofs.Codes.{code-passed}
 use Rattle.wire_message.proofs.Encoded.{value-encoded}
 use Rattle.wire_message.proofs.FieldRows.{AllHeld, all-passes}
-use Rattle.refusal.specs.Refusal.{passed, moved, refusals}
+use Rattle.refusal.specs.Refusal.{passed, shifted, refusals}
 use Rattle.server_response.specs.Refusing.{deleOf, mintOf, maxtOf}
 use Rattle.server_response.specs.Response.{Reply, nonceOf, responseFields, responseBytes}
 use Rattle.server_parts.specs.Signed.{srepFields, srepBytes}
@@ -199,7 +199,7 @@ module _ (a : Reply) (t : Typed a) (g : Granted a) where
       (says-0 refusals _ _ refl (none-quiet refusals root-good)
       (says-0 refusals _ _ refl (none-quiet refusals srep-good)
       (says-0 refusals _ _ refl (none-quiet refusals cert-good)
-      (is-last refusals (sym (ap (moved _) dele-good))))))
+      (is-last refusals (sym (ap (shifted _) dele-good))))))
 
   version-listed : versionUnlisted (body p) ≡ false
   unfolding versionUnlisted
@@ -217,14 +217,14 @@ module _ (a : Reply) (t : Typed a) (g : Granted a) where
   response-good : responseCode p ≡ passed
   unfolding responseCode
   response-good =
-      fields-pass (λ m. moved bodyStart (responseMessageCode m)) p (responseFields a) packet
-      (ap (moved bodyStart) (rw body-is at message-good))
+      fields-pass (λ m. shifted bodyStart (responseMessageCode m)) p (responseFields a) packet
+      (ap (shifted bodyStart) (rw body-is at message-good))
 
   signed-good : signedCode p ≡ passed
   unfolding signedCode
   signed-good =
-      fields-pass (λ m. moved bodyStart (shapeCode m)) p (responseFields a) packet
-      (ap (moved bodyStart) (rw body-is at shape-good))
+      fields-pass (λ m. shifted bodyStart (shapeCode m)) p (responseFields a) packet
+      (ap (shifted bodyStart) (rw body-is at shape-good))
 
   -- ---- nor any of 14 and 8 to 13
 

@@ -10,13 +10,13 @@ use native.Mathlib.Omega.{arith}
 use borrow.Author.Tests.{eq-eqb, eqb-true}
 use Rattle.laws.proofs.First.{first-keeps, when-keeps, end-keeps, test-quiet}
 use Rattle.wire_message.specs.Places.{RowsRise}
-use Rattle.wire_message.specs.Rules.{Row, messageCode}
+use Rattle.wire_message.specs.Rules.{TagRule, messageCode}
 use Rattle.wire_message.specs.Sentences.{Good}
 use Rattle.wire_message.specs.Tags.{DELE}
 use Rattle.wire_message.specs.Values.{valueStart}
 use Rattle.wire_message.proofs.Codes.{code-7, message-good}
 use Rattle.wire_message.proofs.Places.{place-7}
-use Rattle.refusal.specs.Refusal.{refusals, moved, when}
+use Rattle.refusal.specs.Refusal.{refusals, shifted, when}
 use Rattle.refusal.specs.declared.Refusal.{Refusal}
 use Rattle.server_response.specs.Refusing.{certCode, replyCode}
 use Rattle.server_response.specs.Response.{Reply}
@@ -32,11 +32,11 @@ start-later : (m : List ℕ) → Good m → (tag : ℕ) → 0 < valueStart m tag
 unfolding valueStart
 start-later m g tag = omega (arith, g .head .one)
 
-message-7 : (m : List ℕ) (rows : List Row) → RowsRise rows → Placed7 (messageCode m rows)
+message-7 : (m : List ℕ) (rows : List TagRule) → RowsRise rows → Placed7 (messageCode m rows)
 message-7 m rows rise e = rw (place-7 m rows rise e .is) (start-later m (code-7 m rows .0 e .0) _)
 
-moved-7 : (by : ℕ) (r : Refusal) → 0 < by → Placed7 (moved by r)
-moved-7 by r h e = rw e (omega arith)
+shifted-7 : (by : ℕ) (r : Refusal) → 0 < by → Placed7 (shifted by r)
+shifted-7 by r h e = rw e (omega arith)
 
 -- another code than 7
 other-7 : (P : Refusal → Type 0) (n : ℕ) → (n ≡ 7 → ⊥) → (b : Bool)
@@ -48,7 +48,7 @@ unfolding certCode
 cert-7 cert =
     first-keeps refusals Placed7 _ _ (message-7 cert certTable cert-rises)
     (λ a. first-keeps refusals Placed7 _ _
-    (moved-7 (valueStart cert DELE) _ (start-later cert (message-good cert certTable _ refl a) DELE))
+    (shifted-7 (valueStart cert DELE) _ (start-later cert (message-good cert certTable _ refl a) DELE))
     (λ b. end-keeps refusals Placed7 (λ e. absurd (omega arith))))
 
 module _ (a : Reply) where

@@ -6,7 +6,7 @@ use mathlib.Core.Path.{_≡_}
 use Prim.Native.Nat.{ℕ, _*_, _-_, _^_, _≤_, _<_}
 use lib.ListN.{length, take}
 use Rattle.tree_build.specs.AllRows.{nodesOf}
-use Rattle.tree_build.specs.Answers.{PlacesLeaf, fromBytes, LaysRows, rowsBytes}
+use Rattle.tree_build.specs.Building.{PlacesLeaf, fromBytes, LaysRows, rowsBytes}
 use Rattle.tree_build.specs.Leaves.{most, countOf, heldOf}
 use Rattle.tree_build.specs.declared.Laid.the-variants as laid
 use Rattle.tree_build.specs.declared.Placed.the-variants as placed

@@ -17,7 +17,7 @@ use Rattle.laws.proofs.Same.{same-refl, same-true}
 use Rattle.laws.proofs.Upto.{upto-length, upto-at}
 use Rattle.server_list.specs.Lists.{serverCount, serverAt, serversIn, srvIn, serves, servesAt}
 use Rattle.server_list.specs.Lookup.{searched, handed, whereNumber, sought}
-use Rattle.server_list.specs.Meaning.{WholeLists, IsFirstIn, NotIn, FindsServer, Serves, FirstServes}
+use Rattle.server_list.specs.Meaning.{WholeLists, IsFirstIn, NotIn, FindsServer, HasSrv, FirstWithSrv}
 use Rattle.server_list.specs.declared.Where.{Where}
 use Rattle.server_list.specs.declared.Where.the-variants.{Owner, Shipped, Ragged, Unknown}
 use Rattle.server_list.proofs.Matching.{server-long, partOf, part-sought}
@@ -40,7 +40,7 @@ server-in list k h = upto-at (serverAt list) (serverCount list) k [] h
 
 -- record i of some records, which is r
 served : (srv : List ℕ) (records : List (List ℕ)) (i : ℕ) (r : List ℕ) → i < length records → getD records i [] ≡ r
-    → T (serves srv r) ↔ Serves srv records i
+    → T (serves srv r) ↔ HasSrv srv records i
 served srv records i r h e = (
   λ t. record { there = h; value = ap srvIn e ∙ serves-exactly srv r .0 t },
   λ s. serves-exactly srv r .1 (ap srvIn (sym e) ∙ s .value),
@@ -61,19 +61,19 @@ module _ (owner shipped srv : List ℕ) where
   at-shipped j h =
       rw (← count-servers owner) (getD-append-add (serversIn owner) (serversIn shipped) j []) ∙ server-in shipped j h
 
-  served-owner : (i : ℕ) → i < serverCount owner → T (servesAt srv owner i) ↔ Serves srv (searched owner shipped) i
+  served-owner : (i : ℕ) → i < serverCount owner → T (servesAt srv owner i) ↔ HasSrv srv (searched owner shipped) i
   served-owner i h =
       served srv (searched owner shipped) i (serverAt owner i) (omega (arith, count-searched)) (at-owner i h)
 
   served-shipped : (j : ℕ) → j < serverCount shipped
-      → T (servesAt srv shipped j) ↔ Serves srv (searched owner shipped) (serverCount owner + j)
+      → T (servesAt srv shipped j) ↔ HasSrv srv (searched owner shipped) (serverCount owner + j)
   served-shipped j h =
       served srv (searched owner shipped) (serverCount owner + j) (serverAt shipped j) (omega (arith, count-searched))
       (at-shipped j h)
 
   -- none of the owner's records has the SRV value, and none of the first m shipped ones: none of both has
   none-before : (m : ℕ) → m ≤ serverCount shipped → NotIn owner srv → Never (servesAt srv shipped) m
-      → (i : ℕ) → i < serverCount owner + m → Serves srv (searched owner shipped) i → ⊥
+      → (i : ℕ) → i < serverCount owner + m → HasSrv srv (searched owner shipped) i → ⊥
   none-before m l a b i h s = by (ltb i (serverCount owner)) refl
     where
       by : (t : Bool) → ltb i (serverCount owner) ≡ t → ⊥
@@ -81,16 +81,16 @@ module _ (owner shipped srv : List ℕ) where
       by false e =
           let g = ltb-false i (serverCount owner) e in
           let j = i - serverCount owner in
-          let t : Serves srv (searched owner shipped) (serverCount owner + j) =
-          subst (Serves srv (searched owner shipped)) (omega arith) s in
+          let t : HasSrv srv (searched owner shipped) (serverCount owner + j) =
+          subst (HasSrv srv (searched owner shipped)) (omega arith) s in
           b j (omega arith) (served-shipped j (omega arith) .1 t)
 
-  none-at-all : NotIn owner srv → NotIn shipped srv → (i : ℕ) → Serves srv (searched owner shipped) i → ⊥
+  none-at-all : NotIn owner srv → NotIn shipped srv → (i : ℕ) → HasSrv srv (searched owner shipped) i → ⊥
   none-at-all a b i s =
       none-before (serverCount shipped) (le-refl (serverCount shipped)) a b i (rw (← count-searched) (s .there)) s
 
   -- the record that an answer names is the first of both lists that has the value
-  first-owner : (k : ℕ) → IsFirstIn owner srv k → FirstServes srv (searched owner shipped) (serverAt owner k)
+  first-owner : (k : ℕ) → IsFirstIn owner srv k → FirstWithSrv srv (searched owner shipped) (serverAt owner k)
   first-owner k f = record {
     place = k;
     here = served-owner k (f .inside) .0 (f .holds);
@@ -99,7 +99,7 @@ module _ (owner shipped srv : List ℕ) where
   }
 
   first-shipped : (k : ℕ) → NotIn owner srv → IsFirstIn shipped srv k
-      → FirstServes srv (searched owner shipped) (serverAt shipped k)
+      → FirstWithSrv srv (searched owner shipped) (serverAt shipped k)
   first-shipped k n f = record {
     place = serverCount owner + k;
     here = served-shipped k (f .inside) .0 (f .holds);
@@ -121,11 +121,11 @@ module _ (owner shipped srv : List ℕ) where
 
   -- 22 exactly where both are, and no record of either has the SRV value,
   pub unknown-exactly : whereNumber (sought owner shipped srv) ≡ 22
-      ↔ WholeLists owner shipped × ((i : ℕ) → Serves srv (searched owner shipped) i → ⊥)
+      ↔ WholeLists owner shipped × ((i : ℕ) → HasSrv srv (searched owner shipped) i → ⊥)
   unknown-exactly = by (sought owner shipped srv) (sought-finds owner shipped srv)
     where
       by : (w : Where) → FindsServer owner shipped srv w
-          → whereNumber w ≡ 22 ↔ WholeLists owner shipped × ((i : ℕ) → Serves srv (searched owner shipped) i → ⊥)
+          → whereNumber w ≡ 22 ↔ WholeLists owner shipped × ((i : ℕ) → HasSrv srv (searched owner shipped) i → ⊥)
       by (Owner k) f = (λ e. absurd (omega (arith, e)), λ r. absurd (r .1 _ (first-owner k (f .1) .here)))
       by (Shipped k) f =
           (λ e. absurd (omega (arith, e)), λ r. absurd (r .1 _ (first-shipped k (f .1) (f .2) .here)))
@@ -134,11 +134,11 @@ module _ (owner shipped srv : List ℕ) where
 
   -- and 0 exactly where both are, and some record has it.
   pub found-exactly : whereNumber (sought owner shipped srv) ≡ 0
-      ↔ WholeLists owner shipped × ((i : ℕ) × Serves srv (searched owner shipped) i)
+      ↔ WholeLists owner shipped × ((i : ℕ) × HasSrv srv (searched owner shipped) i)
   found-exactly = by (sought owner shipped srv) (sought-finds owner shipped srv)
     where
       by : (w : Where) → FindsServer owner shipped srv w
-          → whereNumber w ≡ 0 ↔ WholeLists owner shipped × ((i : ℕ) × Serves srv (searched owner shipped) i)
+          → whereNumber w ≡ 0 ↔ WholeLists owner shipped × ((i : ℕ) × HasSrv srv (searched owner shipped) i)
       by (Owner k) f = (λ e. (f .0, (_, first-owner k (f .1) .here)), λ r. refl)
       by (Shipped k) f = (λ e. (f .0, (_, first-shipped k (f .1) (f .2) .here)), λ r. refl)
       by Ragged f = (λ e. absurd (omega (arith, e)), λ r. absurd (f (r .0)))
@@ -146,12 +146,12 @@ module _ (owner shipped srv : List ℕ) where
 
   -- Then the part is the first record that has it, the owner's list before the shipped one,
   pub found-first : whereNumber (sought owner shipped srv) ≡ 0
-      → FirstServes srv (searched owner shipped) (handed owner shipped srv)
+      → FirstWithSrv srv (searched owner shipped) (handed owner shipped srv)
   found-first e =
       rw (← part-sought owner shipped srv) (by (sought owner shipped srv) (sought-finds owner shipped srv) e)
     where
       by : (w : Where) → FindsServer owner shipped srv w → whereNumber w ≡ 0
-          → FirstServes srv (searched owner shipped) (partOf owner shipped w)
+          → FirstWithSrv srv (searched owner shipped) (partOf owner shipped w)
       by (Owner k) f e = first-owner k (f .1)
       by (Shipped k) f e = first-shipped k (f .1) (f .2)
       by Ragged f e = absurd (omega (arith, e))

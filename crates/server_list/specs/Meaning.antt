@@ -30,13 +30,13 @@ FindsServer owner shipped srv Ragged = WholeLists owner shipped → ⊥
 FindsServer owner shipped srv Unknown = WholeLists owner shipped × NotIn owner srv × NotIn shipped srv
 
 -- record i of some records has the SRV value
-pub record Serves (srv : List ℕ) (records : List (List ℕ)) (i : ℕ) : Type 0 where
+pub record HasSrv (srv : List ℕ) (records : List (List ℕ)) (i : ℕ) : Type 0 where
   pub there : i < length records
   pub value : srvIn (getD records i []) ≡ srv
 
 -- it is the first one: it has the value, no record before it has, and it is the record r
-pub record FirstServes (srv : List ℕ) (records : List (List ℕ)) (r : List ℕ) : Type 0 where
+pub record FirstWithSrv (srv : List ℕ) (records : List (List ℕ)) (r : List ℕ) : Type 0 where
   pub place : ℕ
-  pub here : Serves srv records place
-  pub earlier : (i : ℕ) → i < place → Serves srv records i → ⊥
+  pub here : HasSrv srv records place
+  pub earlier : (i : ℕ) → i < place → HasSrv srv records i → ⊥
   pub is : r ≡ getD records place []

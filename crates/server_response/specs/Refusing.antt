@@ -11,7 +11,7 @@ use Rattle.laws.specs.Numbers.{le}
 use Rattle.wire_message.specs.Rules.{messageCode}
 use Rattle.wire_message.specs.Tags.{DELE, MINT, MAXT}
 use Rattle.wire_message.specs.Values.{valueOf, valueStart}
-use Rattle.refusal.specs.Refusal.{moved, first, when}
+use Rattle.refusal.specs.Refusal.{shifted, first, when}
 use Rattle.refusal.specs.declared.Refusal.{Refusal}
 use Rattle.tree.specs.PathCheck.{leadsOf}
 use Rattle.wire_packet.specs.Request.{requestBad}
@@ -32,7 +32,7 @@ maxtOf cert = le 8 (valueOf (deleOf cert) MAXT) 0
 -- 4 to 7 of the value of CERT, then of its DELE; a place is counted from the start of that value
 unfoldable pub certCode : List ℕ → Refusal
 certCode cert =
-    first (messageCode cert certTable ∷ moved (valueStart cert DELE) (messageCode (deleOf cert) deleTable) ∷ [])
+    first (messageCode cert certTable ∷ shifted (valueStart cert DELE) (messageCode (deleOf cert) deleTable) ∷ [])
 
 -- 10: the path is not 0 to 32 whole siblings or, by document 01's check with INDX, does not lead from the request's leaf
 -- to the root

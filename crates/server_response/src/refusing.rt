@@ -6,7 +6,7 @@ ghost use Rattle.wire_message.specs.Rules.{messageCode};
 ghost use Rattle.wire_message.specs.Sentences.{Good};
 ghost use Rattle.wire_message.specs.Tags.{DELE};
 ghost use Rattle.wire_message.specs.Values.{valueStart};
-ghost use Rattle.refusal.specs.Refusal.{moved};
+ghost use Rattle.refusal.specs.Refusal.{shifted};
 ghost use Rattle.wire_packet.specs.Tables.{certTable, deleTable};
 ghost use Rattle.server_response.specs.Facts.{Certifies};
 ghost use Rattle.server_response.specs.Refusing.{deleOf, certCode, replyMisses, midpOutside};
@@ -15,8 +15,8 @@ use hash::leaf;
 use refusal::PASSED;
 use refusal::Refusal;
 use refusal::codes;
-use refusal::moved;
 use refusal::refuse;
+use refusal::shifted;
 use server_parts::radius_code;
 use tree::leads;
 use wire_message::message_code;
@@ -82,10 +82,10 @@ fn outer_code(cert: &[u8]) -> Refusal
 fn inner_code(cert: &[u8]) -> Refusal
     requires { ⌜ Good (now cert) ⌝ }
     ensures { λ r. ⌜ r
-        ≡ moved (valueStart (now (cert .entry)) DELE) (messageCode (deleOf (now (cert .entry))) deleTable) ⌝ }
+        ≡ shifted (valueStart (now (cert .entry)) DELE) (messageCode (deleOf (now (cert .entry))) deleTable) ⌝ }
 {
     let r = message_code(value_of(cert, DELE), &DELE_TABLE);
-    moved(r, value_start(cert, DELE))
+    shifted(r, value_start(cert, DELE))
 }
 
 // The path does not lead from the leaf of the whole request packet to the root.

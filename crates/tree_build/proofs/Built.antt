@@ -14,14 +14,14 @@ use Rattle.hash.specs.Hashes.{emptyPlace}
 use Rattle.tree.specs.Tree.{nodeIn, nodesIn, nodeAt, depthOf, rootOf, siblings, pathOf}
 use Rattle.tree.specs.PathCheck.{climb, reached, leadsOf}
 use Rattle.tree_build.specs.Leaves.{countOf, leavesIn, depthIn, most}
-use Rattle.tree_build.specs.Answers.{rootedOf, placedNumber, PlacesLeaf, pathBytes}
+use Rattle.tree_build.specs.Building.{rootedOf, placedNumber, PlacesLeaf, pathBytes}
 use Rattle.tree_build.specs.declared.Rooted.{Rooted}
 use Rattle.tree_build.specs.declared.Placed.the-variants.{Written}
 use Rattle.tree_build.proofs.Leads.{path-leads}
 use Rattle.tree.proofs.Nodes.{Whole, whole-siblings, leaves-long, tree-long, nodes-at, nodes-flat, flat-length}
 use Rattle.tree_build.proofs.Depth.{depth-holds, depth-short}
 use Rattle.tree_build.proofs.Leaves.{count-bounds}
-use Rattle.tree_build.proofs.Answers.{rooted-some}
+use Rattle.tree_build.proofs.BuildingLaws.{rooted-some}
 
 path-length : (node : ℕ → ℕ → List ℕ) (d k j : ℕ) → length (siblings node d k j) ≡ d
 unfolding siblings

@@ -8,7 +8,7 @@ pub mod Writing
 pub mod Ascending
 pub mod Reading
 pub mod AllRows
-pub mod Answers
+pub mod BuildingLaws
 pub mod Built
 pub mod Served
 pub mod Sizes

@@ -3,7 +3,7 @@ use mathlib.Core.Path.{refl, sym, ap, _∙_}
 use mathlib.Core.List.{List}
 use Prim.Native.Nat.{ℕ}
 use Rattle.laws.proofs.Once.{Settles}
-use Rattle.tree_build.proofs.Answers.{places-once, lays-once}
+use Rattle.tree_build.proofs.BuildingLaws.{places-once, lays-once}
 use Rattle.tree_build.proofs.build.root.Kinds as root-kinds
 use Rattle.tree_build.proofs.build.root.Reads as root-reads
 use Rattle.tree_build.proofs.build.path.Kinds as path-kinds

@@ -13,8 +13,8 @@ use Rattle.tree.specs.PathCheck.{leadsOf}
 use Rattle.tree.specs.Tree.{nodeIn, nodeAt}
 use Rattle.tree_build.specs.AllRows.{levels, nodesOf, pathIn}
 use Rattle.tree_build.specs.Leaves.{countOf, leavesIn, depthIn, heldOf}
-use Rattle.tree_build.specs.Answers.{rootedOf, placedNumber, PlacesLeaf, pathBytes, fromBytes}
-use Rattle.tree_build.specs.Answers.{laidNumber, LaysRows, rowsBytes}
+use Rattle.tree_build.specs.Building.{rootedOf, placedNumber, PlacesLeaf, pathBytes, fromBytes}
+use Rattle.tree_build.specs.Building.{laidNumber, LaysRows, rowsBytes}
 use Rattle.tree_build.specs.declared.Rooted.{Rooted}
 use Rattle.tree_build.specs.declared.Placed.{Placed}
 use Rattle.tree_build.specs.declared.Placed.the-variants as placed
@@ -23,7 +23,7 @@ use Rattle.tree.proofs.Nodes.{leaves-long, node-long, tree-long}
 use Rattle.tree_build.proofs.Depth.{depth-holds}
 use Rattle.tree_build.proofs.Leaves.{count-bounds, held-all}
 use Rattle.tree_build.proofs.AllRows.{rows-length, path-laid, root-laid}
-use Rattle.tree_build.proofs.Answers.{rooted-some, places-once}
+use Rattle.tree_build.proofs.BuildingLaws.{rooted-some, places-once}
 use Rattle.tree_build.proofs.Built.{answers-lead}
 
 -- `rows`, lent the leaves s and the buffer o, answered that it wrote, and left the bytes b

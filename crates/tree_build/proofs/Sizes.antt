@@ -6,7 +6,7 @@ use native.Mathlib.Omega.{arith}
 use borrow.Author.Tests.{ne-eqb}
 use lib.ListN.{length}
 use Rattle.tree.proofs.Nodes.{leaves-long, tree-long}
-use Rattle.tree_build.specs.Answers.{rowsBytes}
+use Rattle.tree_build.specs.Building.{rowsBytes}
 use Rattle.tree_build.specs.Leaves.{countOf, leavesIn, depthIn, rowsLength}
 use Rattle.tree_build.proofs.AllRows.{rows-length}
 use Rattle.tree_build.proofs.Leaves.{count-bounds}

@@ -3,5 +3,5 @@
 -- it.
 pub mod AllRows
 pub mod Leaves
-pub mod Answers
+pub mod Building
 pub mod Level

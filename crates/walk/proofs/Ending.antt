@@ -42,7 +42,7 @@ use Rattle.walk.specs.State.{keyAt}
 use Rattle.walk.specs.Taking.{recorded, movedOn, pileOf, allYes, Takes, pileAfter}
 use Rattle.walk.specs.Trace.{Reached, heard, records}
 use Rattle.walk.specs.Trace.Reached.{took}
-use Rattle.walk.specs.Standing.{Entry, Stands}
+use Rattle.walk.specs.Standing.{Recorded, InStep}
 use Rattle.walk.specs.declared.Walk.{Walk}
 use Rattle.walk.specs.declared.Heard.{Heard}
 use Rattle.walk.specs.declared.Said.the-variants.{Ended}
@@ -53,12 +53,12 @@ use Rattle.walk.proofs.History.{holds}
 -- ---- the pile of a state that stands, once a record is written
 
 -- a record that holds our request and its answer was not lent with a bad request
-asked-well : (key r : List ℕ) → Entry key r → requestBad (requestPacket r) ≡ false
+asked-well : (key r : List ℕ) → Recorded key r → requestBad (requestPacket r) ≡ false
 unfolding checkCode
 asked-well key r e = test-quiet refusals _ _ tt (row-quiet refusals _ _ (e .passes) .0)
 
 module _
-    (keys nonce : List ℕ) (most : ℕ) (w : Walk) (b : List ℕ) (st : Stands keys nonce most w b)
+    (keys nonce : List ℕ) (most : ℕ) (w : Walk) (b : List ℕ) (st : InStep keys nonce most w b)
     (some : 0 < w .step) where
   abbrev pile : List ℕ
   pile = pileOf (w .step) b
@@ -101,7 +101,7 @@ module _
   pub at : (k : ℕ) → k < w .step → recordAt (pileOf (w .step) b) k ≡ recordAt b k
   at k h = record-front b (4096 * w .step) k (omega arith)
 
-  entry : (k : ℕ) → k < w .step → Entry (keyAt (w .keys) (k % w .count)) (recordAt pile k)
+  entry : (k : ℕ) → k < w .step → Recorded (keyAt (w .keys) (k % w .count)) (recordAt pile k)
   entry k h = rw (at k h) (st .entries k h)
 
   undamaged : (k : ℕ) → k < w .step → Undamaged (recordAt pile k)

@@ -60,7 +60,7 @@ pub enum Said {
 }
 
 // That, and the state for the next call.
-pub struct Moved {
+pub struct Stepped {
     pub said: Said,
     pub walk: Walk,
 }

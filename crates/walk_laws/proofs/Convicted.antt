@@ -18,7 +18,7 @@ use Rattle.pile_runs.specs.Clash.{windowsClash}
 use Rattle.check_response.specs.Check.{windowIn}
 use Rattle.check_response.specs.declared.Window.{Window}
 use Rattle.wire_packet.specs.Packet.{body}
-use Rattle.pile_signed.specs.Answers.{ownAnswers}
+use Rattle.pile_signed.specs.OwnAnswers.{ownAnswers}
 use Rattle.walk.specs.Taking.{recorded, movedOn, pileOf, allYes, Takes}
 use Rattle.walk.specs.Trace.{Reached, heard}
 use Rattle.walk.specs.Trace.Reached.{took}

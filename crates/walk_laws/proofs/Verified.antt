@@ -11,11 +11,11 @@ use lib.Dec.{eqb}
 use lib.ListN.{length, length-replicate, getD-replicate}
 use lib.Seq.{ext-getD}
 use Rattle.pile.specs.Pile.{recordsIn, recordAt, keyIn, responsePacket}
-use Rattle.pile_signed.specs.Answers.{answerByte, ownAnswers}
+use Rattle.pile_signed.specs.OwnAnswers.{answerByte, ownAnswers}
 use Rattle.pile_signed.proofs.Own.{ownAnswer, own-length, own-at}
 use Rattle.walk.specs.State.{keyOf}
 use Rattle.walk.specs.Starting.{begunWalk}
-use Rattle.walk.specs.Standing.{Stands}
+use Rattle.walk.specs.Standing.{InStep}
 use Rattle.walk.specs.Taking.{recorded, movedOn, allYes}
 use Rattle.walk.specs.Trace.{Reached}
 use Rattle.walk.specs.Trace.Reached.{begun, took}
@@ -35,7 +35,7 @@ InRecord r = Verifies (keyIn r) (responsePacket r)
 module _ (keys nonce : List ℕ) (most : ℕ) (n32 : length nonce ≡ 32) where
   -- one accepted response more
   module _
-      (w : Walk) (b : List ℕ) (st : Stands keys nonce most w b) (h : Heard) (x : List ℕ)
+      (w : Walk) (b : List ℕ) (st : InStep keys nonce most w b) (h : Heard) (x : List ℕ)
       (a : Accepted w h x (length b)) (rl : length (h .rand) ≡ 32) (v : Verifies (keyOf w) x)
       (those : (k : ℕ) → k < w .step → InRecord (recordAt b k)) where
     this : InRecord (recordAt (recorded w x b) (w .step))

@@ -2,7 +2,7 @@
 -- their order, as the answers of a pile stand (document 01).
 use Prim.Native.Nat.{ℕ}
 use mathlib.Core.List.{List, [], _∷_, _++_}
-use Rattle.pile_signed.specs.Answers.{answerByte}
+use Rattle.pile_signed.specs.OwnAnswers.{answerByte}
 use Rattle.walk.specs.Trace.{Reached}
 use Rattle.walk.specs.Trace.Reached.{begun, took}
 use Rattle.walk.specs.declared.Walk.{Walk}

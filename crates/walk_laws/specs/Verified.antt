@@ -3,7 +3,7 @@ use Prim.Native.Nat.{ℕ}
 use mathlib.Core.Path.{_≡_}
 use mathlib.Core.Bool.{true}
 use mathlib.Core.List.{List}
-use Rattle.check_signatures.specs.Answers.{delegated, responded}
+use Rattle.check_signatures.specs.SignatureAnswers.{delegated, responded}
 use Rattle.walk.specs.State.{keyOf}
 use Rattle.walk.specs.Trace.{Reached}
 use Rattle.walk.specs.Trace.Reached.{begun, took}

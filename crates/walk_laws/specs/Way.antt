@@ -11,7 +11,7 @@ use Rattle.pile_report.specs.Report.{Reports}
 use Rattle.pile_report.specs.Taking.{runBytes}
 use Rattle.pile_report.specs.declared.Report.{Report}
 use Rattle.pile_report.specs.declared.Report.the-variants.{Pair}
-use Rattle.pile_signed.specs.Answers.{ownAnswers}
+use Rattle.pile_signed.specs.OwnAnswers.{ownAnswers}
 use Rattle.report_read.specs.Entry.{entriesOf}
 use Rattle.report_read.specs.Read.{readOf, readNumber, pileBytes}
 use Rattle.report_read.specs.declared.Read.{Read}

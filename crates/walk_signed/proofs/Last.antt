@@ -11,7 +11,7 @@ use Rattle.check_response.specs.Check.{answersCode}
 use Rattle.walk.specs.State.{requestNow}
 use Rattle.walk.specs.Taking.{clockWrong, responseCodeNow, takeCode}
 use Rattle.walk.specs.declared.Heard.{Heard}
-use Rattle.walk.specs.declared.Moved.{Moved}
+use Rattle.walk.specs.declared.Stepped.{Stepped}
 use Rattle.walk.specs.declared.Walk.{Walk}
 use Rattle.walk.proofs.Taken.{Took}
 
@@ -37,7 +37,7 @@ module _ (w : Walk) (sent received : ℕ) (rand x : List ℕ) (room : ℕ) (d s 
   told-anyway e n = e ∙ sym (until-take .refused (λ z. n (quiet-of refusals (sym e) z)))
 
 -- what a call said and left, by what was heard
-pub took-as : (w : Walk) {g : Heard} (h : Heard) (x pile : List ℕ) (m : Moved) {after : List ℕ} → g ≡ h
+pub took-as : (w : Walk) {g : Heard} (h : Heard) (x pile : List ℕ) (m : Stepped) {after : List ℕ} → g ≡ h
     → Took w g x pile (m .said) (m .walk) after → Took w h x pile (m .said) (m .walk) after
 took-as w h x pile m {after} e t =
     subst (λ (y : Heard). Took w y x pile (m .said) (m .walk) after) e t

@@ -8,7 +8,7 @@ use native.Mathlib.Omega.{arith}
 use Rattle.laws.specs.Bytes.{Bytes}
 use Rattle.laws.specs.First.{firstOf, whenOf}
 use Rattle.refusal.specs.declared.Refusal.{Refusal}
-use Rattle.check_signatures.specs.Answers.{delegated, responded}
+use Rattle.check_signatures.specs.SignatureAnswers.{delegated, responded}
 use Rattle.check_signatures.specs.Meaning.{PassesSigned}
 use Rattle.check_signatures.proofs.Passing.{passes-alone}
 use Rattle.check_signatures.proofs.Verdicts.{until-check}

@@ -1,7 +1,7 @@
 -- What is heard of a response where our own Ed25519 answers (requests P10 and P11; draft 19, 8.2).
 use Prim.Native.Nat.{ℕ}
 use mathlib.Core.List.{List}
-use Rattle.check_signatures.specs.Answers.{delegated, responded}
+use Rattle.check_signatures.specs.SignatureAnswers.{delegated, responded}
 use Rattle.walk.specs.State.{keyOf}
 use Rattle.walk.specs.declared.Heard.{Heard}
 use Rattle.walk.specs.declared.Walk.{Walk}

@@ -6,8 +6,8 @@ ghost use Rattle.walk.specs.Taking.{takeCode, Takes, saidNumber, walkAfter, pil
 ghost use Rattle.walk_signed.specs.Heard.{ownHeard};
 use check_signatures::answers;
 use walk::Heard;
-use walk::Moved;
 use walk::Said;
+use walk::Stepped;
 use walk::Walk;
 use walk::key_of;
 use walk::take;
@@ -22,7 +22,7 @@ pub fn take_signed(
     rand: [u8; 32],
     response: &[u8],
     pile: &mut [u8],
-) -> Moved
+) -> Stepped
     ensures { λ r. ⌜ saidNumber (r .said)
         ≡ takeCode w (ownHeard w sent received rand (now (response .entry))) (now (response .entry))
         (length (now (pile .entry))) .code ⌝ }
@@ -41,7 +41,7 @@ pub fn take_signed(
     };
     let c = take_code(w, both, response, pile.len());
     if c.code != 0 {
-        return Moved {
+        return Stepped {
             said: Said::Refused(c),
             walk: w,
         };

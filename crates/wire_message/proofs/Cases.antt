@@ -7,7 +7,7 @@ use Rattle.laws.proofs.First.{first-keeps, when-keeps, end-keeps, test-quiet}
 use Rattle.refusal.specs.Refusal.{refusals, refusalAt, passed}
 use Rattle.refusal.specs.declared.Refusal.{Refusal}
 use Rattle.wire_message.specs.Frame.{lengthBad, countBad, offsetsBad, tagsBad, badOffsetPlace, lowTagPlace, frameCode}
-use Rattle.wire_message.specs.Rules.{Row, someAbsent, someBroken, brokenPlace, messageCode}
+use Rattle.wire_message.specs.Rules.{TagRule, someAbsent, someBroken, brokenPlace, messageCode}
 use Rattle.wire_message.specs.Sentences.{LengthGood, CountGood, OffsetsGood}
 use Rattle.wire_message.proofs.Tests.{length-test, count-test, offsets-test}
 
@@ -27,7 +27,7 @@ module _ (m : List ℕ) (P : Refusal → Type 0) (none : P passed) where
       first-keeps refusals P _ _ (when-keeps refusals P (tagsBad m) _ (tags s h o) none)
       (λ d. end-keeps refusals P none))))
 
-  pub message-by : (rows : List Row) → P (frameCode m)
+  pub message-by : (rows : List TagRule) → P (frameCode m)
       → (frameCode m .code ≡ 0 → someAbsent m rows ≡ true → P (refusalAt 6 0))
       → (frameCode m .code ≡ 0 → someBroken m rows ≡ true → P (refusalAt 7 (brokenPlace m rows)))
       → P (messageCode m rows)

@@ -15,7 +15,7 @@ use Rattle.refusal.specs.Refusal.{refusals, first, whenAt, passed}
 use Rattle.refusal.specs.declared.Refusal.{Refusal}
 use Rattle.wire_message.specs.Frame.{lengthBad, countBad, offsetsBad, tagsBad, badOffsetPlace, lowTagPlace}
 use Rattle.wire_message.specs.Frame.{frameCode}
-use Rattle.wire_message.specs.Rules.{Row, row, someAbsent, someBroken, brokenPlace, messageCode}
+use Rattle.wire_message.specs.Rules.{TagRule, row, someAbsent, someBroken, brokenPlace, messageCode}
 use Rattle.wire_message.specs.Sentences.{Good, TagsRise, TagsThere, KeepsRule, ValuesRight}
 use Rattle.wire_message.specs.Values.{has, valueOf}
 use Rattle.wire_message.proofs.Cases.{frame-by, message-by}
@@ -173,7 +173,7 @@ module _ (m : List ℕ) where
   pub frame-good : (x : Refusal) → x ≡ frameCode m → x .code ≡ 0 → Good m
   frame-good x e z = frame-0 .0 (quiet-of refusals e z) .0
 
-module _ (m : List ℕ) (rows : List Row) where
+module _ (m : List ℕ) (rows : List TagRule) where
   code-told : messageCode m rows .code ≡ told (frameBad m) (tagsBad m) (someAbsent m rows) (someBroken m rows)
   unfolding messageCode
   code-told =

@@ -10,7 +10,7 @@ use lib.ListN.{length}
 use Rattle.laws.proofs.First.{none-quiet}
 use Rattle.refusal.specs.Refusal.{passed, refusals}
 use Rattle.wire_message.specs.Encode.{Field, Fields, encode, among, valueAmong}
-use Rattle.wire_message.specs.Rules.{Rule, Row, row, valueBad, messageCode}
+use Rattle.wire_message.specs.Rules.{Rule, TagRule, row, valueBad, messageCode}
 use Rattle.wire_message.specs.Sentences.{Holds, MayHold, KeepsRule, TagsThere, ValuesRight}
 use Rattle.wire_message.proofs.Codes.{frame-0, code-0, code-passed}
 use Rattle.wire_message.proofs.Encoded.{encode-good, has-encoded, value-encoded}
@@ -38,24 +38,24 @@ module _ (fs : List Field) (tag : ℕ) (rule : Rule) where
 -- ---- row by row
 
 module _ (fs : List Field) where
-  abbrev RowHeld : Row → Type 0
+  abbrev RowHeld : TagRule → Type 0
   RowHeld r = Held (r .needed) fs (r .tag) (r .rule)
 
   -- what each row of a table says of fields
-  abbrev pub AllHeld : List Row → Type 0
+  abbrev pub AllHeld : List TagRule → Type 0
   AllHeld [] = record {}
   AllHeld (r ∷ rows) = RowHeld r × AllHeld rows
 
-  each : (rows : List Row) → AllHeld rows → (k : ℕ) → k < length rows → RowHeld (row rows k)
+  each : (rows : List TagRule) → AllHeld rows → (k : ℕ) → k < length rows → RowHeld (row rows k)
   each [] a k h = absurd (not-suc-le-zero h)
   each (r ∷ rows) a zero h = a .0
   each (r ∷ rows) a (suc k) h = each rows (a .1) k (le-of-suc-le-suc h)
 
-  all : (rows : List Row) → ((k : ℕ) → k < length rows → RowHeld (row rows k)) → AllHeld rows
+  all : (rows : List TagRule) → ((k : ℕ) → k < length rows → RowHeld (row rows k)) → AllHeld rows
   all [] f = record {}
   all (r ∷ rows) f = (f 0 (omega arith), all rows (λ k h. f (suc k) (suc-le-suc h)))
 
-module _ (fs : List Field) (ok : Fields fs) (rows : List Row) where
+module _ (fs : List Field) (ok : Fields fs) (rows : List TagRule) where
   held-passes : ((k : ℕ) → k < length rows → RowHeld fs (row rows k)) → messageCode (encode fs) rows ≡ passed
   held-passes h =
       let f = frame-0 (encode fs) .0 (none-quiet refusals (encode-good fs ok)) in
@@ -89,12 +89,12 @@ module _ (fs : List Field) (ok : Fields fs) (rows : List Row) where
 -- ---- the same where the rows are tested, and the tests compute
 
 -- the fields keep row k: a needed tag is among them, and the value of a tag that is keeps its rule
-pub record Keeps (fs : List Field) (rows : List Row) (k : ℕ) : Type 0 where
+pub record Keeps (fs : List Field) (rows : List TagRule) (k : ℕ) : Type 0 where
   pub there : row rows k .needed && not (among (row rows k .tag) fs) ≡ false
   pub right : among (row rows k .tag) fs && valueBad (row rows k .rule) (valueAmong (row rows k .tag) fs) ≡ false
 
 -- all rows are kept
-pub encode-kept : (fs : List Field) → Fields fs → (rows : List Row) → ((k : ℕ) → k < length rows → Keeps fs rows k)
+pub encode-kept : (fs : List Field) → Fields fs → (rows : List TagRule) → ((k : ℕ) → k < length rows → Keeps fs rows k)
     → messageCode (encode fs) rows ≡ passed
 encode-kept fs ok rows keeps =
     held-passes fs ok rows

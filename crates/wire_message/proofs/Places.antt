@@ -16,7 +16,7 @@ use Rattle.refusal.specs.declared.Refusal.{Refusal}
 use Rattle.wire_message.specs.Frame.{notAbove, count, tagAt, edge, offsetBad, firstBadOffset, firstLowTag, frameCode}
 use Rattle.wire_message.specs.Places.{FirstWrong, OffsetRight, Wrong4, by-length, by-count, by-offset, TagAbove}
 use Rattle.wire_message.specs.Places.{Wrong5, Wrong6, RowsRise, Wrong7, WrongAt}
-use Rattle.wire_message.specs.Rules.{Row, row, absent, broken, rowAbsent, rowBroken, someAbsent, someBroken}
+use Rattle.wire_message.specs.Rules.{TagRule, row, absent, broken, rowAbsent, rowBroken, someAbsent, someBroken}
 use Rattle.wire_message.specs.Rules.{firstBroken, messageCode}
 use Rattle.wire_message.specs.Scans.{firstAbsent}
 use Rattle.wire_message.specs.Values.{isTag, indexOf, has, valueAt, valueOf, valueStart}
@@ -133,7 +133,7 @@ value-stands m tag = by (has m tag)
     by false = refl
 
 -- rows that rise: a smaller tag stands before
-module _ (rows : List Row) (rise : RowsRise rows) where
+module _ (rows : List TagRule) (rise : RowsRise rows) where
   rows-up : (i d : ℕ) → i + d < length rows → row rows i .tag ≤ row rows (i + d) .tag
   rows-up i zero h = rw (add-zero i) (le-refl _)
   rows-up i (suc d) h =
@@ -147,7 +147,7 @@ module _ (rows : List Row) (rise : RowsRise rows) where
 
 -- ---- the codes of a message
 
-module _ (m : List ℕ) (rows : List Row) where
+module _ (m : List ℕ) (rows : List TagRule) where
   -- 4: the word at its place breaks the rule, and none before it does
   pub place-4 : messageCode m rows .code ≡ 4 → Wrong4 m (messageCode m rows .at)
   unfolding At4

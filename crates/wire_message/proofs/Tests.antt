@@ -16,7 +16,7 @@ use Rattle.laws.proofs.Least.{nowhere, nowhere-at}
 use Rattle.wire_message.specs.Frame.{word, notAbove, count, offset, lengthBad, countBad, offsetBad}
 use Rattle.wire_message.specs.Frame.{offsetsBad, tagsBad}
 use Rattle.wire_message.specs.Places.{OffsetRight}
-use Rattle.wire_message.specs.Rules.{Rule, bytes, nonzero, versions, siblings, message, Row, nonzeroBad, versionsBad}
+use Rattle.wire_message.specs.Rules.{Rule, bytes, nonzero, versions, siblings, message, TagRule, nonzeroBad, versionsBad}
 use Rattle.wire_message.specs.Rules.{siblingsBad, valueBad, absent, broken, rowAbsent, rowBroken, someAbsent}
 use Rattle.wire_message.specs.Rules.{someBroken}
 use Rattle.wire_message.specs.Sentences.{LengthGood, CountGood, OffsetsGood, TagsRise, TagsThere, NonzeroNumber}
@@ -181,7 +181,7 @@ pub and-test : (a b : Bool) → (a && b) ≡ false ↔ (a ≡ true → b ≡ fal
 and-test true b = (λ e q. e, λ f. f refl)
 and-test false b = (λ e q. absurd (true≢false (sym q)), λ f. refl)
 
-module _ (m : List ℕ) (rows : List Row) where
+module _ (m : List ℕ) (rows : List TagRule) where
   pub absent-test : someAbsent m rows ≡ false ↔ TagsThere m rows
   unfolding absent
   absent-test = (

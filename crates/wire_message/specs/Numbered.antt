@@ -5,7 +5,7 @@ use mathlib.Core.Bool.{not, cond}
 use lib.Dec.{eqb}
 use lib.ListN.{length, getD}
 use Rattle.laws.specs.Upto.{upto}
-use Rattle.wire_message.specs.Rules.{Rule, bytes, nonzero, versions, siblings, message, Row}
+use Rattle.wire_message.specs.Rules.{Rule, bytes, nonzero, versions, siblings, message, TagRule}
 
 -- the rule that a number is:
 --
@@ -22,7 +22,7 @@ ruleIn n =
     cond (eqb n 1) versions (cond (eqb n 2) siblings (cond (eqb n 3) message (cond (eqb n 5) nonzero (bytes n))))
 
 -- row k, of the numbers from 3 k on: its tag, whether it must be there (0 where it may be absent), and its rule
-abbrev pub rowIn : List ℕ → ℕ → Row
+abbrev pub rowIn : List ℕ → ℕ → TagRule
 rowIn t k =
     record {
       tag = getD t (3 * k) 0;
@@ -31,5 +31,5 @@ rowIn t k =
     }
 
 -- the table that numbers are: a row for each three of them
-unfoldable pub rowsIn : List ℕ → List Row
+unfoldable pub rowsIn : List ℕ → List TagRule
 rowsIn t = upto (rowIn t) (length t / 3)

@@ -8,7 +8,7 @@ use lib.ListN.{length, take, drop}
 use Rattle.laws.specs.Numbers.{le}
 use Rattle.refusal.specs.declared.Refusal.{Refusal}
 use Rattle.wire_message.specs.Frame.{count, offset, tagAt, section}
-use Rattle.wire_message.specs.Rules.{Row, row}
+use Rattle.wire_message.specs.Rules.{TagRule, row}
 use Rattle.wire_message.specs.Sentences.{LengthGood, CountGood, Good, KeepsRule}
 use Rattle.wire_message.specs.Values.{has, valueOf, valueStart}
 
@@ -70,7 +70,7 @@ pub record Wrong5 (m : List ℕ) (at : ℕ) : Type 0 where
 -- ---- code 6
 
 -- the start of a message that lacks a needed tag: no tag of the message is that one
-pub record Wrong6 (m : List ℕ) (rows : List Row) (at : ℕ) : Type 0 where
+pub record Wrong6 (m : List ℕ) (rows : List TagRule) (at : ℕ) : Type 0 where
   pub is : at ≡ 0
   pub place : ℕ
   pub inside : place < length rows
@@ -80,11 +80,11 @@ pub record Wrong6 (m : List ℕ) (rows : List Row) (at : ℕ) : Type 0 where
 -- ---- code 7
 
 -- the rows of a table stand in the order of their tags
-abbrev pub RowsRise : List Row → Type 0
+abbrev pub RowsRise : List TagRule → Type 0
 RowsRise rows = (k : ℕ) → k + 1 < length rows → row rows k .tag < row rows (k + 1) .tag
 
 -- the start of a value that breaks its rule, where no value of a smaller tag breaks its own
-pub record Wrong7 (m : List ℕ) (rows : List Row) (at : ℕ) : Type 0 where
+pub record Wrong7 (m : List ℕ) (rows : List TagRule) (at : ℕ) : Type 0 where
   pub place : ℕ
   pub inside : place < length rows
   pub there : has m (row rows place .tag) ≡ true
@@ -97,7 +97,7 @@ pub record Wrong7 (m : List ℕ) (rows : List Row) (at : ℕ) : Type 0 where
 -- ---- all four
 
 -- what stands at the place of the refusal r of a message, which the table judges
-pub record WrongAt (m : List ℕ) (rows : List Row) (r : Refusal) : Type 0 where
+pub record WrongAt (m : List ℕ) (rows : List TagRule) (r : Refusal) : Type 0 where
   pub by-4 : r .code ≡ 4 → Wrong4 m (r .at)
   pub by-5 : r .code ≡ 5 → Wrong5 m (r .at)
   pub by-6 : r .code ≡ 6 → Wrong6 m rows (r .at)

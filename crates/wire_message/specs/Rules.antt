@@ -22,16 +22,16 @@ pub data Rule : Type 0 where
   message : Rule
 
 -- a row of a table: a tag, whether it must be there, and the rule of its value. A table is a list of rows.
-pub record Row : Type 0 where
+pub record TagRule : Type 0 where
   pub tag : ℕ
   pub needed : Bool
   pub rule : Rule
 
 -- a row whose tag must be there, and one whose tag may be absent
-abbrev pub must : ℕ → Rule → Row
+abbrev pub must : ℕ → Rule → TagRule
 must tag rule = record { tag = tag; needed = true; rule = rule }
 
-abbrev pub may : ℕ → Rule → Row
+abbrev pub may : ℕ → Rule → TagRule
 may tag rule = record { tag = tag; needed = false; rule = rule }
 
 -- not a u32, or 0 (draft 19, 5.2.5, of RADI; request P4)
@@ -70,35 +70,35 @@ unfoldable pub broken : List ℕ → ℕ → Rule → Bool
 broken m tag rule = has m tag && valueBad rule (valueOf m tag)
 
 -- row k of a table
-abbrev pub row : List Row → ℕ → Row
+abbrev pub row : List TagRule → ℕ → TagRule
 row rows k = getD rows k (may 0 message)
 
 -- the same of row k
-abbrev pub rowAbsent : List ℕ → List Row → ℕ → Bool
+abbrev pub rowAbsent : List ℕ → List TagRule → ℕ → Bool
 rowAbsent m rows k = absent m (row rows k .tag) (row rows k .needed)
 
-abbrev pub rowBroken : List ℕ → List Row → ℕ → Bool
+abbrev pub rowBroken : List ℕ → List TagRule → ℕ → Bool
 rowBroken m rows k = broken m (row rows k .tag) (row rows k .rule)
 
 -- some needed tag is absent, and some value breaks its rule
-abbrev pub someAbsent : List ℕ → List Row → Bool
+abbrev pub someAbsent : List ℕ → List TagRule → Bool
 someAbsent m rows = somewhere (rowAbsent m rows) (length rows)
 
-abbrev pub someBroken : List ℕ → List Row → Bool
+abbrev pub someBroken : List ℕ → List TagRule → Bool
 someBroken m rows = somewhere (rowBroken m rows) (length rows)
 
 -- the first row whose value breaks its rule; the number of rows where there is none. Rows stand in the order of their
 -- tags, so that of several wrong values this is the one with the smallest tag (request P8).
-abbrev pub firstBroken : List ℕ → List Row → ℕ
+abbrev pub firstBroken : List ℕ → List TagRule → ℕ
 firstBroken m rows = least (rowBroken m rows) (length rows)
 
 -- the start of the value that breaks its rule and has the smallest tag
-abbrev pub brokenPlace : List ℕ → List Row → ℕ
+abbrev pub brokenPlace : List ℕ → List TagRule → ℕ
 brokenPlace m rows = valueStart m (row rows (firstBroken m rows) .tag)
 
 -- codes 4 to 7 of the message m by a table: 6 at the start of the message that lacks the tag, 7 at the start of that
 -- value
-unfoldable pub messageCode : List ℕ → List Row → Refusal
+unfoldable pub messageCode : List ℕ → List TagRule → Refusal
 messageCode m rows =
     first
     (frameCode m

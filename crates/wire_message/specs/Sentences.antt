@@ -9,7 +9,7 @@ use lib.ListN.{length}
 use Rattle.laws.specs.Numbers.{le}
 use Rattle.wire_message.specs.Encode.{Field, Fields, encode, among, valueAmong}
 use Rattle.wire_message.specs.Frame.{word, count, offset, tagAt, section}
-use Rattle.wire_message.specs.Rules.{Rule, bytes, nonzero, versions, siblings, message, Row, row}
+use Rattle.wire_message.specs.Rules.{Rule, bytes, nonzero, versions, siblings, message, TagRule, row}
 use Rattle.wire_message.specs.Values.{has, valueOf}
 
 -- ---- code 4
@@ -46,7 +46,7 @@ TagsRise m = (k : ℕ) → k + 1 < count m → tagAt m k < tagAt m (k + 1)
 -- ---- code 6
 
 -- each tag that the table needs is there
-abbrev pub TagsThere : List ℕ → List Row → Type 0
+abbrev pub TagsThere : List ℕ → List TagRule → Type 0
 TagsThere m rows = (k : ℕ) → k < length rows → row rows k .needed ≡ true → has m (row rows k .tag) ≡ true
 
 -- ---- code 7
@@ -77,7 +77,7 @@ KeepsRule siblings v = SiblingList v
 KeepsRule message v = record {}
 
 -- the value of each tag of the table that is there keeps its rule
-abbrev pub ValuesRight : List ℕ → List Row → Type 0
+abbrev pub ValuesRight : List ℕ → List TagRule → Type 0
 ValuesRight m rows =
     (k : ℕ) → k < length rows → has m (row rows k .tag) ≡ true
     → KeepsRule (row rows k .rule) (valueOf m (row rows k .tag))

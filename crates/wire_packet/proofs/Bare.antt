@@ -7,9 +7,9 @@ use native.Mathlib.Omega.{arith}
 use lib.Dec.{leb}
 use borrow.Author.Tests.{leb-true}
 use Rattle.laws.proofs.First.{first-keeps, when-keeps, end-keeps}
-use Rattle.refusal.specs.Refusal.{refusalAt, refusals, first, when, moved}
+use Rattle.refusal.specs.Refusal.{refusalAt, refusals, first, when, shifted}
 use Rattle.refusal.specs.declared.Refusal.{Refusal}
-use Rattle.wire_message.specs.Rules.{Row, messageCode}
+use Rattle.wire_message.specs.Rules.{TagRule, messageCode}
 use Rattle.wire_message.proofs.Cases.{frame-by, message-by}
 use Rattle.wire_packet.specs.Packet.{packetCode, bodyStart, body}
 use Rattle.wire_packet.specs.Places.{Bare}
@@ -31,9 +31,9 @@ first-bare a row p q = first-keeps refusals Bare a row p (λ z. q)
 pub end-bare : Bare (first [])
 end-bare = end-keeps refusals Bare (λ c. refl)
 
--- a place that is not there is not moved
-moved-bare : (by : ℕ) (r : Refusal) → Bare r → Bare (moved by r)
-moved-bare by r bare other = go (leb 4 (r .code)) (leb (r .code) 7) refl refl
+-- a place that is not there is not shifted
+shifted-bare : (by : ℕ) (r : Refusal) → Bare r → Bare (shifted by r)
+shifted-bare by r bare other = go (leb 4 (r .code)) (leb (r .code) 7) refl refl
   where
     go : (s t : Bool) → leb 4 (r .code) ≡ s → leb (r .code) 7 ≡ t → cond (s && t) (r .at + by) (r .at) ≡ 0
     go true true e f = absurd (other (record { least = leb-true _ _ e; most = leb-true _ _ f }))
@@ -45,7 +45,7 @@ moved-bare by r bare other = go (leb 4 (r .code)) (leb (r .code) 7) refl refl
 carried : (n place : ℕ) → 4 ≤ n → n ≤ 7 → Bare (refusalAt n place)
 carried n place l h other = absurd (other (record { least = l; most = h }))
 
-message-bare : (m : List ℕ) (rows : List Row) → Bare (messageCode m rows)
+message-bare : (m : List ℕ) (rows : List TagRule) → Bare (messageCode m rows)
 message-bare m rows =
     message-by m Bare (λ c. refl) rows (frame-by m Bare (λ c. refl) (λ t. four _) (λ s t. four _) (λ s h t. four _)
     (λ s h o t. carried 5 _ (omega arith) (omega arith))) (λ a t. carried 6 _ (omega arith) (omega arith))
@@ -58,9 +58,9 @@ shape-bare : (m : List ℕ) → Bare (shapeCode m)
 unfolding shapeCode
 shape-bare m =
     first-bare _ _ (message-bare m rootTable)
-    (first-bare _ _ (moved-bare (srepStart m) _ (message-bare (srep m) srepTable))
-    (first-bare _ _ (moved-bare (certStart m) _ (message-bare (cert m) certTable))
-    (first-bare _ _ (moved-bare (deleStart m) _ (message-bare (dele m) deleTable)) end-bare)))
+    (first-bare _ _ (shifted-bare (srepStart m) _ (message-bare (srep m) srepTable))
+    (first-bare _ _ (shifted-bare (certStart m) _ (message-bare (cert m) certTable))
+    (first-bare _ _ (shifted-bare (deleStart m) _ (message-bare (dele m) deleTable)) end-bare)))
 
 packet-bare : (p : List ℕ) → Bare (packetCode p)
 unfolding packetCode
@@ -72,8 +72,8 @@ packet-bare p =
 -- ---- packets
 
 -- a packet's own checks, and then those of its message
-by-body : (p : List ℕ) (r : Refusal) → Bare r → Bare (first (packetCode p ∷ moved bodyStart r ∷ []))
-by-body p r bare = first-bare _ _ (packet-bare p) (first-bare _ _ (moved-bare bodyStart r bare) end-bare)
+by-body : (p : List ℕ) (r : Refusal) → Bare r → Bare (first (packetCode p ∷ shifted bodyStart r ∷ []))
+by-body p r bare = first-bare _ _ (packet-bare p) (first-bare _ _ (shifted-bare bodyStart r bare) end-bare)
 
 pub request-bare : (p : List ℕ) → Bare (requestCode p)
 unfolding requestCode requestMessageCode

@@ -10,7 +10,7 @@ use Rattle.laws.specs.Bytes.{Bytes}
 use Rattle.laws.specs.Numbers.{le}
 use Rattle.laws.proofs.Bytes.{bytes-drop}
 use Rattle.laws.proofs.First.{says-0, test-false, equal, is-empty, none-quiet, row-quiet, test-quiet}
-use Rattle.refusal.specs.Refusal.{passed, moved, refusals}
+use Rattle.refusal.specs.Refusal.{passed, shifted, refusals}
 use Rattle.wire_message.specs.Encode.{encode, valueAmong}
 use Rattle.wire_message.specs.Tags.{VER, TYPE}
 use Rattle.wire_message.specs.Values.{valueOf}
@@ -40,8 +40,8 @@ module _ (p : List ℕ) where
   pub good-request : GoodRequest p → requestCode p .code ≡ 0
   unfolding requestCode
   good-request g = none-quiet refusals
-      (fields-pass (λ m. moved bodyStart (requestMessageCode m)) p (g .fields) (g .packet)
-      (ap (moved bodyStart) (request-encoded g)))
+      (fields-pass (λ m. shifted bodyStart (requestMessageCode m)) p (g .fields) (g .packet)
+      (ap (shifted bodyStart) (request-encoded g)))
 
   pub request-good : Bytes p → requestCode p .code ≡ 0 → GoodRequest p
   unfolding requestCode requestMessageCode

@@ -11,9 +11,9 @@ use Rattle.laws.specs.Numbers.{le}
 use Rattle.laws.proofs.Bytes.{bytes-drop}
 use Rattle.laws.proofs.First.{says-0, is-last, test-false, equal, is-empty, none-quiet, row-quiet}
 use Rattle.laws.proofs.First.{test-quiet}
-use Rattle.refusal.specs.Refusal.{passed, moved, refusals}
+use Rattle.refusal.specs.Refusal.{passed, shifted, refusals}
 use Rattle.wire_message.specs.Encode.{Field, Fields, encode, among, valueAmong}
-use Rattle.wire_message.specs.Rules.{Row, messageCode, message}
+use Rattle.wire_message.specs.Rules.{TagRule, messageCode, message}
 use Rattle.wire_message.specs.Sentences.{Holds, HoldsMessage}
 use Rattle.wire_message.specs.Tags.{VER, DELE, TYPE, SREP, VERS, CERT}
 use Rattle.wire_message.specs.Values.{valueOf}
@@ -35,17 +35,17 @@ inner-value : (fs : List Field) → Fields fs → (tag : ℕ) (h : HoldsMessage 
 inner-value fs ok tag h = value-encoded fs ok tag ∙ h .is
 
 -- such a value passes where its fields keep the table,
-pub inner-passes : (fs : List Field) → Fields fs → (tag : ℕ) (h : HoldsMessage fs tag) (rows : List Row)
+pub inner-passes : (fs : List Field) → Fields fs → (tag : ℕ) (h : HoldsMessage fs tag) (rows : List TagRule)
     → AllHeld (h .fields) rows → messageCode (valueOf (encode fs) tag) rows ≡ passed
 inner-passes fs ok tag h rows a = rw (inner-value fs ok tag h) (all-passes (h .fields) (h .kept) rows a)
 
 -- and one that passes, of bytes, is a message whose fields keep it
-pub record Inner (m : List ℕ) (fs : List Field) (tag : ℕ) (rows : List Row) : Type 0 where
+pub record Inner (m : List ℕ) (fs : List Field) (tag : ℕ) (rows : List TagRule) : Type 0 where
   pub holds : HoldsMessage fs tag
   pub held : AllHeld (holds .fields) rows
   pub read : valueOf m tag ≡ encode (holds .fields)
 
-pub inner : (m : List ℕ) (fs : List Field) → Fields fs → m ≡ encode fs → Bytes m → (tag : ℕ) (rows : List Row)
+pub inner : (m : List ℕ) (fs : List Field) → Fields fs → m ≡ encode fs → Bytes m → (tag : ℕ) (rows : List TagRule)
     → among tag fs ≡ true → messageCode (valueOf m tag) rows .code ≡ 0 → Inner m fs tag rows
 inner m fs ok is bytes tag rows there e =
     let a = encoded (valueOf m tag) rows (value-bytes m bytes tag) e in
@@ -78,9 +78,9 @@ module _ (p : List ℕ) where
       (g .pubk, (g .mint, (g .maxt, record {})))) in
       sym
       (says-0 refusals _ _ refl (none-quiet refusals root)
-      (says-0 refusals _ _ refl (none-quiet refusals (ap (moved (srepStart (encode fs))) signed))
-      (says-0 refusals _ _ refl (none-quiet refusals (ap (moved (certStart (encode fs))) certified))
-      (is-last refusals (sym (ap (moved (deleStart (encode fs))) delegated))))))
+      (says-0 refusals _ _ refl (none-quiet refusals (ap (shifted (srepStart (encode fs))) signed))
+      (says-0 refusals _ _ refl (none-quiet refusals (ap (shifted (certStart (encode fs))) certified))
+      (is-last refusals (sym (ap (shifted (deleStart (encode fs))) delegated))))))
 
   response-encoded : (g : GoodResponse p) → responseMessageCode (encode (g .fields)) ≡ passed
   unfolding responseMessageCode versionUnlisted
@@ -100,8 +100,8 @@ module _ (p : List ℕ) where
   unfolding responseCode
   good-response g =
       none-quiet refusals
-      (fields-pass (λ m. moved bodyStart (responseMessageCode m)) p (g .fields) (g .packet)
-      (ap (moved bodyStart) (response-encoded g)))
+      (fields-pass (λ m. shifted bodyStart (responseMessageCode m)) p (g .fields) (g .packet)
+      (ap (shifted bodyStart) (response-encoded g)))
 
   pub response-good : Bytes p → responseCode p .code ≡ 0 → GoodResponse p
   unfolding responseCode responseMessageCode shapeCode versionUnlisted
@@ -120,7 +120,7 @@ module _ (p : List ℕ) where
       let outer = encoded m rootTable whole (root .0) in
       let rows = encoded-held m rootTable (root .0) outer in
       let packet = fields-of p bytes (a .0) outer in
-      let answer = inner m (outer .fields) (outer .kept) (outer .is) whole SREP srepTable (rows .1 .1 .1 .1 .0 .there)
+      let srep = inner m (outer .fields) (outer .kept) (outer .is) whole SREP srepTable (rows .1 .1 .1 .1 .0 .there)
       (signed .0) in
       let chain = inner m (outer .fields) (outer .kept) (outer .is) whole CERT certTable (rows .1 .1 .1 .1 .1 .0 .there)
       (certified .0) in
@@ -133,7 +133,7 @@ module _ (p : List ℕ) where
       eqb-true _ _ (not-false _ (test-quiet refusals _ _ tt (v .0))) in
       let listed : lacksVersion (valueOf (valueOf m SREP) VERS) (le 4 (valueOf (valueOf m SREP) VER) 0) ≡ false =
       test-quiet refusals _ _ tt (l .0) in
-      let within = value-encoded (answer .holds .fields) (answer .holds .kept) in
+      let within = value-encoded (srep .holds .fields) (srep .holds .kept) in
       record {
         fields = outer .fields;
         packet = packet;
@@ -142,12 +142,12 @@ module _ (p : List ℕ) where
         type = rows .1 .1 .0;
         path = rows .1 .1 .1 .0;
         indx = rows .1 .1 .1 .1 .1 .1 .0;
-        srep = answer .holds;
-        ver = answer .held .0;
-        radi = answer .held .1 .0;
-        midp = answer .held .1 .1 .0;
-        vers = answer .held .1 .1 .1 .0;
-        root = answer .held .1 .1 .1 .1 .0;
+        srep = srep .holds;
+        ver = srep .held .0;
+        radi = srep .held .1 .0;
+        midp = srep .held .1 .1 .0;
+        vers = srep .held .1 .1 .1 .0;
+        root = srep .held .1 .1 .1 .1 .0;
         cert = chain .holds;
         cert-sig = chain .held .0;
         dele = key .holds;
@@ -155,8 +155,8 @@ module _ (p : List ℕ) where
         mint = key .held .1 .0;
         maxt = key .held .1 .1 .0;
         type-is = rw (fields-value p (outer .fields) packet TYPE) at kind;
-        version = rw (answer .read, within VER) at version;
-        listed = version-test _ _ .0 (rw (answer .read, within VERS, within VER) at listed);
+        version = rw (srep .read, within VER) at version;
+        listed = version-test _ _ .0 (rw (srep .read, within VERS, within VER) at listed);
       }
 
   -- a response of bytes has none of the codes 1 to 8 exactly where it is good

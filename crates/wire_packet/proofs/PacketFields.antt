@@ -10,7 +10,7 @@ use Rattle.laws.proofs.First.{says-0, is-last, none-quiet}
 use Rattle.refusal.specs.Refusal.{passed, refusals, first}
 use Rattle.refusal.specs.declared.Refusal.{Refusal}
 use Rattle.wire_message.specs.Encode.{Field, Fields, Encoded, values, encode, valueAmong}
-use Rattle.wire_message.specs.Rules.{Row, messageCode}
+use Rattle.wire_message.specs.Rules.{TagRule, messageCode}
 use Rattle.wire_message.specs.Values.{valueOf}
 use Rattle.wire_message.proofs.Codes.{frame-0, code-0}
 use Rattle.wire_message.proofs.Decoded.{good-encoded}
@@ -53,11 +53,11 @@ fields-of p bytes e a =
     record { kept = a .kept; is = packet-made p bytes k ∙ ap packetOf (a .is); least = k .least; most = k .most }
 
 -- a message of bytes that keeps a table is that of some fields
-pub encoded : (m : List ℕ) (rows : List Row) → Bytes m → messageCode m rows .code ≡ 0 → Encoded m
+pub encoded : (m : List ℕ) (rows : List TagRule) → Bytes m → messageCode m rows .code ≡ 0 → Encoded m
 encoded m rows bytes e = let c = code-0 m rows .0 e in good-encoded m bytes (frame-0 m .1 (c .0, c .1))
 
 -- and the fields keep the table
-pub encoded-held : (m : List ℕ) (rows : List Row) → messageCode m rows .code ≡ 0 → (a : Encoded m)
+pub encoded-held : (m : List ℕ) (rows : List TagRule) → messageCode m rows .code ≡ 0 → (a : Encoded m)
     → AllHeld (a .fields) rows
 encoded-held m rows e a =
     passes-all (a .fields) (a .kept) rows (ap (λ (s : List ℕ). messageCode s rows .code) (sym (a .is)) ∙ e)

@@ -9,10 +9,10 @@ use borrow.Author.Tests.{le-leb}
 use lib.ListN.{length, take, drop}
 use lib.Seq.{drop-drop, take-take, take-length}
 use Rattle.laws.proofs.First.{first-keeps, when-keeps, end-keeps}
-use Rattle.refusal.specs.Refusal.{refusal, passed, refusals, first, when, moved}
+use Rattle.refusal.specs.Refusal.{refusal, passed, refusals, first, when, shifted}
 use Rattle.refusal.specs.declared.Refusal.{Refusal}
 use Rattle.wire_message.specs.Places.{RowsRise}
-use Rattle.wire_message.specs.Rules.{Row, messageCode}
+use Rattle.wire_message.specs.Rules.{TagRule, messageCode}
 use Rattle.wire_message.specs.Tags.{DELE, SREP, CERT}
 use Rattle.wire_message.specs.Sentences.{Good}
 use Rattle.wire_message.specs.Values.{valueStart}
@@ -62,9 +62,9 @@ dele-rises (suc (suc k)) h = absurd (omega arith)
 
 -- ---- moving
 
--- a place that is carried is moved by the whole way
-moved-at : (by : ℕ) (r : Refusal) → Carries (r .code) → moved by r .at ≡ r .at + by
-moved-at by r c = rw (le-leb 4 (r .code) (c .least), le-leb (r .code) 7 (c .most))
+-- a place that is carried is shifted by the whole way
+shifted-at : (by : ℕ) (r : Refusal) → Carries (r .code) → shifted by r .at ≡ r .at + by
+shifted-at by r c = rw (le-leb 4 (r .code) (c .least), le-leb (r .code) 7 (c .most))
 
 -- what stands in a part stands in the whole
 take-within : (t a n : ℕ) (xs : List ℕ) → t + a ≤ n → take a (drop t (take n xs)) ≡ take a (drop t xs)
@@ -103,25 +103,25 @@ module _ (p : List ℕ) where
   body-stands = take-length (body p)
 
   -- the refusal of the packet's message, told of the packet
-  body-told : (rows : List Row) → RowsRise rows → Carries (messageCode (body p) rows .code)
-      → ToldOf p (moved bodyStart (messageCode (body p) rows)) (body p) rows bodyStart
+  body-told : (rows : List TagRule) → RowsRise rows → Carries (messageCode (body p) rows .code)
+      → ToldOf p (shifted bodyStart (messageCode (body p) rows)) (body p) rows bodyStart
   body-told rows rise c =
       record {
         stands = body-stands;
         code = refl;
-        at = moved-at bodyStart (messageCode (body p) rows) c;
+        at = shifted-at bodyStart (messageCode (body p) rows) c;
         wrong = place-wrong (body p) rows rise;
       }
 
   -- and that of a message within
-  part-told : (part : List ℕ) (rows : List Row) → RowsRise rows → (start : ℕ)
+  part-told : (part : List ℕ) (rows : List TagRule) → RowsRise rows → (start : ℕ)
       → take (length part) (drop start (body p)) ≡ part
       → start + length part ≤ length (body p) → Carries (messageCode part rows .code)
-      → ToldOf p (moved bodyStart (moved start (messageCode part rows))) part rows (bodyStart + start)
+      → ToldOf p (shifted bodyStart (shifted start (messageCode part rows))) part rows (bodyStart + start)
   part-told part rows rise start e h c =
-      let whole : Carries (moved start (messageCode part rows) .code) = record { least = c .least; most = c .most } in
-      let outer = moved-at bodyStart (moved start (messageCode part rows)) whole in
-      let inner = moved-at start (messageCode part rows) c in
+      let whole : Carries (shifted start (messageCode part rows) .code) = record { least = c .least; most = c .most } in
+      let outer = shifted-at bodyStart (shifted start (messageCode part rows)) whole in
+      let inner = shifted-at start (messageCode part rows) c in
       let sum : messageCode part rows .at + start + bodyStart ≡ messageCode part rows .at + (bodyStart + start) =
       omega arith in
       record {
@@ -134,7 +134,7 @@ module _ (p : List ℕ) where
   -- ---- requests
 
   AsRequest : Refusal → Type 0
-  AsRequest r = Carries (r .code) → ToldOf p (moved bodyStart r) (body p) requestTable bodyStart
+  AsRequest r = Carries (r .code) → ToldOf p (shifted bodyStart r) (body p) requestTable bodyStart
 
   request-told : AsRequest (requestMessageCode (body p))
   unfolding AsRequest requestMessageCode
@@ -155,7 +155,7 @@ module _ (p : List ℕ) where
   unfolding Low AsRequest requestCode
   request-place =
       first-keeps refusals Whole _ _ (λ c. absurd (packet-low p c))
-      (λ a. first-keeps refusals Whole (moved bodyStart (requestMessageCode (body p))) []
+      (λ a. first-keeps refusals Whole (shifted bodyStart (requestMessageCode (body p))) []
       (λ c. request-told (record { least = c .least; most = c .most }))
       (λ b. end-keeps refusals Whole (λ c. absurd (omega (arith, c .least)))))
     where
@@ -165,21 +165,21 @@ module _ (p : List ℕ) where
   -- ---- responses
 
   AsResponse : Refusal → Type 0
-  AsResponse r = Carries (r .code) → ToldIn p (moved bodyStart r)
+  AsResponse r = Carries (r .code) → ToldIn p (shifted bodyStart r)
 
   shape-told : AsResponse (shapeCode (body p))
   unfolding AsResponse shapeCode
   shape-told =
       first-keeps refusals AsResponse (messageCode m rootTable) _ (λ c. of-root (body-told rootTable root-rises c))
       (λ a. let g = message-good m rootTable _ refl a in
-      first-keeps refusals AsResponse (moved (srepStart m) (messageCode (srep m) srepTable)) _
+      first-keeps refusals AsResponse (shifted (srepStart m) (messageCode (srep m) srepTable)) _
       (λ c. of-srep a
       (part-told (srep m) srepTable srep-rises (srepStart m) (value-stands m SREP) (value-ends m g SREP) (same c)))
-      (λ b. first-keeps refusals AsResponse (moved (certStart m) (messageCode (cert m) certTable)) _
+      (λ b. first-keeps refusals AsResponse (shifted (certStart m) (messageCode (cert m) certTable)) _
       (λ c. of-cert a b
       (part-told (cert m) certTable cert-rises (certStart m) (value-stands m CERT) (value-ends m g CERT) (same c)))
       (λ d. let h = message-good (cert m) certTable _ refl d in
-      first-keeps refusals AsResponse (moved (deleStart m) (messageCode (dele m) deleTable)) _
+      first-keeps refusals AsResponse (shifted (deleStart m) (messageCode (dele m) deleTable)) _
       (λ c. of-dele a b d (part-told (dele m) deleTable dele-rises (deleStart m) (dele-stands h) (dele-in m g h) (same c)))
       (λ e. end-keeps refusals AsResponse (λ c. absurd (omega (arith, c .least)))))))
     where
@@ -210,12 +210,12 @@ module _ (p : List ℕ) where
       none c = absurd (omega (arith, c .least))
 
   -- a packet whose message's refusal is told so is told so itself
-  by-body : (r : Refusal) → AsResponse r → Carries (first (packetCode p ∷ moved bodyStart r ∷ []) .code)
-      → ToldIn p (first (packetCode p ∷ moved bodyStart r ∷ []))
+  by-body : (r : Refusal) → AsResponse r → Carries (first (packetCode p ∷ shifted bodyStart r ∷ []) .code)
+      → ToldIn p (first (packetCode p ∷ shifted bodyStart r ∷ []))
   unfolding Low AsResponse
   by-body r told =
       first-keeps refusals Whole _ _ (λ c. absurd (packet-low p c))
-      (λ a. first-keeps refusals Whole (moved bodyStart r) [] (λ c. told (record { least = c .least; most = c .most }))
+      (λ a. first-keeps refusals Whole (shifted bodyStart r) [] (λ c. told (record { least = c .least; most = c .most }))
       (λ b. end-keeps refusals Whole (λ c. absurd (omega (arith, c .least)))))
     where
       Whole : Refusal → Type 0

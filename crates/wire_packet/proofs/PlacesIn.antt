@@ -6,9 +6,9 @@ use mathlib.Core.Bool.{Bool, true, false, cond}
 use native.Mathlib.Omega.{arith}
 use lib.ListN.{length, length-drop}
 use Rattle.laws.proofs.First.{first-keeps, when-keeps, end-keeps}
-use Rattle.refusal.specs.Refusal.{refusals, carries, moved}
+use Rattle.refusal.specs.Refusal.{refusals, carries, shifted}
 use Rattle.refusal.specs.declared.Refusal.{Refusal}
-use Rattle.wire_message.specs.Rules.{Row, messageCode}
+use Rattle.wire_message.specs.Rules.{TagRule, messageCode}
 use Rattle.wire_message.specs.Sentences.{Good}
 use Rattle.wire_message.specs.Tags.{DELE, SREP, CERT}
 use Rattle.wire_message.specs.Values.{valueOf, valueStart}
@@ -25,16 +25,16 @@ use Rattle.wire_packet.specs.Tables.{rootTable, srepTable, certTable, de
 abbrev In : List ℕ → Refusal → Type 0
 In m r = r .at ≤ length m
 
--- a moved place is at most the sum
-moved-in : (by n : ℕ) (r : Refusal) → r .at + by ≤ n → moved by r .at ≤ n
-moved-in by n r h = go (carries (r .code))
+-- a shifted place is at most the sum
+shifted-in : (by n : ℕ) (r : Refusal) → r .at + by ≤ n → shifted by r .at ≤ n
+shifted-in by n r h = go (carries (r .code))
   where
     go : (t : Bool) → cond t (r .at + by) (r .at) ≤ n
     go true = h
     go false = omega arith
 
 -- the refusal of a value, which code has as r, and where the value starts, which code has as s
-pub value-fits : (m : List ℕ) → Good m → (tag : ℕ) (rows : List Row) {r : Refusal} {s : ℕ}
+pub value-fits : (m : List ℕ) → Good m → (tag : ℕ) (rows : List TagRule) {r : Refusal} {s : ℕ}
     → r ≡ messageCode (valueOf m tag) rows → s ≡ valueStart m tag → r .at + s ≤ length m
 value-fits m g tag rows e f = rw (e, f) (omega (arith, place-in (valueOf m tag) rows, value-ends m g tag))
 
@@ -54,12 +54,12 @@ shape-in m =
     first-keeps refusals (In m) _ _ (place-in m rootTable)
     (λ a. let g = message-good m rootTable _ refl a in
     first-keeps refusals (In m) _ _
-    (moved-in (srepStart m) _ (messageCode (srep m) srepTable) (value-fits m g SREP srepTable refl refl))
+    (shifted-in (srepStart m) _ (messageCode (srep m) srepTable) (value-fits m g SREP srepTable refl refl))
     (λ b. first-keeps refusals (In m) _ _
-    (moved-in (certStart m) _ (messageCode (cert m) certTable) (value-fits m g CERT certTable refl refl))
+    (shifted-in (certStart m) _ (messageCode (cert m) certTable) (value-fits m g CERT certTable refl refl))
     (λ c. let h = message-good (cert m) certTable _ refl c in
     first-keeps refusals (In m) _ _
-    (moved-in (deleStart m) _ (messageCode (dele m) deleTable) (dele-fits m g h refl refl))
+    (shifted-in (deleStart m) _ (messageCode (dele m) deleTable) (dele-fits m g h refl refl))
     (λ d. end-keeps refusals (In m) zero-le))))
 
 pub request-in : (m : List ℕ) → In m (requestMessageCode m)

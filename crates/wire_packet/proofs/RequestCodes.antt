@@ -48,8 +48,8 @@ pub lent-body : (q : List ℕ) {t : Bool} → t ≡ requestBad q → t ≡ false
 lent-body q e f = let b = request-body q (lent-good q e f) in (b .0, asks (body q) (b .1))
 
 -- the answer says the packet's code, in document 01's numbers
-pub request-says : (p : List ℕ) → requestOf p .answer .code ≡ requestCode p .code
+pub request-says : (p : List ℕ) → requestOf p .refusal .code ≡ requestCode p .code
 unfolding requestOf requestIn
 request-says p =
-    chosen-says (λ (r : Request). r .answer .code) (requestIn (body p)) (noRequest (requestCode p))
+    chosen-says (λ (r : Request). r .refusal .code) (requestIn (body p)) (noRequest (requestCode p))
     (requestCode p .code) refl refl

@@ -57,8 +57,8 @@ signed-body p x e z =
     (packet-long p _ refl (a .0), shaped (body p) _ refl (row-quiet refusals _ _ (a .1) .0))
 
 -- the answer says the packet's code, in document 01's numbers
-pub response-says : (p : List ℕ) → responseOf p .answer .code ≡ responseCode p .code
+pub response-says : (p : List ℕ) → responseOf p .refusal .code ≡ responseCode p .code
 unfolding responseOf responseIn
 response-says p =
-    chosen-says (λ (r : Response). r .answer .code) (responseIn (body p)) (noResponse (responseCode p))
+    chosen-says (λ (r : Response). r .refusal .code) (responseIn (body p)) (noResponse (responseCode p))
     (responseCode p .code) refl refl

@@ -14,14 +14,14 @@ use Rattle.wire_packet.specs.declared.SignedParts.{SignedParts}
 
 -- the answer to a refused response
 abbrev pub noParts : Refusal → SignedParts
-noParts refusal = record { answer = refusal; signature = zeros64; delegation = zeros64; pubk = zeros32 }
+noParts refusal = record { refusal = refusal; signature = zeros64; delegation = zeros64; pubk = zeros32 }
 
 -- the answer to one of the right shape, of its message: the signature over SREP is the SIG of the root (draft 19,
 -- 5.2.1), that over DELE is the SIG of CERT, and the key that signs SREP is the PUBK of DELE (5.2.6)
 unfoldable pub partsIn : List ℕ → SignedParts
 partsIn m =
     record {
-      answer = passed;
+      refusal = passed;
       signature = valueOf m SIG;
       delegation = valueOf (cert m) SIG;
       pubk = valueOf (dele m) PUBK;

@@ -7,7 +7,7 @@ use mathlib.Core.List.{List}
 use lib.ListN.{length, take, drop}
 use Rattle.refusal.specs.declared.Refusal.{Refusal}
 use Rattle.wire_message.specs.Places.{WrongAt}
-use Rattle.wire_message.specs.Rules.{Row, messageCode}
+use Rattle.wire_message.specs.Rules.{TagRule, messageCode}
 use Rattle.wire_packet.specs.Packet.{bodyStart, body}
 use Rattle.wire_packet.specs.Response.{srep, cert, dele, srepStart, certStart, deleStart}
 use Rattle.wire_packet.specs.Tables.{rootTable, srepTable, certTable, deleTable}
@@ -19,7 +19,7 @@ pub record Carries (n : ℕ) : Type 0 where
 
 -- the refusal r of the packet p is that of its message m, which the table judges and which stands from byte `start` on:
 -- its code, its place counted from the packet's first byte, and what stands there
-pub record ToldOf (p : List ℕ) (r : Refusal) (m : List ℕ) (rows : List Row) (start : ℕ) : Type 0 where
+pub record ToldOf (p : List ℕ) (r : Refusal) (m : List ℕ) (rows : List TagRule) (start : ℕ) : Type 0 where
   pub stands : take (length m) (drop start p) ≡ m
   pub code : messageCode m rows .code ≡ r .code
   pub at : r .at ≡ messageCode m rows .at + start

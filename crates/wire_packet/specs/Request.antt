@@ -4,7 +4,7 @@ use mathlib.Core.List.{List, [], _∷_}
 use mathlib.Core.Bool.{Bool, false, not, cond}
 use lib.Dec.{eqb}
 use Rattle.laws.specs.Numbers.{le}
-use Rattle.refusal.specs.Refusal.{passed, moved, first, when}
+use Rattle.refusal.specs.Refusal.{passed, shifted, first, when}
 use Rattle.refusal.specs.declared.Refusal.{Refusal}
 use Rattle.wire_message.specs.Rules.{messageCode}
 use Rattle.wire_message.specs.Tags.{VER, SRV, NONC, TYPE}
@@ -26,7 +26,7 @@ requestMessageCode m =
 
 -- codes 1 to 8 of a request packet: the packet's, then its message's, with their place in the packet
 unfoldable pub requestCode : List ℕ → Refusal
-requestCode p = first (packetCode p ∷ moved bodyStart (requestMessageCode (body p)) ∷ [])
+requestCode p = first (packetCode p ∷ shifted bodyStart (requestMessageCode (body p)) ∷ [])
 
 -- the request is refused
 unfoldable pub requestBad : List ℕ → Bool
@@ -34,13 +34,13 @@ requestBad p = not (eqb (requestCode p .code) 0)
 
 -- the answer to a refused request
 abbrev pub noRequest : Refusal → Request
-noRequest refusal = record { answer = refusal; nonc = zeros32; «with_srv» = false; srv = zeros32 }
+noRequest refusal = record { refusal = refusal; nonc = zeros32; «with_srv» = false; srv = zeros32 }
 
 -- the answer to a good one, of its message
 unfoldable pub requestIn : List ℕ → Request
 requestIn m =
     record {
-      answer = passed;
+      refusal = passed;
       nonc = valueOf m NONC;
       «with_srv» = has m SRV;
       srv = cond (has m SRV) (valueOf m SRV) zeros32;

@@ -4,7 +4,7 @@ use mathlib.Core.List.{List, [], _∷_}
 use mathlib.Core.Bool.{Bool, not, cond}
 use lib.Dec.{eqb}
 use Rattle.laws.specs.Numbers.{le}
-use Rattle.refusal.specs.Refusal.{passed, moved, first, when}
+use Rattle.refusal.specs.Refusal.{passed, shifted, first, when}
 use Rattle.refusal.specs.declared.Refusal.{Refusal}
 use Rattle.wire_message.specs.Rules.{messageCode}
 use Rattle.wire_message.specs.Tags.{VER, NONC, DELE, TYPE, RADI, MIDP, SREP, VERS, MINT, ROOT, CERT, MAXT, INDX}
@@ -65,14 +65,14 @@ unfoldable pub shapeCode : List ℕ → Refusal
 shapeCode m =
     first
     (messageCode m rootTable
-    ∷ moved (srepStart m) (messageCode (srep m) srepTable)
-    ∷ moved (certStart m) (messageCode (cert m) certTable)
-    ∷ moved (deleStart m) (messageCode (dele m) deleTable)
+    ∷ shifted (srepStart m) (messageCode (srep m) srepTable)
+    ∷ shifted (certStart m) (messageCode (cert m) certTable)
+    ∷ shifted (deleStart m) (messageCode (dele m) deleTable)
     ∷ [])
 
 -- codes 1 to 7 of a response packet, with their place in it: what the signed texts ask
 unfoldable pub signedCode : List ℕ → Refusal
-signedCode p = first (packetCode p ∷ moved bodyStart (shapeCode (body p)) ∷ [])
+signedCode p = first (packetCode p ∷ shifted bodyStart (shapeCode (body p)) ∷ [])
 
 -- VERS does not hold SREP's VER (5.2.5)
 unfoldable pub versionUnlisted : List ℕ → Bool
@@ -90,17 +90,17 @@ responseMessageCode m =
 
 -- codes 1 to 8 of a response packet, with their place in it
 unfoldable pub responseCode : List ℕ → Refusal
-responseCode p = first (packetCode p ∷ moved bodyStart (responseMessageCode (body p)) ∷ [])
+responseCode p = first (packetCode p ∷ shifted bodyStart (responseMessageCode (body p)) ∷ [])
 
 -- the answer to a refused response
 abbrev pub noResponse : Refusal → Response
-noResponse refusal = record { answer = refusal; nonc = zeros32; indx = 0; midp = 0; radi = 0; root = zeros32 }
+noResponse refusal = record { refusal = refusal; nonc = zeros32; indx = 0; midp = 0; radi = 0; root = zeros32 }
 
 -- the answer to a good one, of its message
 unfoldable pub responseIn : List ℕ → Response
 responseIn m =
     record {
-      answer = passed;
+      refusal = passed;
       nonc = valueOf m NONC;
       indx = indxIn m;
       midp = midpIn m;

@@ -22,7 +22,7 @@ pub use shape::dele_of;
 
 // What a request says. Of a refused one all bytes are 0.
 pub struct Request {
-    pub answer: Refusal,
+    pub refusal: Refusal,
     pub nonc: [u8; 32],
     pub with_srv: bool,
     pub srv: [u8; 32],
@@ -30,7 +30,7 @@ pub struct Request {
 
 // What a response says. Of a refused one all numbers and bytes are 0.
 pub struct Response {
-    pub answer: Refusal,
+    pub refusal: Refusal,
     pub nonc: [u8; 32],
     pub indx: u32,
     pub midp: u64,
@@ -41,7 +41,7 @@ pub struct Response {
 // What a host verifies of a response by itself: the signature over SREP, the signature over DELE, and the key that
 // signs SREP. Of a refused response all bytes are 0.
 pub struct SignedParts {
-    pub answer: Refusal,
+    pub refusal: Refusal,
     pub signature: [u8; 64],
     pub delegation: [u8; 64],
     pub pubk: [u8; 32],

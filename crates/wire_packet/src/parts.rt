@@ -30,7 +30,7 @@ fn refused_parts(refusal: Refusal) -> SignedParts
     ensures { λ r. ⌜ r ≡ noParts refusal ⌝ }
 {
     SignedParts {
-        answer: refusal,
+        refusal: refusal,
         signature: [0u8; 64],
         delegation: [0u8; 64],
         pubk: [0u8; 32],
@@ -45,7 +45,7 @@ fn shaped_parts(m: &[u8]) -> SignedParts
     let delegation = value64(value_of(m, CERT), SIG);
     let pubk = value32(dele_of(m), PUBK);
     SignedParts {
-        answer: PASSED,
+        refusal: PASSED,
         signature: signature,
         delegation: delegation,
         pubk: pubk,

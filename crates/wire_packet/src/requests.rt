@@ -16,8 +16,8 @@ use super::tables::REQUEST_TABLE;
 use refusal::PASSED;
 use refusal::Refusal;
 use refusal::codes;
-use refusal::moved;
 use refusal::refuse;
+use refusal::shifted;
 use wire_message::has_tag;
 use wire_message::message_code;
 use wire_message::tags::NONC;
@@ -45,7 +45,7 @@ pub fn request_code(p: &[u8]) -> Refusal
         return c;
     }
     let r = request_message_code(body_of(p));
-    moved(r, BODY_START)
+    shifted(r, BODY_START)
 }
 
 // The request is refused.
@@ -83,7 +83,7 @@ fn refused_request(refusal: Refusal) -> Request
     ensures { λ r. ⌜ r ≡ noRequest refusal ⌝ }
 {
     Request {
-        answer: refusal,
+        refusal: refusal,
         nonc: [0u8; 32],
         with_srv: false,
         srv: [0u8; 32],
@@ -98,14 +98,14 @@ fn good_request(m: &[u8]) -> Request
     if has_tag(m, SRV) {
         let srv = value32(m, SRV);
         return Request {
-            answer: PASSED,
+            refusal: PASSED,
             nonc: nonc,
             with_srv: true,
             srv: srv,
         };
     }
     Request {
-        answer: PASSED,
+        refusal: PASSED,
         nonc: nonc,
         with_srv: false,
         srv: [0u8; 32],

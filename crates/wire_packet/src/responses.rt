@@ -18,8 +18,8 @@ use super::shape::shape_code;
 use refusal::PASSED;
 use refusal::Refusal;
 use refusal::codes;
-use refusal::moved;
 use refusal::refuse;
+use refusal::shifted;
 use wire_message::tags::INDX;
 use wire_message::tags::MIDP;
 use wire_message::tags::NONC;
@@ -51,7 +51,7 @@ pub fn response_code(p: &[u8]) -> Refusal
         return c;
     }
     let r = response_message_code(body_of(p));
-    moved(r, BODY_START)
+    shifted(r, BODY_START)
 }
 
 // Codes 1 to 7 of a response packet, with their place in it, PASSED where none applies: what the signed texts ask.
@@ -63,7 +63,7 @@ pub fn signed_code(p: &[u8]) -> Refusal
         return c;
     }
     let r = shape_code(body_of(p));
-    moved(r, BODY_START)
+    shifted(r, BODY_START)
 }
 
 // Codes 4 to 8 of a response's message.
@@ -106,7 +106,7 @@ fn refused_response(refusal: Refusal) -> Response
     ensures { λ r. ⌜ r ≡ noResponse refusal ⌝ }
 {
     Response {
-        answer: refusal,
+        refusal: refusal,
         nonc: [0u8; 32],
         indx: 0,
         midp: 0,
@@ -126,7 +126,7 @@ fn good_response(m: &[u8]) -> Response
     let radi = number32(srep, RADI);
     let root = value32(srep, ROOT);
     Response {
-        answer: PASSED,
+        refusal: PASSED,
         nonc: nonc,
         indx: indx,
         midp: midp,

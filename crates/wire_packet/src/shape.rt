@@ -2,7 +2,7 @@
 ghost use mathlib.Core.Path.{_≡_};
 ghost use Rattle.wire_message.specs.Rules.{messageCode};
 ghost use Rattle.wire_message.specs.Sentences.{Good};
-ghost use Rattle.refusal.specs.Refusal.{moved};
+ghost use Rattle.refusal.specs.Refusal.{shifted};
 ghost use Rattle.wire_packet.specs.Response.{srep, cert, dele, srepStart, certStart, deleStart, shapeCode};
 ghost use Rattle.wire_packet.specs.Tables.{rootTable, srepTable, certTable, deleTable};
 use super::tables::CERT_TABLE;
@@ -10,7 +10,7 @@ use super::tables::DELE_TABLE;
 use super::tables::ROOT_TABLE;
 use super::tables::SREP_TABLE;
 use refusal::Refusal;
-use refusal::moved;
+use refusal::shifted;
 use wire_message::message_code;
 use wire_message::tags::CERT;
 use wire_message::tags::DELE;
@@ -47,28 +47,28 @@ fn root_code(m: &[u8]) -> Refusal
 // Codes 4 to 7 of SREP.
 fn srep_code(m: &[u8]) -> Refusal
     requires { ⌜ Good (now m) ⌝ }
-    ensures { λ r. ⌜ r ≡ moved (srepStart (now (m .entry))) (messageCode (srep (now (m .entry))) srepTable) ⌝ }
+    ensures { λ r. ⌜ r ≡ shifted (srepStart (now (m .entry))) (messageCode (srep (now (m .entry))) srepTable) ⌝ }
 {
     let r = message_code(value_of(m, SREP), &SREP_TABLE);
-    moved(r, value_start(m, SREP))
+    shifted(r, value_start(m, SREP))
 }
 
 // Codes 4 to 7 of CERT.
 fn cert_code(m: &[u8]) -> Refusal
     requires { ⌜ Good (now m) ⌝ }
-    ensures { λ r. ⌜ r ≡ moved (certStart (now (m .entry))) (messageCode (cert (now (m .entry))) certTable) ⌝ }
+    ensures { λ r. ⌜ r ≡ shifted (certStart (now (m .entry))) (messageCode (cert (now (m .entry))) certTable) ⌝ }
 {
     let r = message_code(value_of(m, CERT), &CERT_TABLE);
-    moved(r, value_start(m, CERT))
+    shifted(r, value_start(m, CERT))
 }
 
 // Codes 4 to 7 of DELE, which stands in CERT.
 fn dele_code(m: &[u8]) -> Refusal
     requires { ⌜ Good (now m) × Good (cert (now m)) ⌝ }
-    ensures { λ r. ⌜ r ≡ moved (deleStart (now (m .entry))) (messageCode (dele (now (m .entry))) deleTable) ⌝ }
+    ensures { λ r. ⌜ r ≡ shifted (deleStart (now (m .entry))) (messageCode (dele (now (m .entry))) deleTable) ⌝ }
 {
     let r = message_code(dele_of(m), &DELE_TABLE);
-    moved(r, dele_start(m))
+    shifted(r, dele_start(m))
 }
 
 // Where DELE, which stands in CERT, starts in the message.

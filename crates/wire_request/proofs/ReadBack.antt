@@ -18,7 +18,7 @@ use Rattle.wire_message.specs.Tags.{VER, SRV, NONC, TYPE}
 use Rattle.wire_message.specs.Values.{valueOf}
 use Rattle.wire_message.proofs.Encoded.{has-encoded, value-encoded}
 use Rattle.wire_message.proofs.FieldRows.{Keeps, encode-kept}
-use Rattle.refusal.specs.Refusal.{passed, moved, refusals}
+use Rattle.refusal.specs.Refusal.{passed, shifted, refusals}
 use Rattle.wire_packet.specs.Request.{requestMessageCode, requestCode, requestIn, requestOf}
 use Rattle.wire_packet.specs.declared.Request.{Request}
 use Rattle.wire_packet.specs.Tables.{requestTable}
@@ -113,7 +113,7 @@ module _ (key nonce : List ℕ) (n32 : length nonce ≡ 32) where
   unfolding requestBytes requestCode
   request-good =
       says-0 refusals _ _ (packet-packed (encode fs) (omega (arith, length-message key nonce n32))) refl
-      (is-last refusals (ap (moved bodyStart) (message-good ∙ ap requestMessageCode (sym (body-packed (encode fs))))))
+      (is-last refusals (ap (shifted bodyStart) (message-good ∙ ap requestMessageCode (sym (body-packed (encode fs))))))
 
   -- the request is a good one, and its NONC is the nonce
   pub request-passes : requestCode (requestBytes key nonce) .code ≡ 0

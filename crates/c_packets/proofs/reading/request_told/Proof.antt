@@ -9,7 +9,7 @@ returns : tie.Need-returns
 returns c =
     let q = c .before .before .before .before .before .args .q in
     ap (λ (n : ℕ).
-    record { code = q .answer .code; «with_srv» = n; at = q .answer .at; nonc = q .nonc; srv = q .srv })
+    record { code = q .refusal .code; «with_srv» = n; at = q .refusal .at; nonc = q .nonc; srv = q .srv })
     (c .flag .ensures)
 
 pub request-told-spec : {M : Type 1} → statement M

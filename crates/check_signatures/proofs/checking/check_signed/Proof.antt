@@ -4,7 +4,7 @@ use mathlib.Core.Bool.{true}
 use Rattle.refusal.specs.declared.Refusal.{Refusal}
 use Rattle.check_response.specs.Check.{answersCode, checkCode}
 use Rattle.check_response.proofs.Lent.{checked-body, refused-clauses}
-use Rattle.check_signatures.specs.Answers.{delegated, responded}
+use Rattle.check_signatures.specs.SignatureAnswers.{delegated, responded}
 use Rattle.check_signatures.proofs.Verdicts.{check-clauses, told-anyway, passed-code, left-code, passed-still}
 use Rattle.check_signatures.proofs.Verdicts.{checked-texts, delegated-as, responded-as}
 use borrow.Author.Needs.{needs}

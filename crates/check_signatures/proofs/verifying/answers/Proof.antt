@@ -5,7 +5,7 @@ use Rattle.laws.proofs.First.{quiet-of}
 use Rattle.refusal.specs.Refusal.{refusals}
 use Rattle.wire_packet.specs.Response.{signedCode}
 use Rattle.wire_packet.proofs.ResponseCodes.{signed-body}
-use Rattle.check_signatures.specs.Answers.{delegated, responded}
+use Rattle.check_signatures.specs.SignatureAnswers.{delegated, responded}
 use Rattle.check_signatures.proofs.Verdicts.{delegated-as, responded-as}
 use borrow.Author.Needs.{needs}
 use Rattle.check_signatures.proofs.verifying.answers.Statement.{statement}

@@ -1,5 +1,5 @@
 -- `agreement::agreeing::agree_on` meets its contract.
-use Rattle.clock_agreement.proofs.Answers.{too-few, no-agreement, agreement}
+use Rattle.clock_agreement.proofs.AnswerLaws.{too-few, no-agreement, agreement}
 use borrow.Author.Needs.{needs}
 use native.Mathlib.Omega.{arith}
 use Rattle.clock_agreement.proofs.agreeing.agree_on.Statement.{statement}

@@ -7,7 +7,7 @@ use Rattle.refusal.specs.Refusal.{when}
 use Rattle.wire_request.specs.Answered.{wroteNumber, wroteLength}
 use Rattle.wire_request.specs.declared.Wrote.{Wrote}
 use Rattle.wire_request.proofs.Answered.{done-exactly}
-use Rattle.pile_signed.specs.Answers.{ownAnswers}
+use Rattle.pile_signed.specs.OwnAnswers.{ownAnswers}
 use borrow.Author.Needs.{needs}
 use Rattle.console.proofs.answering.put_answers.Statement.{statement}
 use Rattle.console.proofs.answering.put_answers.Tie as tie

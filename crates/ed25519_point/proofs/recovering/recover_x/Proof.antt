@@ -5,7 +5,7 @@ use borrow.Author.Needs.{needs}
 use Rattle.ed25519_field.specs.Limbs.{num}
 use Rattle.ed25519_field.proofs.Raise.{up}
 use Rattle.ed25519_point.specs.Decoding.{uOf, vOf, rootOf, recoverX}
-use Rattle.ed25519_point.specs.Answers.{rootIn}
+use Rattle.ed25519_point.specs.OfCode.{rootIn}
 use Rattle.ed25519_point.proofs.Ways.{x-found, x-lost}
 use Rattle.ed25519_point.proofs.recovering.recover_x.Statement.{statement}
 use Rattle.ed25519_point.proofs.recovering.recover_x.Tie as tie

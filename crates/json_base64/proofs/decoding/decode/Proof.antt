@@ -1,7 +1,7 @@
 -- `quoted::decoding::decode` meets its contract: what is no base64 stands for no byte.
 use mathlib.Core.Path.{sym, _∙_}
 use Rattle.json_strings.specs.Text.{contentAt}
-use Rattle.base64.specs.Decode.{decodeOf}
+use Rattle.base64.specs.Decode.{decode64}
 use Rattle.json_base64.proofs.Fills.{decode-none, decode-good}
 use borrow.Author.Needs.{needs}
 use Rattle.json_base64.proofs.decoding.decode.Statement.{statement}
@@ -10,13 +10,13 @@ use Rattle.json_base64.proofs.decoding.decode.Tie as tie
 returns : tie.Need-returns
 returns c =
     let a = c .before .before .before .before .before .args in
-    decode-none (decodeOf (contentAt (a .s .now) (a .at))) _ (sym (c .enum-told2 .given .1)
+    decode-none (decode64 (contentAt (a .s .now) (a .at))) _ (sym (c .enum-told2 .given .1)
     ∙ c .before .before .size-of .ensures)
 
 fill-requires : tie.Need-fill-requires
 fill-requires c κs =
     let a = c .before .before .before .before .before .before .args in (
-      decode-good (decodeOf (contentAt (a .s .now) (a .at))) (sym (c .before .enum-told .given .1)
+      decode-good (decode64 (contentAt (a .s .now) (a .at))) (sym (c .before .enum-told .given .1)
           ∙ c .before .before .before .size-of .ensures),
       c .before .before .before .before .before .before .pre,
     )

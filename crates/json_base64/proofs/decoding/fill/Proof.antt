@@ -6,7 +6,7 @@ use Prim.Native.Nat.{_-_}
 use lib.ListN.{length}
 use Rattle.laws.proofs.Filled.{filled-length}
 use Rattle.json_strings.specs.Text.{contentAt}
-use Rattle.base64.specs.Decode.{decodeOf}
+use Rattle.base64.specs.Decode.{decode64}
 use Rattle.json_base64.specs.Sized.{plain, Grouped}
 use Rattle.json_base64.proofs.Fills.{Filling, filling-first, filling-end, filling-fewer, filling-never}
 use Rattle.json_base64.proofs.Fills.{filling-three-fits, filling-three, filling-two-fits, filling-two}
@@ -15,7 +15,7 @@ use Rattle.json_base64.proofs.decoding.fill.Statement.{statement}
 use Rattle.json_base64.proofs.decoding.fill.Tie as tie
 
 abbrev Inv-loop : tie.InvT-loop
-Inv-loop s at out₀ k₀ n₀ out k n = Filling (plain (decodeOf (contentAt s at))) s k out₀ n out
+Inv-loop s at out₀ k₀ n₀ out k n = Filling (plain (decode64 (contentAt s at))) s k out₀ n out
 
 abbrev μ-loop : tie.MeasureT-loop
 μ-loop s at out₀ k₀ n₀ out k n = length s - k

@@ -5,7 +5,7 @@ use mathlib.Core.Path.{_≡_, refl, _∙_}
 use lib.ListN.{length}
 use denote.Ref.{now}
 use Rattle.json_strings.specs.Text.{contentAt}
-use Rattle.base64.specs.Decode.{decodeOf}
+use Rattle.base64.specs.Decode.{decode64}
 use Rattle.json_base64.specs.Sized.{sizeOf, Grouped}
 use Rattle.json_base64.proofs.Quads.{size-three, size-two, size-two-more, size-one, size-one-more, size-bad, size-end}
 use Rattle.json_base64.proofs.Quads.{size-fewer}
@@ -15,7 +15,7 @@ use Rattle.json_base64.proofs.sizing.size_of.Tie as tie
 
 abbrev Inv-loop : tie.InvT-loop
 Inv-loop s at quick k₀ n₀ k n =
-    (n + (length s - k) ≤ length s) × (sizeOf n (decodeOf (contentAt s k)) ≡ sizeOf 0 (decodeOf (contentAt s at)))
+    (n + (length s - k) ≤ length s) × (sizeOf n (decode64 (contentAt s k)) ≡ sizeOf 0 (decode64 (contentAt s at)))
 
 abbrev μ-loop : tie.MeasureT-loop
 μ-loop s at quick k₀ n₀ k n = length s - k

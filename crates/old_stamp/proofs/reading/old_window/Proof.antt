@@ -2,7 +2,7 @@
 use mathlib.Core.Path.{ap}
 use native.Mathlib.Omega.{arith}
 use Rattle.old_stamp.specs.declared.Stamped.the-variants.{Refused}
-use Rattle.old_stamp.proofs.Answers.{early-bad, late-bad, else-good, bad-answers, good-answers}
+use Rattle.old_stamp.proofs.AnswerLaws.{early-bad, late-bad, else-good, bad-answers, good-answers}
 use borrow.Author.Needs.{needs}
 use Rattle.old_stamp.proofs.reading.old_window.Statement.{statement}
 use Rattle.old_stamp.proofs.reading.old_window.Tie as tie

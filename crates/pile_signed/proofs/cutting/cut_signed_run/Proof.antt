@@ -9,7 +9,7 @@ use Rattle.pile.specs.Meaning.{WholePile, GoodPile}
 use Rattle.pile.proofs.Exactly.{whole-exactly}
 use Rattle.pile.proofs.Wholes.{whole}
 use Rattle.pile_report.specs.Taking.{ConvictsIn}
-use Rattle.pile_signed.specs.Answers.{ownAnswers}
+use Rattle.pile_signed.specs.OwnAnswers.{ownAnswers}
 use Rattle.pile_signed.proofs.Own.{own-good}
 use borrow.Author.Needs.{needs}
 use Rattle.pile_signed.proofs.cutting.cut_signed_run.Statement.{statement}

@@ -1,6 +1,6 @@
 -- `signed::cutting::signed_run` meets its contract. The run of the arrays is the run of the pile.
 use Rattle.pile_report.proofs.Runs.{run-of}
-use Rattle.pile_signed.specs.Answers.{ownAnswers}
+use Rattle.pile_signed.specs.OwnAnswers.{ownAnswers}
 use Rattle.pile_signed.proofs.Own.{own-good}
 use borrow.Author.Needs.{needs}
 use Rattle.pile_signed.proofs.cutting.signed_run.Statement.{statement}

@@ -14,7 +14,7 @@ use Rattle.pile_report.specs.Report.{judged}
 use Rattle.pile_report.proofs.Stopping.{up-to-all, up-to-place}
 use Rattle.pile_runs.specs.Convict.{verdictIn}
 use Rattle.check_response.specs.declared.Checked.{Checked}
-use Rattle.pile_signed.specs.Answers.{ownAnswers}
+use Rattle.pile_signed.specs.OwnAnswers.{ownAnswers}
 use Rattle.pile_signed.proofs.Own.{own-good}
 use borrow.Author.Needs.{needs}
 use Rattle.pile_signed.proofs.gathering.verdicts_until.Statement.{statement}

@@ -5,7 +5,7 @@ use Prim.Native.Nat.{ℕ, _+_, _-_, _*_, _≤_, _<_}
 use native.Mathlib.Omega.{arith}
 use lib.ListN.{length, getD, set, length-set}
 use Rattle.laws.proofs.Fill.{fill-next}
-use Rattle.pile_signed.specs.Answers.{delegatedAt, respondedAt, answerByte}
+use Rattle.pile_signed.specs.OwnAnswers.{delegatedAt, respondedAt, answerByte}
 use Rattle.check_signatures.specs.declared.Verified.{Verified}
 use Rattle.pile_signed.proofs.Own.{ownAnswer, own-delegation, own-response, own-front}
 use borrow.Author.Needs.{needs}

@@ -4,7 +4,7 @@ use native.Mathlib.Omega.{arith}
 use lib.ListN.{length}
 use lib.Seq.{take-all}
 use Rattle.pile.specs.Pile.{responseLength, responseArea, responsePacket}
-use Rattle.check_signatures.specs.Answers.{answersOf}
+use Rattle.check_signatures.specs.SignatureAnswers.{answersOf}
 use borrow.Author.Needs.{needs}
 use Rattle.pile_signed.proofs.listing.answers_in.Statement.{statement}
 use Rattle.pile_signed.proofs.listing.answers_in.Tie as tie

@@ -12,7 +12,7 @@ use Rattle.pile.proofs.Wholes.{whole}
 use Rattle.refusal.specs.Refusal.{refusal, passed, when}
 use Rattle.refusal.specs.declared.Refusal.{Refusal}
 use Rattle.wire_request.proofs.Answered.{writer-refused, writer-short, writer-done}
-use Rattle.pile_signed.specs.Answers.{ownAnswers}
+use Rattle.pile_signed.specs.OwnAnswers.{ownAnswers}
 use Rattle.pile_signed.proofs.Own.{own-length}
 use borrow.Author.Needs.{needs}
 use Rattle.pile_signed.proofs.listing.pile_answers.Statement.{statement}

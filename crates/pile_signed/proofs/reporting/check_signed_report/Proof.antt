@@ -12,7 +12,7 @@ use Rattle.pile_report.proofs.ReportNumbers.{both-clauses}
 use Rattle.pile_report.proofs.Says.{good-says}
 use Rattle.pile_report.proofs.Stopping.{says-until}
 use Rattle.pile_runs.specs.Convict.{verdictIn}
-use Rattle.pile_signed.specs.Answers.{ownAnswers}
+use Rattle.pile_signed.specs.OwnAnswers.{ownAnswers}
 use Rattle.pile_signed.proofs.Own.{own-good}
 use borrow.Author.Needs.{needs}
 use Rattle.pile_signed.proofs.reporting.check_signed_report.Statement.{statement}

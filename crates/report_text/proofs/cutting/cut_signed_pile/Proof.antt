@@ -6,7 +6,7 @@ use Rattle.pile.proofs.Exactly.{whole-exactly}
 use Rattle.pile.proofs.Wholes.{whole}
 use Rattle.pile_report.specs.Taking.{ConvictsIn}
 use Rattle.pile_runs.specs.Spans.{Answers}
-use Rattle.pile_signed.specs.Answers.{ownAnswers}
+use Rattle.pile_signed.specs.OwnAnswers.{ownAnswers}
 use Rattle.pile_signed.proofs.Own.{own-good}
 use Rattle.report_text.proofs.Cuts.{cut-bad, cut-none, cut-run, cut-writable}
 use Rattle.report_text.proofs.cutting.cut_signed_pile.Statement.{statement}

@@ -1,7 +1,7 @@
 -- `forward::cutting::cut_signed_text` meets its contract.
 use borrow.Author.Needs.{needs}
 use Rattle.report_text.proofs.Lengths.{few, pile-front, front-count, text-cut-own, text-none, text-much, text-short}
-use Rattle.pile_signed.specs.Answers.{ownAnswers}
+use Rattle.pile_signed.specs.OwnAnswers.{ownAnswers}
 use Rattle.report_text.specs.Forwarded.{pileOf}
 use Rattle.report_text.proofs.cutting.cut_signed_text.Statement.{statement}
 use Rattle.report_text.proofs.cutting.cut_signed_text.Tie as tie

@@ -2,7 +2,7 @@
 use borrow.Author.Needs.{needs}
 use mathlib.Core.Path.{refl}
 use Rattle.report_write.proofs.Piles.{pair-writable, publishes-by, pair-left, refused-left}
-use Rattle.pile_signed.specs.Answers.{ownAnswers}
+use Rattle.pile_signed.specs.OwnAnswers.{ownAnswers}
 use Rattle.report_text.proofs.publishing.write_signed_report.Statement.{statement}
 use Rattle.report_text.proofs.publishing.write_signed_report.Tie as tie
 

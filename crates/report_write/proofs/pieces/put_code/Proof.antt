@@ -5,7 +5,7 @@ use Prim.Native.Nat.{_+_, _*_, _/_, _≤_}
 use mathlib.Core.Path.{_≡_, sym}
 use lib.ListN.{length}
 use Rattle.laws.proofs.Pasted.{length-part}
-use Rattle.base64.specs.Encode.{encodeOf}
+use Rattle.base64.specs.Encode.{encode64}
 use Rattle.base64.proofs.Encodes.{encode-length}
 use Rattle.report_write.proofs.Puts.{code-back}
 use Rattle.report_write.proofs.pieces.put_code.Statement.{statement}

@@ -5,7 +5,7 @@ use Prim.Native.Nat.{_+_}
 use mathlib.Core.Path.{refl}
 use lib.ListN.{length}
 use Rattle.laws.proofs.Written.{puts-one, puts-more}
-use Rattle.base64.specs.Encode.{encodeOf}
+use Rattle.base64.specs.Encode.{encode64}
 use Rattle.report_write.specs.Pieces.{piece}
 use Rattle.report_write.proofs.Puts.{left-fits, right-fits}
 use Rattle.report_write.proofs.pieces.put_piece.Statement.{statement}
@@ -15,17 +15,17 @@ put-requires : tie.Need-put-requires
 unfolding piece
 put-requires c κs =
     let a = c .before .before .before .before .args in
-    left-fits (a .at) (a .w .now) (encodeOf (a .s .now)) (c .before .before .before .before .pre)
+    left-fits (a .at) (a .w .now) (encode64 (a .s .now)) (c .before .before .before .before .pre)
 
 put-code-requires : tie.Need-put-code-requires
 unfolding piece
 put-code-requires c κs =
     let a = c .before .before .before .before .before .before .before .before .args in
     let l =
-    left-fits (a .at) (a .w .now) (encodeOf (a .s .now))
+    left-fits (a .at) (a .w .now) (encode64 (a .s .now))
     (c .before .before .before .before .before .before .before .before .pre) in
     let p = puts-one (a .w .now) (a .at + length (a .w .now)) (c .before .before .before .put .ensures) refl l in
-    right-fits (a .w .now) (encodeOf (a .s .now)) p
+    right-fits (a .w .now) (encode64 (a .s .now)) p
     (c .before .before .before .before .before .before .before .before .pre)
 
 returns : tie.Need-returns
@@ -33,7 +33,7 @@ unfolding piece
 returns c =
     let a = c .before .before .before .before .before .before .before .before .before .before .before .args in
     let l =
-    left-fits (a .at) (a .w .now) (encodeOf (a .s .now))
+    left-fits (a .at) (a .w .now) (encode64 (a .s .now))
     (c .before .before .before .before .before .before .before .before .before .before .before .pre) in
     puts-more
     (puts-one (a .w .now) (a .at + length (a .w .now))

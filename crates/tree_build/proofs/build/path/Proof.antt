@@ -1,7 +1,7 @@
 -- `batch::build::path` meets its contract. Each way out has its law, and what is left in the buffer has one.
 use mathlib.Core.Path.{refl}
 use Rattle.tree_build.proofs.Writing.{path-puts}
-use Rattle.tree_build.proofs.Answers.{place-short, place-written, path-left}
+use Rattle.tree_build.proofs.BuildingLaws.{place-short, place-written, path-left}
 use borrow.Author.Needs.{needs}
 use Rattle.tree_build.proofs.build.path.Statement.{statement}
 use Rattle.tree_build.proofs.build.path.Tie as tie

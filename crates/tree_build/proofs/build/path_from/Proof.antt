@@ -1,7 +1,7 @@
 -- `batch::build::path_from` meets its contract. Each way out has its law, and what is left in the buffer has one.
 use mathlib.Core.Path.{refl}
 use Rattle.tree_build.proofs.Leaves.{held-rows}
-use Rattle.tree_build.proofs.Answers.{place-short, place-written, from-left}
+use Rattle.tree_build.proofs.BuildingLaws.{place-short, place-written, from-left}
 use borrow.Author.Needs.{needs}
 use Rattle.tree_build.proofs.build.path_from.Statement.{statement}
 use Rattle.tree_build.proofs.build.path_from.Tie as tie

@@ -1,5 +1,5 @@
 -- `batch::build::root` meets its contract. Each way out has its law.
-use Rattle.tree_build.proofs.Answers.{rooted-none, rooted-some}
+use Rattle.tree_build.proofs.BuildingLaws.{rooted-none, rooted-some}
 use borrow.Author.Needs.{needs}
 use Rattle.tree_build.proofs.build.root.Statement.{statement}
 use Rattle.tree_build.proofs.build.root.Tie as tie

@@ -2,7 +2,7 @@
 use native.Mathlib.Omega.{arith}
 use lib.Pow.{pow-pos}
 use Rattle.tree_build.proofs.Ascending.{rows-puts}
-use Rattle.tree_build.proofs.Answers.{rows-short, rows-written, rows-left}
+use Rattle.tree_build.proofs.BuildingLaws.{rows-short, rows-written, rows-left}
 use borrow.Author.Needs.{needs}
 use Rattle.tree_build.proofs.build.rows.Statement.{statement}
 use Rattle.tree_build.proofs.build.rows.Tie as tie

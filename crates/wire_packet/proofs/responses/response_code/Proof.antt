@@ -3,7 +3,7 @@ use mathlib.Core.Path.{ap, _∙_}
 use native.Mathlib.Omega.{arith}
 use denote.Ref.{now}
 use Rattle.laws.proofs.First.{says-0, says-more, is-last}
-use Rattle.refusal.specs.Refusal.{moved, refusals}
+use Rattle.refusal.specs.Refusal.{shifted, refusals}
 use Rattle.wire_packet.specs.Response.{responseMessageCode, responseCode}
 use Rattle.wire_packet.specs.Packet.{bodyStart}
 use Rattle.wire_packet.proofs.PlacesIn.{response-in, body-fits}
@@ -19,8 +19,8 @@ returns c = says-more refusals _ (c .before .before .packet-code .ensures) (c .i
 body-of-requires : tie.Need-body-of-requires
 body-of-requires c κs = search (packet-long, needs)
 
-moved-requires : tie.Need-moved-requires
-moved-requires c κs =
+shifted-requires : tie.Need-shifted-requires
+shifted-requires c κs =
     let p = now (c .before .before .before .before .before .before .args .p) in
     let checked = c .before .before in
     let long = packet-long p _ (checked .before .before .packet-code .ensures) (checked .if1 .left) in
@@ -33,8 +33,8 @@ returns-2 c =
     let r = c .before in
     says-0 refusals _ _ (r .before .before .before .before .packet-code .ensures) (r .before .before .if1 .left)
     (is-last refusals
-    (c .moved .ensures
-    ∙ ap (moved bodyStart) (r .response-message-code .ensures ∙ ap responseMessageCode (r .before .body-of .ensures))))
+    (c .shifted .ensures
+    ∙ ap (shifted bodyStart) (r .response-message-code .ensures ∙ ap responseMessageCode (r .before .body-of .ensures))))
 
 pub response-code-spec : {M : Type 1} → statement M
 response-code-spec =
@@ -44,5 +44,5 @@ response-code-spec =
     returns
     body-of-requires
     (λ c κs. search needs)
-    moved-requires
+    shifted-requires
     returns-2)

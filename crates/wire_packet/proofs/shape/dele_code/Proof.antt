@@ -7,7 +7,7 @@ use mathlib.Core.List.{List}
 use Rattle.laws.specs.Upto.{upto}
 use Rattle.wire_message.specs.Numbered.{ruleIn, rowsIn}
 use Rattle.wire_message.specs.Rules.{messageCode}
-use Rattle.refusal.specs.Refusal.{moved}
+use Rattle.refusal.specs.Refusal.{shifted}
 use Rattle.refusal.specs.declared.Refusal.{Refusal}
 use Rattle.wire_packet.specs.Response.{dele}
 use Rattle.wire_packet.proofs.PlacesIn.{dele-fits}
@@ -23,8 +23,8 @@ unfolding upto ruleIn rowsIn
 told c =
     c .message-code .ensures ∙ ap (λ (s : List ℕ). messageCode s deleTable) (c .before .before .dele-of .ensures)
 
-moved-requires : tie.Need-moved-requires
-moved-requires c κs =
+shifted-requires : tie.Need-shifted-requires
+shifted-requires c κs =
     let start = c .before .before .before .before .before in
     omega (
       arith,
@@ -34,8 +34,8 @@ moved-requires c κs =
 
 returns : tie.Need-returns
 returns c =
-    c .moved .ensures
-    ∙ ap₂ (λ (s : ℕ) (r : Refusal). moved s r) (c .before .dele-start .ensures) (told (c .before .before))
+    c .shifted .ensures
+    ∙ ap₂ (λ (s : ℕ) (r : Refusal). shifted s r) (c .before .dele-start .ensures) (told (c .before .before))
 
 pub dele-code-spec : {M : Type 1} → statement M
 dele-code-spec =
@@ -45,5 +45,5 @@ dele-code-spec =
     (λ c. search needs)
     (λ c κs. search needs)
     (λ c κs. search needs)
-    moved-requires
+    shifted-requires
     returns)

@@ -5,7 +5,7 @@ use mathlib.Core.List.{List, [], _∷_}
 use Rattle.laws.specs.Flat.{flat}
 use Rattle.laws.specs.Upto.{upto}
 use Rattle.pile.specs.Pile.{recordsIn, recordAt, keyIn, responsePacket}
-use Rattle.check_signatures.specs.Answers.{delegated, responded}
+use Rattle.check_signatures.specs.SignatureAnswers.{delegated, responded}
 
 -- of record k, by the key that stands in it
 abbrev pub delegatedAt : List ℕ → ℕ → Bool

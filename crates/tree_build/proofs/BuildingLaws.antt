@@ -15,7 +15,7 @@ use Rattle.refusal.specs.declared.Refusal.{Refusal}
 use Rattle.tree.specs.Tree.{nodesIn, depthOf, rootOf, pathOf}
 use Rattle.tree_build.specs.AllRows.{levels, nodesOf, pathIn}
 use Rattle.tree_build.specs.Leaves.{countOf, heldOf}
-use Rattle.tree_build.specs.Answers.{rootedOf, PlacesLeaf, pathBytes, fromBytes, LaysRows, rowsBytes}
+use Rattle.tree_build.specs.Building.{rootedOf, PlacesLeaf, pathBytes, fromBytes, LaysRows, rowsBytes}
 use Rattle.tree_build.specs.declared.Placed.{Placed}
 use Rattle.tree_build.specs.declared.Placed.the-variants as placed
 use Rattle.tree_build.specs.declared.Laid.{Laid}
