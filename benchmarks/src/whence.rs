@@ -55,27 +55,9 @@ const GROUPS: [(&str, &[&str]); 6] = [
     ),
     (
         "piles",
-        &[
-            "pile",
-            "pile_runs",
-            "pile_report",
-            "pile_tally",
-            "pile_signed",
-            "walk",
-            "walk_signed",
-        ],
+        &["pile", "pile_runs", "pile_report", "pile_tally", "pile_signed", "walk", "walk_signed"],
     ),
-    (
-        "JSON",
-        &[
-            "base64",
-            "json",
-            "json_base64",
-            "report_read",
-            "report_write",
-            "report_text",
-        ],
-    ),
+    ("JSON", &["base64", "json", "json_base64", "report_read", "report_write", "report_text"]),
 ];
 
 const REST: &str = "bytes, the boundary, copying";

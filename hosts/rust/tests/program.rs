@@ -313,8 +313,8 @@ fn what_follows_two_dashes_are_files() {
 #[test]
 fn a_pipe_is_read_once() {
     let room = Room::new("pipe");
-    let pile =
-        fs::File::open(format!("{ROOT}/crates/trawl_alone/data/appendix.pile")).expect("it is kept");
+    let pile = fs::File::open(format!("{ROOT}/crates/trawl_alone/data/appendix.pile"))
+        .expect("it is kept");
     let mut cat = Command::new("cat").stdin(pile).stdout(Stdio::piped()).spawn().expect("cat runs");
     let mut command = room.command(&["/dev/stdin"]);
     let ran = command.stdin(cat.stdout.take().expect("it is piped")).output().expect("it runs");
