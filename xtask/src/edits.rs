@@ -28,7 +28,7 @@ fn misfits(tree: &Tree, edit: &Edit) -> Vec<String> {
             replaced += 1;
             let times = tree.read(&file).map_or(0, |text| text.matches(old).count());
             if times != 1 {
-                let what = format!("stands {times} times in {file:?} and not once: {old}");
+                let what = format!("stands {times} times in {file}, and not once: {old}");
                 problems.push(at(&edit.file, number, &what));
             }
         }
@@ -61,8 +61,8 @@ mod tests {
         let tree = right();
         tree.put("crates/a/src/lib.rt", "nothing\n");
         let due = [
-            "crates/a/must-fail/one.edit:3: stands 0 times in \"crates/a/src/lib.rt\" and not once: x + 1",
-            "crates/a/must-fail/one.edit:5: stands 0 times in \"crates/a/src/lib.rt\" and not once: y",
+            "crates/a/must-fail/one.edit:3: stands 0 times in crates/a/src/lib.rt, and not once: x + 1",
+            "crates/a/must-fail/one.edit:5: stands 0 times in crates/a/src/lib.rt, and not once: y",
         ];
         assert_eq!(found(check(&tree.tree(), &[])), due);
     }

@@ -68,7 +68,7 @@ fn version(tree: &Tree) -> Checked<String> {
     if numbers.len() == 3 && numbers.iter().all(|one| is_all(one, |c| c.is_ascii_digit())) {
         return Ok(version.into());
     }
-    Err(Wrong::one(at("VERSION", 1, &format!("holds {version:?}, and that is not three numbers"))))
+    Err(Wrong::one(at("VERSION", 1, &format!("holds '{version}', and that is not three numbers"))))
 }
 
 impl Place {
@@ -110,7 +110,8 @@ impl Place {
             [(number, start, end)] => {
                 let line = lines[number - 1];
                 let whole = matches!(line[end..].chars().next(), None | Some('"'));
-                let what = format!("has {:?}, and by VERSION it should have {due}", &line[start..]);
+                let said = line[start..].split('"').next().unwrap_or_default();
+                let what = format!("has '{said}', and by VERSION it should have {due}");
                 (&line[start..end] != due || !whole).then(|| at(self.file, number, &what))
             }
             [] => Some(format!("{}: has no version behind {:?}", self.file, self.before)),
