@@ -34,67 +34,37 @@ struct Check {
     run: fn(&Tree, &[&str]) -> Verdict,
 }
 
+const fn check(
+    name: &'static str,
+    words: &'static str,
+    about: &'static str,
+    run: fn(&Tree, &[&str]) -> Verdict,
+) -> Check {
+    Check { name, words, about, run }
+}
+
+#[rustfmt::skip] // a table
 const CHECKS: [Check; 10] = [
-    Check {
-        name: "statements",
-        words: "",
-        about: "docs/STATEMENTS.md has each wrong program and each theorem of uniqueness",
-        run: statements::check,
-    },
-    Check {
-        name: "codes",
-        words: "[--write]",
-        about: "the header and the Rust host have the table of refusal codes",
-        run: codes::check,
-    },
-    Check {
-        name: "edits",
-        words: "",
-        about: "the wrong programs fit the files that they change",
-        run: edits::check,
-    },
-    Check {
-        name: "versions",
-        words: "[--write]",
-        about: "the version is VERSION's wherever it stands",
-        run: versions::check,
-    },
-    Check {
-        name: "links",
-        words: "[FOLDER]",
-        about: "relative links of the documents, or of all below FOLDER, lead somewhere",
-        run: links::check,
-    },
-    Check {
-        name: "rules",
-        words: "",
-        about: "docs/RULES.md has what is cited of the customer's papers",
-        run: rules::check,
-    },
-    Check {
-        name: "refusals",
-        words: "[--write] SAID",
-        about: "the wrong programs are refused as tools/refusals.txt has it; SAID is what rt said",
-        run: refusals::check,
-    },
-    Check {
-        name: "assumptions",
-        words: "",
-        about: "rt's logs in target/log have no library that assumes anything",
-        run: assumptions::check,
-    },
-    Check {
-        name: "counts",
-        words: "FILE...",
-        about: "README's table of comparisons has what the tests counted; they said it in FILEs",
-        run: counts::check,
-    },
-    Check {
-        name: "poke",
-        words: "FILE OFFSET BYTE",
-        about: "puts another byte into a file",
-        run: poke::check,
-    },
+    check("statements", "",
+        "docs/STATEMENTS.md has each wrong program and each theorem of uniqueness", statements::check),
+    check("codes", "[--write]",
+        "the header and the Rust host have the table of refusal codes", codes::check),
+    check("edits", "",
+        "the wrong programs fit the files that they change", edits::check),
+    check("versions", "[--write]",
+        "the version is VERSION's wherever it stands", versions::check),
+    check("links", "[FOLDER]",
+        "relative links of the documents, or of all below FOLDER, lead somewhere", links::check),
+    check("rules", "",
+        "docs/RULES.md has what is cited of the customer's papers", rules::check),
+    check("refusals", "[--write] SAID",
+        "the wrong programs are refused as tools/refusals.txt has it; SAID is what rt said", refusals::check),
+    check("assumptions", "",
+        "rt's logs in target/log have no library that assumes anything", assumptions::check),
+    check("counts", "FILE...",
+        "README's table of comparisons has what the tests counted; they said it in FILEs", counts::check),
+    check("poke", "FILE OFFSET BYTE",
+        "puts another byte into a file", poke::check),
 ];
 
 fn usage() -> String {
