@@ -18,20 +18,24 @@ pub enum Kind {
 }
 
 /// Words of an error, and what they show. The first that is found decides.
-const SHOWN: [(&str, Kind); 23] = [
-    (" has no `Need-", Kind::Unfit),
+const SHOWN: [(&str, Kind); 27] = [
+    ("` has no `", Kind::Unfit),
+    ("` has no member", Kind::Unfit),
+    (" has no field ", Kind::Unfit),
+    ("no field `", Kind::Unfit),
+    ("` is not a field", Kind::Unfit),
+    ("exports no ", Kind::Unfit),
     ("is not in scope", Kind::Unfit),
     ("was not admitted", Kind::Unfit),
     ("binders, but its type has room for", Kind::Unfit),
-    ("which is not a function or extension", Kind::Unfit),
-    (" has no field ", Kind::Unfit),
-    ("is not a field of", Kind::Unfit),
+    ("not a function type", Kind::Unfit),
+    ("not a function or extension", Kind::Unfit),
     ("is not a record", Kind::Unfit),
     ("expected type `tie.Need-", Kind::Unfit),
-    ("cannot be a name in antt", Kind::Unfit),
-    ("no proof: expected `", Kind::Unfit),
     (" was spent", Kind::Bound),
     (" met a bound", Kind::Bound),
+    ("stopped at the step limit", Kind::Bound),
+    ("a larger step limit", Kind::Bound),
     ("All of that holds, and the goal fails, at", Kind::False),
     ("computed as far as they go, the two ", Kind::False),
     ("as printed, the two ", Kind::False),
@@ -63,8 +67,12 @@ impl Kind {
         Kind::ALL.into_iter().find(|kind| kind.word() == word)
     }
 
-    /// The kind of an error, all lines of it.
+    /// The kind of an error, all lines of it. One that is about no fact is about the text, as where
+    /// the prover cannot read it.
     pub fn of(error: &str) -> Kind {
+        if error.contains(": error: ") && fact(error).is_empty() {
+            return Kind::Unfit;
+        }
         let shown = SHOWN.iter().find(|(words, _)| error.contains(words));
         let kind = shown.map_or(Kind::Other, |(_, kind)| *kind);
         let of_callee = matches!(kind, Kind::False | Kind::Unsolved) && is_requires(fact(error));

@@ -135,6 +135,8 @@ fn a_search_that_ends_is_told_from_one_that_meets_a_bound() {
     assert_eq!(kind_of("returns", words), Kind::Unsolved);
     let words = "`search`: no proof of `x`\n  was found: its count of 1000 was spent";
     assert_eq!(kind_of("returns", words), Kind::Bound);
+    let words = "stopped at the step limit (1000 steps)";
+    assert_eq!(kind_of("returns", words), Kind::Bound);
     let words = "`cc` met a bound of its own before the equations had joined `a`";
     assert_eq!(kind_of("returns", words), Kind::Bound);
 }
@@ -150,11 +152,15 @@ fn what_a_callee_requires_is_a_kind_of_its_own() {
 #[test]
 fn what_does_not_fit_is_unfit_and_what_is_new_is_other() {
     for words in [
+        "`tie` has no `Need-returns-3`",
+        "`c .before` has no field named `turn16`",
         "this λ has 2 binders, but its type has room for only 1: at `κs` the type is `x`",
         "`close` was not admitted (it has holes or undetermined implicits, or was rejected)",
         "`miss` is not in scope: not a local variable, nor a definition admitted earlier",
     ] {
         assert_eq!(kind_of("returns", words), Kind::Unfit, "{words}");
     }
+    let unread = "/x/P.antt:1:2: error: expected a term, found `)`";
+    assert_eq!(Kind::of(unread), Kind::Unfit);
     assert_eq!(kind_of("returns", "words that nobody has read yet"), Kind::Other);
 }
