@@ -136,7 +136,7 @@ impl Place {
 /// Where a line goes on behind this beginning.
 fn behind(line: &str, before: &str) -> Option<usize> {
     let Some((first, last)) = before.split_once('*') else {
-        return line.starts_with(before).then(|| before.len());
+        return line.starts_with(before).then_some(before.len());
     };
     let rest = line.strip_prefix(first)?;
     let skipped = rest.find('"')?;

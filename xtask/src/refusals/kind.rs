@@ -15,6 +15,8 @@ pub enum Kind {
     Unfit,
     /// None of these.
     Other,
+    /// In the list alone: of what kind it is nobody has read yet.
+    Unread,
 }
 
 /// Words of an error, and what they show. The first that is found decides.
@@ -49,8 +51,15 @@ const SHOWN: [(&str, Kind); 27] = [
 ];
 
 impl Kind {
-    pub const ALL: [Kind; 6] =
-        [Kind::False, Kind::Unsolved, Kind::Requires, Kind::Bound, Kind::Unfit, Kind::Other];
+    pub const ALL: [Kind; 7] = [
+        Kind::False,
+        Kind::Unsolved,
+        Kind::Requires,
+        Kind::Bound,
+        Kind::Unfit,
+        Kind::Other,
+        Kind::Unread,
+    ];
 
     pub fn word(self) -> &'static str {
         match self {
@@ -60,6 +69,7 @@ impl Kind {
             Kind::Bound => "bound",
             Kind::Unfit => "unfit",
             Kind::Other => "other",
+            Kind::Unread => "unread",
         }
     }
 

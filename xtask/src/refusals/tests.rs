@@ -74,6 +74,14 @@ fn another_kind_is_found_with_the_place_of_its_error() {
 }
 
 #[test]
+fn a_kind_that_nobody_has_read_is_found() {
+    let scratch = right();
+    scratch.alter(LIST, "P.antt false", "P.antt unread");
+    let problems = found(checked(&scratch, &[]));
+    assert!(problems[0].contains("an error of kind false now, and not unread"), "{problems:?}");
+}
+
+#[test]
 fn one_that_is_merely_unfit_is_an_error_though_the_list_has_it_so() {
     let scratch = right();
     let unfit = "/x/P.antt:7:3: error: `returns-3`: `tie` has no `Need-returns-3`\n";
