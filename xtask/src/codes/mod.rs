@@ -143,6 +143,9 @@ mod tests {
             ("/* codes: begin */", "/* codes: begin */\n/* codes: begin */"),
             ("a\n", "/* codes: end */\n"),
         ];
+        let turned = right();
+        turned.put(PLACES[0].file, "/* codes: end */\n/* codes: begin */\n");
+        assert!(found(check(&turned.tree(), &[]))[0].contains("has not one line"));
         for (old, new) in other {
             let scratch = right();
             scratch.alter(PLACES[0].file, old, new);
