@@ -122,6 +122,11 @@ patiently() { # WHAT COMMAND...
     done
 }
 
+# The program that holds documents and tables to the tree, as `cargo xtask` runs it for people.
+xtask() { # CHECK WORD...
+    cargo run --offline --quiet --release -p xtask -- "$@"
+}
+
 # Has cargo make a program. What stood in its place goes first: should cargo put it elsewhere all
 # the same, nobody runs or ships an old one.
 cargo_makes() { # PROGRAM WORDS-OF-CARGO...

@@ -74,7 +74,7 @@ offset is wrong, at byte 12" "$key" "$nonce" "$room/damaged"
 # That response with a 0 in this place.
 damaged() { # OFFSET
     cp build/console/right build/console/damaged &&
-        cargo xtask poke build/console/damaged "$1" 0 >/dev/null
+        xtask poke build/console/damaged "$1" 0 >/dev/null
 }
 
 # The draft's own signatures, those of a server that answers a batch, and responses that were forged
