@@ -25,26 +25,57 @@ const CALLS: [&str; 5] = ["pile", "signed pile", "JSON read", "JSON written", "b
 /// Crates that belong together, in the order of crates.txt. What is in none of them is a row of its
 /// own.
 const GROUPS: [(&str, &[&str]); 6] = [
-    ("SHA-512 (`block`, `sha512`, `hash`)", &["block", "sha512", "hash"]),
-    ("trees (`tree`, `batch`)", &["tree", "batch"]),
+    ("SHA-512 (`sha512_block`, `sha512`, `hash`)", &["sha512_block", "sha512", "hash"]),
+    ("trees (`tree`, `tree_build`)", &["tree", "tree_build"]),
     (
         "Ed25519",
         &[
             "digits",
-            "field",
-            "residue",
-            "power",
-            "curve",
-            "doubles",
-            "basepoint",
-            "scalar",
-            "decode",
+            "ed25519_field",
+            "ed25519_residue",
+            "ed25519_power",
+            "ed25519_curve",
+            "ed25519_doubles",
+            "ed25519_base",
+            "ed25519_scalar",
+            "ed25519_point",
             "ed25519",
         ],
     ),
-    ("packets", &["message", "wire", "writer", "seals", "respond", "verdict"]),
-    ("piles", &["pile", "runs", "report", "tally", "signed", "walk", "hearing"]),
-    ("JSON", &["base64", "json", "quoted", "intake", "publish", "forward"]),
+    (
+        "packets",
+        &[
+            "wire_message",
+            "wire_packet",
+            "wire_request",
+            "server_parts",
+            "server_response",
+            "check_response",
+        ],
+    ),
+    (
+        "piles",
+        &[
+            "pile",
+            "pile_runs",
+            "pile_report",
+            "pile_tally",
+            "pile_signed",
+            "walk",
+            "walk_signed",
+        ],
+    ),
+    (
+        "JSON",
+        &[
+            "base64",
+            "json",
+            "json_base64",
+            "report_read",
+            "report_write",
+            "report_text",
+        ],
+    ),
 ];
 
 const REST: &str = "bytes, the boundary, copying";

@@ -1,4 +1,4 @@
--- What is encoded is decoded again: decodeOf (encodeOf x) is x, for every list of bytes x.
+-- What is encoded is decoded again: decode64 (encode64 x) is x, for every list of bytes x.
 use Prim.Native.Nat.{ℕ, zero, suc, _+_, _*_, _-_, _/_, _%_, _≤_, _<_}
 use mathlib.Core.Path.{_≡_, refl, sym, _∙_, ap, ap₂}
 use mathlib.Core.List.{List, [], _∷_, _++_}
@@ -11,9 +11,9 @@ use Rattle.laws.specs.Pick.{pick}
 use Rattle.base64.specs.declared.Group.{Group}
 use Rattle.base64.specs.declared.Group.the-variants.{Three, Two, One, Bad}
 use Rattle.base64.specs.Alphabet.{letterOf, sextetOf}
-use Rattle.base64.specs.Encode.{encodeOne, encodeTwo, encodeThree, encodeOf}
-use Rattle.base64.specs.Decode.{Decoded, bytes, none, onto, joined, high, middle, low, oneOf, twoOf, threeOf}
-use Rattle.base64.specs.Decode.{groupOf, decodeOf}
+use Rattle.base64.specs.Encode.{encodeOne, encodeTwo, encodeThree, encode64}
+use Rattle.base64.specs.Decode.{Decoded, bytes, none, onto, withGroup, high, middle, low, oneOf, twoOf, threeOf}
+use Rattle.base64.specs.Decode.{groupOf, decode64}
 use Rattle.base64.proofs.Tables.{sextet-letter, letter-no-pad}
 
 -- the three kinds of a group, with letters for its numbers
@@ -51,8 +51,8 @@ unfolding groupOf oneOf pick
 group-one p q hp hq h =
     simp (sextet-letter p hp, sextet-letter q hq, ne-eqb p 64 (λ e. omega arith), ne-eqb q 64 (λ e. omega arith), h)
 
-pub decode-encode : (x : List ℕ) → Bytes x → decodeOf (encodeOf x) ≡ bytes x
-unfolding decodeOf encodeOf
+pub decode-encode : (x : List ℕ) → Bytes x → decode64 (encode64 x) ≡ bytes x
+unfolding decode64 encode64
 decode-encode [] h = refl
 decode-encode (a ∷ []) h =
     let ha : a < 256 = h 0 in

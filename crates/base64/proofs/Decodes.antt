@@ -1,4 +1,4 @@
--- Laws about `decodeOf` at a group.
+-- Laws about `decode64` at a group.
 use Prim.Native.Nat.{ℕ}
 use mathlib.Core.Path.{_≡_, refl, sym, _∙_, ap}
 use mathlib.Core.Bool.{Bool, true, false, true≢false}
@@ -10,7 +10,7 @@ use Rattle.base64.specs.Alphabet.{sextetOf, isLetter, pad}
 use Rattle.base64.proofs.Tables.{letter-number}
 use Rattle.base64.specs.declared.Group.{Group}
 use Rattle.base64.specs.declared.Group.the-variants.{Three, Two, One, Bad}
-use Rattle.base64.specs.Decode.{Decoded, bytes, none, onto, joined, high, middle, low, threeOf, groupOf, decodeOf}
+use Rattle.base64.specs.Decode.{Decoded, bytes, none, onto, withGroup, high, middle, low, threeOf, groupOf, decode64}
 
 no-pad : (d : ℕ) → isLetter d ≡ true → eqb d pad ≡ false
 unfolding isLetter sextetOf pick
@@ -28,6 +28,6 @@ group-letters a b c d ha hb hc hd e f g h =
     rw (e, f, g, h) (simp (letter-number a ha, letter-number b hb, letter-number c hc, letter-number d hd, no-pad d hd))
 
 module _ {g : Group} (a b c d : ℕ) (l : List ℕ) (e : g ≡ groupOf a b c d) where
-  pub decode-group : decodeOf (a ∷ b ∷ c ∷ d ∷ l) ≡ joined g l (decodeOf l)
-  unfolding decodeOf
+  pub decode-group : decode64 (a ∷ b ∷ c ∷ d ∷ l) ≡ withGroup g l (decode64 l)
+  unfolding decode64
   decode-group = rw (sym e) refl

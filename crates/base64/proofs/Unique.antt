@@ -10,9 +10,9 @@ use Rattle.laws.specs.Pick.{pick}
 use Rattle.base64.specs.declared.Group.{Group}
 use Rattle.base64.specs.declared.Group.the-variants.{Three, Two, One, Bad}
 use Rattle.base64.specs.Alphabet.{letterOf, sextetOf}
-use Rattle.base64.specs.Encode.{encodeOne, encodeTwo, encodeThree, encodeOf}
-use Rattle.base64.specs.Decode.{Decoded, bytes, none, joined, high, middle, low, oneOf, twoOf, threeOf, groupOf}
-use Rattle.base64.specs.Decode.{decodeOf}
+use Rattle.base64.specs.Encode.{encodeOne, encodeTwo, encodeThree, encode64}
+use Rattle.base64.specs.Decode.{Decoded, bytes, none, withGroup, high, middle, low, oneOf, twoOf, threeOf, groupOf}
+use Rattle.base64.specs.Decode.{decode64}
 use Rattle.base64.proofs.Tables.{back-letter}
 
 small : (c : ℕ) → eqb (sextetOf c) 64 ≡ false → (letterOf (sextetOf c) ≡ c) × (sextetOf c < 64)
@@ -76,12 +76,12 @@ spelt a b c d =
     (r .0) (t .0))))))
 
 abbrev Encodes : List ℕ → Decoded → Type 0
-Encodes s (bytes x) = encodeOf x ≡ s
+Encodes s (bytes x) = encode64 x ≡ s
 Encodes s none = T true
 
 join : (a b c d : ℕ) (g : Group) (l : List ℕ) (m : Decoded) → Spelt a b c d g → Encodes l m
-    → Encodes (a ∷ b ∷ c ∷ d ∷ l) (joined g l m)
-unfolding encodeOf
+    → Encodes (a ∷ b ∷ c ∷ d ∷ l) (withGroup g l m)
+unfolding encode64
 join a b c d (Three x y z) l (bytes m) h i = ap₂ (λ u v. u ++ v) h i
 join a b c d (Three x y z) l none h i = tt
 join a b c d (Two x y) [] m h i = h
@@ -90,20 +90,20 @@ join a b c d (One x) [] m h i = h
 join a b c d (One x) (k ∷ l) m h i = tt
 join a b c d Bad l m h i = tt
 
-encodes : (s : List ℕ) → Encodes s (decodeOf s)
-unfolding decodeOf encodeOf
+encodes : (s : List ℕ) → Encodes s (decode64 s)
+unfolding decode64 encode64
 encodes [] = refl
 encodes (a ∷ []) = tt
 encodes (a ∷ b ∷ []) = tt
 encodes (a ∷ b ∷ c ∷ []) = tt
-encodes (a ∷ b ∷ c ∷ d ∷ xs) = join a b c d (groupOf a b c d) xs (decodeOf xs) (spelt a b c d) (encodes xs)
+encodes (a ∷ b ∷ c ∷ d ∷ xs) = join a b c d (groupOf a b c d) xs (decode64 xs) (spelt a b c d) (encodes xs)
 
 -- what decodes is the encoding of what it decodes to
-pub encode-decode : (s x : List ℕ) → decodeOf s ≡ bytes x → encodeOf x ≡ s
+pub encode-decode : (s x : List ℕ) → decode64 s ≡ bytes x → encode64 x ≡ s
 encode-decode s x e = rw e at (encodes s)
 
 -- a text decodes to one byte string at most
-pub one-string : (s x y : List ℕ) → decodeOf s ≡ bytes x → decodeOf s ≡ bytes y → x ≡ y
+pub one-string : (s x y : List ℕ) → decode64 s ≡ bytes x → decode64 s ≡ bytes y → x ≡ y
 one-string s x y e f = ap (λ (d : Decoded). plain d) (sym e ∙ f)
   where
     plain : Decoded → List ℕ
@@ -111,5 +111,5 @@ one-string s x y e f = ap (λ (d : Decoded). plain d) (sym e ∙ f)
     plain none = []
 
 -- and one text alone decodes to a byte string
-pub one-text : (s t x : List ℕ) → decodeOf s ≡ bytes x → decodeOf t ≡ bytes x → s ≡ t
+pub one-text : (s t x : List ℕ) → decode64 s ≡ bytes x → decode64 t ≡ bytes x → s ≡ t
 one-text s t x e f = sym (encode-decode s x e) ∙ encode-decode t x f

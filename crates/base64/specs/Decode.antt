@@ -49,17 +49,17 @@ onto xs (bytes ys) = bytes (xs ++ ys)
 onto xs none = none
 
 -- a group, and what follows it: after a pad nothing may
-abbrev pub joined : Group → List ℕ → Decoded → Decoded
-joined (Three x y z) after rest = onto (x ∷ y ∷ z ∷ []) rest
-joined (Two x y) [] rest = bytes (x ∷ y ∷ [])
-joined (Two x y) (a ∷ after) rest = none
-joined (One x) [] rest = bytes (x ∷ [])
-joined (One x) (a ∷ after) rest = none
-joined Bad after rest = none
+abbrev pub withGroup : Group → List ℕ → Decoded → Decoded
+withGroup (Three x y z) after rest = onto (x ∷ y ∷ z ∷ []) rest
+withGroup (Two x y) [] rest = bytes (x ∷ y ∷ [])
+withGroup (Two x y) (a ∷ after) rest = none
+withGroup (One x) [] rest = bytes (x ∷ [])
+withGroup (One x) (a ∷ after) rest = none
+withGroup Bad after rest = none
 
-unfoldable pub decodeOf : List ℕ → Decoded
-decodeOf [] = bytes []
-decodeOf (a ∷ []) = none
-decodeOf (a ∷ b ∷ []) = none
-decodeOf (a ∷ b ∷ c ∷ []) = none
-decodeOf (a ∷ b ∷ c ∷ d ∷ xs) = joined (groupOf a b c d) xs (decodeOf xs)
+unfoldable pub decode64 : List ℕ → Decoded
+decode64 [] = bytes []
+decode64 (a ∷ []) = none
+decode64 (a ∷ b ∷ []) = none
+decode64 (a ∷ b ∷ c ∷ []) = none
+decode64 (a ∷ b ∷ c ∷ d ∷ xs) = withGroup (groupOf a b c d) xs (decode64 xs)

@@ -15,8 +15,8 @@ abbrev pub encodeThree : ℕ → ℕ → ℕ → List ℕ
 encodeThree a b c =
     letterOf (a / 4) ∷ letterOf (a % 4 * 16 + b / 16) ∷ letterOf (b % 16 * 4 + c / 64) ∷ letterOf (c % 64) ∷ []
 
-unfoldable pub encodeOf : List ℕ → List ℕ
-encodeOf [] = []
-encodeOf (a ∷ []) = encodeOne a
-encodeOf (a ∷ b ∷ []) = encodeTwo a b
-encodeOf (a ∷ b ∷ c ∷ xs) = encodeThree a b c ++ encodeOf xs
+unfoldable pub encode64 : List ℕ → List ℕ
+encode64 [] = []
+encode64 (a ∷ []) = encodeOne a
+encode64 (a ∷ b ∷ []) = encodeTwo a b
+encode64 (a ∷ b ∷ c ∷ xs) = encodeThree a b c ++ encode64 xs

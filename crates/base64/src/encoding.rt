@@ -3,7 +3,7 @@ ghost use mathlib.Core.Path.{_≡_};
 ghost use Prim.Native.Nat.{_+_, _≤_};
 ghost use lib.ListN.{length};
 ghost use Rattle.laws.specs.Pasted.{pasted, fronted};
-ghost use Rattle.base64.specs.Encode.{encodeOne, encodeTwo, encodeThree, encodeOf};
+ghost use Rattle.base64.specs.Encode.{encodeOne, encodeTwo, encodeThree, encode64};
 use super::PAD;
 use super::alphabet::letter;
 use octets::put;
@@ -43,8 +43,8 @@ fn encode_one(a: u8, out: &mut [u8], at: usize)
 
 // The bytes in base64, at the front of out. It is a helper: its callers have tested that there is room.
 pub fn encode(s: &[u8], out: &mut [u8])
-    requires { ⌜ length (encodeOf (now s)) ≤ length (now out) ⌝ }
-    ensures { λ _. ⌜ now (out .exit) ≡ fronted (encodeOf (now (s .entry))) (now (out .entry)) ⌝ }
+    requires { ⌜ length (encode64 (now s)) ≤ length (now out) ⌝ }
+    ensures { λ _. ⌜ now (out .exit) ≡ fronted (encode64 (now (s .entry))) (now (out .entry)) ⌝ }
 {
     let mut k = 0;
     let mut at = 0;

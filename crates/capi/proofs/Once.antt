@@ -5,12 +5,12 @@ use mathlib.Core.List.{List}
 use lib.ListN.{length}
 use Rattle.laws.proofs.Once.{Settles}
 use Rattle.sha512.specs.declared.Running.{Running}
-use Rattle.tally.specs.declared.Tally.{Tally}
-use Rattle.tally.specs.declared.Tallied.{Tallied}
-use Rattle.batch.proofs.Answers.{places-once, lays-once}
-use Rattle.report.proofs.Says.{report-once}
-use Rattle.report.proofs.Runs.{takes-once}
-use Rattle.evidence.specs.Piling.{tbReported}
+use Rattle.pile_tally.specs.declared.Tally.{Tally}
+use Rattle.pile_tally.specs.declared.Tallied.{Tallied}
+use Rattle.tree_build.proofs.BuildingLaws.{places-once, lays-once}
+use Rattle.pile_report.proofs.Says.{report-once}
+use Rattle.pile_report.proofs.Runs.{takes-once}
+use Rattle.c_evidence.specs.Piling.{tbReported}
 use Rattle.capi.proofs.hashing.tb_sha512.Kinds as tb-sha512-kinds
 use Rattle.capi.proofs.hashing.tb_sha512.Reads as tb-sha512-reads
 use Rattle.capi.proofs.hashing.tb_leaf.Kinds as tb-leaf-kinds

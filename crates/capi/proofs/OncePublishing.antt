@@ -4,11 +4,11 @@ use Prim.Native.Nat.{ℕ}
 use mathlib.Core.Path.{sym, ap, _∙_}
 use mathlib.Core.List.{List}
 use Rattle.laws.proofs.Once.{Settles}
-use Rattle.publish.proofs.Piles.{publishes-once}
-use Rattle.intake.specs.Entry.{entriesOf}
-use Rattle.intake.specs.Read.{readOf}
-use Rattle.forward.specs.Forwarded.{pileOf}
-use Rattle.forward.proofs.Once.{forwards-once}
+use Rattle.report_write.proofs.Piles.{publishes-once}
+use Rattle.report_read.specs.Entry.{entriesOf}
+use Rattle.report_read.specs.Read.{readOf}
+use Rattle.report_text.specs.Forwarded.{pileOf}
+use Rattle.report_text.proofs.Once.{forwards-once}
 use Rattle.capi.proofs.publishing.tb_cut_text.Kinds as tb-cut-text-kinds
 use Rattle.capi.proofs.publishing.tb_cut_text.Reads as tb-cut-text-reads
 use Rattle.capi.proofs.publishing.tb_cut_signed_text.Kinds as tb-cut-signed-text-kinds

@@ -4,9 +4,9 @@ use Prim.Native.Nat.{ℕ}
 use mathlib.Core.Path.{refl, sym, ap, _∙_}
 use mathlib.Core.List.{List}
 use Rattle.laws.proofs.Once.{Settles}
-use Rattle.report.proofs.Says.{report-once}
-use Rattle.report.proofs.Runs.{takes-once}
-use Rattle.evidence.specs.Piling.{tbReported}
+use Rattle.pile_report.proofs.Says.{report-once}
+use Rattle.pile_report.proofs.Runs.{takes-once}
+use Rattle.c_evidence.specs.Piling.{tbReported}
 use Rattle.capi.proofs.signing.tb_answers.Kinds as tb-answers-kinds
 use Rattle.capi.proofs.signing.tb_answers.Reads as tb-answers-reads
 use Rattle.capi.proofs.signing.tb_check_signed.Kinds as tb-check-signed-kinds

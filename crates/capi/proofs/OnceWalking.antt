@@ -3,13 +3,13 @@ use mathlib.Core.Path.{_≡_, sym, ap, ap₂, _∙_}
 use mathlib.Core.List.{List}
 use Prim.Native.Nat.{ℕ}
 use Rattle.laws.proofs.Once.{Settles}
-use Rattle.evidence.specs.Walking.{tbTook}
+use Rattle.c_evidence.specs.Walking.{tbTook}
 use Rattle.walk.specs.Taking.{walkAfter, pileAfter}
 use Rattle.walk.specs.declared.Walk.{Walk}
 use Rattle.walk.specs.declared.Heard.{Heard}
 use Rattle.walk.specs.declared.Said.{Said}
 use Rattle.walk.proofs.Once.{said-once}
-use Rattle.evidence.specs.declared.TbTook.{TbTook}
+use Rattle.c_evidence.specs.declared.TbTook.{TbTook}
 use Rattle.capi.specs.Walking.{Took}
 use Rattle.capi.proofs.walking.tb_walk_start_fields.Kinds as tb-walk-start-fields-kinds
 use Rattle.capi.proofs.walking.tb_walk_start_fields.Reads as tb-walk-start-fields-reads

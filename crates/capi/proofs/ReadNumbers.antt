@@ -3,11 +3,11 @@ use mathlib.Core.Path.{_≡_, refl, sym, ap, _∙_}
 use mathlib.Core.List.{List}
 use Prim.Native.Nat.{ℕ}
 use Rattle.laws.specs.Written.{written}
-use Rattle.intake.specs.Read.{readNumber}
-use Rattle.intake.specs.declared.Read.{Read}
-use Rattle.intake.specs.declared.Read.the-variants.{Records, NoReport, Amount, Short}
-use Rattle.evidence.specs.Publishing.{tbRecords}
-use Rattle.evidence.specs.declared.TbRecords.{TbRecords}
+use Rattle.report_read.specs.Read.{readNumber}
+use Rattle.report_read.specs.declared.Read.{Read}
+use Rattle.report_read.specs.declared.Read.the-variants.{Records, NoReport, Amount, Short}
+use Rattle.c_evidence.specs.Publishing.{tbRecords}
+use Rattle.c_evidence.specs.declared.TbRecords.{TbRecords}
 
 same-number : (r : Read) → tbRecords r .code ≡ readNumber r
 same-number (Records n) = refl

@@ -3,12 +3,12 @@ use Prim.Native.Nat.{ℕ}
 use mathlib.Core.Path.{_≡_, refl, ap}
 use mathlib.Core.List.{List}
 use lib.ListN.{length}
-use Rattle.batch.specs.Answers.{LaysRows, rowsBytes}
-use Rattle.batch.specs.Leaves.{countOf, rowsLength}
-use Rattle.batch.specs.declared.Laid.{Laid}
-use Rattle.batch.specs.declared.Laid.the-variants as laid
-use Rattle.batch.proofs.Sizes.{rows-size}
-use Rattle.told.specs.Building.{tbLaid}
+use Rattle.tree_build.specs.Building.{LaysRows, rowsBytes}
+use Rattle.tree_build.specs.Leaves.{countOf, rowsLength}
+use Rattle.tree_build.specs.declared.Laid.{Laid}
+use Rattle.tree_build.specs.declared.Laid.the-variants as laid
+use Rattle.tree_build.proofs.Sizes.{rows-size}
+use Rattle.c_packets.specs.Building.{tbLaid}
 
 pub told-length : (s : List ℕ) (room : ℕ) (x : Laid) → LaysRows (countOf (length s)) room x
     → tbLaid x (rowsLength (length s)) ≡ tbLaid x (length (rowsBytes s))

@@ -4,12 +4,12 @@ use mathlib.Core.Bool.{Bool}
 use mathlib.Core.Path.{_≡_, refl, subst, ap, ap₂, _∙_}
 use mathlib.Core.List.{List}
 use lib.Dec.{eqb}
-use Rattle.evidence.specs.Walking.{tbTook}
-use Rattle.evidence.specs.declared.TbTook.{TbTook}
+use Rattle.c_evidence.specs.Walking.{tbTook}
+use Rattle.c_evidence.specs.declared.TbTook.{TbTook}
 use Rattle.walk.specs.Taking.{movedOn, walkAfter}
 use Rattle.walk.specs.declared.Walk.{Walk}
 use Rattle.walk.specs.declared.Heard.{Heard}
-use Rattle.walk.specs.declared.Moved.{Moved}
+use Rattle.walk.specs.declared.Stepped.{Stepped}
 use Rattle.walk.specs.declared.Said.{Said}
 use Rattle.walk.specs.declared.Said.the-variants.{Next, Ended, Refused}
 use Rattle.walk.proofs.Taken as taken
@@ -36,7 +36,7 @@ changed-after (Next v) w h x = refl
 changed-after (Ended v r) w h x = refl
 changed-after (Refused why) w h x = refl
 
-pub took-of : (w : Walk) {g : Heard} (h : Heard) (x pile : List ℕ) {after : List ℕ} (m : Moved) {r : TbTook} → g ≡ h
+pub took-of : (w : Walk) {g : Heard} (h : Heard) (x pile : List ℕ) {after : List ℕ} (m : Stepped) {r : TbTook} → g ≡ h
     → taken.Took w g x pile (m .said) (m .walk) after
     → r ≡ tbTook (m .said) → Took w h x pile r (changed w (m .walk)) after
 took-of w h x pile {after} m e t f =
@@ -45,6 +45,6 @@ took-of w h x pile {after} m e t f =
       answer = m .said;
       right = u .1 .0;
       same = f;
-      moved = ap (changed w) (u .1 .1 .0) ∙ changed-after (m .said) w h x;
+      stepped = ap (changed w) (u .1 .1 .0) ∙ changed-after (m .said) w h x;
       left = u .1 .1 .1;
     }

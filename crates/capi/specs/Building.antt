@@ -4,12 +4,12 @@ use mathlib.Core.Path.{_≡_}
 use mathlib.Core.List.{List}
 use lib.ListN.{length}
 use Rattle.laws.specs.Written.{written}
-use Rattle.batch.specs.Answers.{placedNumber, PlacesLeaf, laidNumber, LaysRows}
-use Rattle.batch.specs.declared.Placed.{Placed}
-use Rattle.batch.specs.declared.Laid.{Laid}
-use Rattle.told.specs.Building.{tbPlaced, tbLaid}
-use Rattle.told.specs.declared.TbPlaced.{TbPlaced}
-use Rattle.told.specs.declared.TbLaid.{TbLaid}
+use Rattle.tree_build.specs.Building.{placedNumber, PlacesLeaf, laidNumber, LaysRows}
+use Rattle.tree_build.specs.declared.Placed.{Placed}
+use Rattle.tree_build.specs.declared.Laid.{Laid}
+use Rattle.c_packets.specs.Building.{tbPlaced, tbLaid}
+use Rattle.c_packets.specs.declared.TbPlaced.{TbPlaced}
+use Rattle.c_packets.specs.declared.TbLaid.{TbLaid}
 
 -- the struct tells the answer that is right of the leaf at a place of n leaves, for the buffer out, and the buffer
 -- holds afterwards what that same answer leaves in it, where bytes are the path

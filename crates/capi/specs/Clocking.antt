@@ -2,7 +2,7 @@
 use Prim.Native.Nat.{ℕ}
 use mathlib.Core.List.{List}
 use Rattle.clock.specs.declared.Clock.{Clock}
-use Rattle.spans.specs.declared.Kept.{Kept}
+use Rattle.clock_spans.specs.declared.Kept.{Kept}
 
 -- the state of these six
 abbrev pub clockOf : ℕ → List ℕ → List ℕ → List ℕ → List ℕ → List ℕ → Clock

@@ -4,13 +4,13 @@ use Prim.Native.Nat.{ℕ}
 use mathlib.Core.List.{List}
 use lib.ListN.{length}
 use Rattle.laws.specs.Written.{written}
-use Rattle.report.specs.Report.{Reports}
-use Rattle.report.specs.Taking.{Takes, takenNumber, takenBytes}
-use Rattle.report.specs.declared.Report.{Report}
-use Rattle.report.specs.declared.Taken.{Taken}
-use Rattle.evidence.specs.Piling.{tbReported, tbCut}
-use Rattle.evidence.specs.declared.TbReported.{TbReported}
-use Rattle.evidence.specs.declared.TbCut.{TbCut}
+use Rattle.pile_report.specs.Report.{Reports}
+use Rattle.pile_report.specs.Taking.{Takes, takenNumber, takenBytes}
+use Rattle.pile_report.specs.declared.Report.{Report}
+use Rattle.pile_report.specs.declared.Taken.{Taken}
+use Rattle.c_evidence.specs.Piling.{tbReported, tbCut}
+use Rattle.c_evidence.specs.declared.TbReported.{TbReported}
+use Rattle.c_evidence.specs.declared.TbCut.{TbCut}
 
 -- the struct tells the answer that is right of the pile
 pub record Checks (pile answers : List ℕ) (told : TbReported) : Type 0 where

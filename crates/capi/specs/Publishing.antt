@@ -5,13 +5,13 @@ use Prim.Native.Nat.{ℕ}
 use mathlib.Core.List.{List}
 use lib.ListN.{length}
 use Rattle.laws.specs.Written.{written}
-use Rattle.forward.specs.Forwarded.{pileOf, Forwards, forwardedNumber, forwardedBytes}
-use Rattle.forward.specs.declared.Forwarded.{Forwarded}
-use Rattle.publish.specs.Published.{Publishes, publishedNumber, publishedBytes}
-use Rattle.publish.specs.declared.Published.{Published}
-use Rattle.evidence.specs.Publishing.{tbPublished, tbForwarded}
-use Rattle.evidence.specs.declared.TbForwarded.{TbForwarded}
-use Rattle.evidence.specs.declared.TbPublished.{TbPublished}
+use Rattle.report_text.specs.Forwarded.{pileOf, Forwards, forwardedNumber, forwardedBytes}
+use Rattle.report_text.specs.declared.Forwarded.{Forwarded}
+use Rattle.report_write.specs.Published.{Publishes, publishedNumber, publishedBytes}
+use Rattle.report_write.specs.declared.Published.{Published}
+use Rattle.c_evidence.specs.Publishing.{tbPublished, tbForwarded}
+use Rattle.c_evidence.specs.declared.TbForwarded.{TbForwarded}
+use Rattle.c_evidence.specs.declared.TbPublished.{TbPublished}
 
 -- the struct tells the answer that is right of the pile and the buffer out, and the buffer holds afterwards what that
 -- same answer leaves in it

@@ -5,8 +5,8 @@ use mathlib.Core.Path.{_≡_}
 use mathlib.Core.Bool.{cond}
 use mathlib.Core.List.{List}
 use lib.Dec.{eqb}
-use Rattle.evidence.specs.Walking.{tbTook}
-use Rattle.evidence.specs.declared.TbTook.{TbTook}
+use Rattle.c_evidence.specs.Walking.{tbTook}
+use Rattle.c_evidence.specs.declared.TbTook.{TbTook}
 use Rattle.walk.specs.Taking.{Takes, walkAfter, pileAfter}
 use Rattle.walk.specs.declared.Walk.{Walk}
 use Rattle.walk.specs.declared.Heard.{Heard}
@@ -40,5 +40,5 @@ pub record Took (w : Walk) (h : Heard) (response pile : List ℕ) (told : TbTook
   pub answer : Said
   pub right : Takes w h response pile answer
   pub same : told ≡ tbTook answer
-  pub moved : next ≡ walkAfter answer w h response
+  pub stepped : next ≡ walkAfter answer w h response
   pub left : afterwards ≡ pileAfter answer w response pile

@@ -1,14 +1,14 @@
 // Trees and paths for hosts.
 ghost use mathlib.Core.Path.{_≡_};
 ghost use lib.ListN.{length};
-ghost use Rattle.batch.specs.Answers.{rootedOf, pathBytes, fromBytes, rowsBytes};
-ghost use Rattle.batch.specs.Leaves.{countOf, heldOf};
+ghost use Rattle.tree_build.specs.Building.{rootedOf, pathBytes, fromBytes, rowsBytes};
+ghost use Rattle.tree_build.specs.Leaves.{countOf, heldOf};
 ghost use Rattle.tree.specs.PathCheck.{leadsOf};
-ghost use Rattle.told.specs.Building.{tbRooted};
+ghost use Rattle.c_packets.specs.Building.{tbRooted};
 ghost use Rattle.capi.specs.Building.{Places, Lays};
-use told::TbLaid;
-use told::TbPlaced;
-use told::TbRooted;
+use c_packets::TbLaid;
+use c_packets::TbPlaced;
+use c_packets::TbRooted;
 
 // Whether the siblings of a path lead from the leaf to the root, by INDX.
 #[no_mangle]
@@ -23,7 +23,7 @@ pub extern "C" fn tb_leads(leaf: &[u8; 32], indx: u32, path: &[u8], root: &[u8; 
 pub extern "C" fn tb_root(leaves: &[u8]) -> TbRooted
     ensures { λ r. ⌜ r ≡ tbRooted (rootedOf (now (leaves .entry))) ⌝ }
 {
-    told::root_told(batch::root(leaves))
+    c_packets::root_told(tree_build::root(leaves))
 }
 
 // The path of the leaf at a place, at the front of out.
@@ -32,7 +32,7 @@ pub extern "C" fn tb_path(leaves: &[u8], place: usize, out: &mut [u8]) -> TbPlac
     ensures { λ r. ⌜ Places (countOf (length (now (leaves .entry)))) place (pathBytes (now (leaves .entry)) place)
         (now (out .entry)) r (now (out .exit)) ⌝ }
 {
-    told::path_told(batch::path(leaves, place, out))
+    c_packets::path_told(tree_build::path(leaves, place, out))
 }
 
 // All rows of the tree of a batch, at the front of out. The root is the last 32 bytes of them.
@@ -42,8 +42,8 @@ pub extern "C" fn tb_rows(leaves: &[u8], out: &mut [u8]) -> TbLaid
         r
         (now (out .exit)) ⌝ }
 {
-    let length = batch::rows_length(leaves.len());
-    told::rows_told(batch::rows(leaves, out), length)
+    let length = tree_build::rows_length(leaves.len());
+    c_packets::rows_told(tree_build::rows(leaves, out), length)
 }
 
 // The path of the leaf at a place of count leaves, read out of the rows of their tree, at the front of out.
@@ -53,5 +53,5 @@ pub extern "C" fn tb_path_from(rows: &[u8], count: usize, place: usize, out: &mu
         (fromBytes (now (rows .entry)) count place)
         (now (out .entry)) r (now (out .exit)) ⌝ }
 {
-    told::path_told(batch::path_from(rows, count, place, out))
+    c_packets::path_told(tree_build::path_from(rows, count, place, out))
 }

@@ -3,11 +3,11 @@
 ghost use mathlib.Core.Path.{_≡_};
 ghost use Rattle.clock.specs.State.{startedOf, takenOf};
 ghost use Rattle.clock.specs.Answer.{answerOf};
-ghost use Rattle.told.specs.Clocking.{tbTime};
+ghost use Rattle.c_packets.specs.Clocking.{tbTime};
 ghost use Rattle.capi.specs.Clocking.{clockOf, keptOf};
+use c_packets::TbTime;
 use clock::Clock;
-use spans::Kept;
-use told::TbTime;
+use clock_spans::Kept;
 
 // Starts a clock: 0 or 32. On a refusal the state stays.
 #[no_mangle]
@@ -49,7 +49,7 @@ pub extern "C" fn tb_clock_start_fields(
     let r = next.received;
     *received = r;
     let why = m.refusal;
-    told::number(why)
+    c_packets::number(why)
 }
 
 // Takes a window of a server: 0, 32 or 26. On a refusal the state stays.
@@ -105,7 +105,7 @@ pub extern "C" fn tb_clock_take_fields(
     let r = next.received;
     *received = r;
     let why = m.refusal;
-    told::number(why)
+    c_packets::number(why)
 }
 
 // The time at a moment.
@@ -131,5 +131,5 @@ pub extern "C" fn tb_clock_now_fields(
         sent: *sent,
         received: *received,
     };
-    told::time_told(clock::time_at(c, moment, liars))
+    c_packets::time_told(clock::time_at(c, moment, liars))
 }

@@ -1,10 +1,10 @@
 // The response check for hosts.
 ghost use mathlib.Core.Path.{_≡_};
 ghost use lib.Dec.{eqb};
-ghost use Rattle.verdict.specs.Check.{checkedOf};
-ghost use Rattle.told.specs.Judging.{tbVerdict};
-use told::TbVerdict;
-use told::yes;
+ghost use Rattle.check_response.specs.Check.{checkedOf};
+ghost use Rattle.c_packets.specs.Judging.{tbVerdict};
+use c_packets::TbVerdict;
+use c_packets::yes;
 
 // Checks a response packet against the request packet that it answers, with the answers for its two signatures, of
 // which only 1 is a yes.
@@ -18,5 +18,10 @@ pub extern "C" fn tb_check_response<'a>(
     ensures { λ r. ⌜ r
         ≡ tbVerdict (checkedOf (now (request .entry)) (now (response .entry)) (eqb delegation 1) (eqb signature 1)) ⌝ }
 {
-    told::verdict_told(verdict::check_response(request, response, yes(delegation), yes(signature)))
+    c_packets::verdict_told(check_response::check_response(
+        request,
+        response,
+        yes(delegation),
+        yes(signature),
+    ))
 }

@@ -60,7 +60,7 @@ pub extern "C" fn tb_sha512_take_fields(
     let b = r.rest;
     *rest = b;
     *count = r.count;
-    told::number(f.refusal)
+    c_packets::number(f.refusal)
 }
 
 // The digest of what was taken so far.

@@ -3,19 +3,19 @@ ghost use mathlib.Core.Path.{_≡_};
 ghost use Rattle.pile.specs.Pile.{pileCode};
 ghost use Rattle.pile.specs.Valid.{judgementOf};
 ghost use Rattle.pile.specs.Links.{linkedOf, firstRandZero};
-ghost use Rattle.runs.specs.Clash.{clash};
-ghost use Rattle.evidence.specs.Piling.{tbJudged};
+ghost use Rattle.pile_runs.specs.Clash.{clash};
+ghost use Rattle.c_evidence.specs.Piling.{tbJudged};
 ghost use Rattle.capi.specs.Piling.{Checks, Cuts};
-use evidence::TbCut;
-use evidence::TbJudged;
-use evidence::TbReported;
+use c_evidence::TbCut;
+use c_evidence::TbJudged;
+use c_evidence::TbReported;
 
 // Code 15 of a pile and its answers, 0 where it does not apply.
 #[no_mangle]
 pub extern "C" fn tb_pile_code<'a>(pile: &'a [u8], answers: &'a [u8]) -> u32
     ensures { λ r. ⌜ r ≡ pileCode (now (pile .entry)) (now (answers .entry)) .code ⌝ }
 {
-    told::number(pile::pile_code(pile, answers))
+    c_packets::number(pile::pile_code(pile, answers))
 }
 
 // What is said of the record at a place.
@@ -23,7 +23,7 @@ pub extern "C" fn tb_pile_code<'a>(pile: &'a [u8], answers: &'a [u8]) -> u32
 pub extern "C" fn tb_judge<'a>(pile: &'a [u8], answers: &'a [u8], place: usize) -> TbJudged
     ensures { λ r. ⌜ r ≡ tbJudged (judgementOf (now (pile .entry)) (now (answers .entry)) place) ⌝ }
 {
-    evidence::judgement_told(pile::judge(pile, answers, place))
+    c_evidence::judgement_told(pile::judge(pile, answers, place))
 }
 
 // Whether the record at a place is linked to the one before it.
@@ -52,7 +52,7 @@ pub extern "C" fn tb_contradicts(
 ) -> bool
     ensures { λ r. ⌜ r ≡ clash «earlier_midp» «earlier_radi» «later_midp» «later_radi» ⌝ }
 {
-    runs::contradicts(earlier_midp, earlier_radi, later_midp, later_radi)
+    pile_runs::contradicts(earlier_midp, earlier_radi, later_midp, later_radi)
 }
 
 // Whether a pile is a report, and the pair that it names.
@@ -60,7 +60,7 @@ pub extern "C" fn tb_contradicts(
 pub extern "C" fn tb_check_report<'a>(pile: &'a [u8], answers: &'a [u8]) -> TbReported
     ensures { λ r. ⌜ Checks (now (pile .entry)) (now (answers .entry)) r ⌝ }
 {
-    evidence::report_told(report::check_report(pile, answers))
+    c_evidence::report_told(pile_report::check_report(pile, answers))
 }
 
 // The shortest run that convicts by itself, at the front of out.
@@ -68,5 +68,5 @@ pub extern "C" fn tb_check_report<'a>(pile: &'a [u8], answers: &'a [u8]) -> TbRe
 pub extern "C" fn tb_cut_run<'a>(pile: &'a [u8], answers: &'a [u8], out: &mut [u8]) -> TbCut
     ensures { λ r. ⌜ Cuts (now (pile .entry)) (now (answers .entry)) (now (out .entry)) r (now (out .exit)) ⌝ }
 {
-    evidence::run_told(report::cut_run(pile, answers, out))
+    c_evidence::run_told(pile_report::cut_run(pile, answers, out))
 }

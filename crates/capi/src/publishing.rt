@@ -2,15 +2,15 @@
 ghost use mathlib.Core.Path.{_≡_};
 ghost use lib.ListN.{length};
 ghost use Rattle.laws.specs.Written.{written};
-ghost use Rattle.intake.specs.Entry.{entriesOf};
-ghost use Rattle.intake.specs.Read.{readOf, pileBytes};
-ghost use Rattle.signed.specs.Answers.{ownAnswers};
-ghost use Rattle.evidence.specs.Publishing.{tbRecords};
-ghost use Rattle.forward.specs.Forwarded.{pileOf};
+ghost use Rattle.report_read.specs.Entry.{entriesOf};
+ghost use Rattle.report_read.specs.Read.{readOf, pileBytes};
+ghost use Rattle.pile_signed.specs.OwnAnswers.{ownAnswers};
+ghost use Rattle.c_evidence.specs.Publishing.{tbRecords};
+ghost use Rattle.report_text.specs.Forwarded.{pileOf};
 ghost use Rattle.capi.specs.Publishing.{Tells, TellsCut};
-use evidence::TbForwarded;
-use evidence::TbPublished;
-use evidence::TbRecords;
+use c_evidence::TbForwarded;
+use c_evidence::TbPublished;
+use c_evidence::TbRecords;
 
 // The records of a report's text, at the front of out.
 #[no_mangle]
@@ -19,7 +19,7 @@ pub extern "C" fn tb_read_report(text: &[u8], out: &mut [u8]) -> TbRecords
     ensures { λ r. ⌜ now (out .exit)
         ≡ written (r .code) (pileBytes (entriesOf (now (text .entry)))) (now (out .entry)) ⌝ }
 {
-    evidence::read_told(intake::read_report(text, out))
+    c_evidence::read_told(report_read::read_report(text, out))
 }
 
 // The text of a report, at the front of out.
@@ -31,7 +31,7 @@ pub extern "C" fn tb_write_report<'a>(
 ) -> TbPublished
     ensures { λ r. ⌜ Tells (now (pile .entry)) (now (answers .entry)) (now (out .entry)) r (now (out .exit)) ⌝ }
 {
-    evidence::published_told(publish::write_report(pile, answers, out))
+    c_evidence::published_told(report_write::write_report(pile, answers, out))
 }
 
 // The same with no answers lent: the signatures are verified under the keys of the records.
@@ -41,7 +41,7 @@ pub extern "C" fn tb_write_signed_report(pile: &[u8], out: &mut [u8]) -> TbPubli
         Tells (now (pile .entry)) (ownAnswers (now (pile .entry))) (now (out .entry)) r (now (out .exit))
         ⌝ }
 {
-    evidence::published_told(forward::write_signed_report(pile, out))
+    c_evidence::published_told(report_text::write_signed_report(pile, out))
 }
 
 // The text of the shortest run that convicts by itself, out of a text, at the front of out.
@@ -49,7 +49,7 @@ pub extern "C" fn tb_write_signed_report(pile: &[u8], out: &mut [u8]) -> TbPubli
 pub extern "C" fn tb_cut_text<'a>(text: &'a [u8], answers: &'a [u8], out: &mut [u8]) -> TbForwarded
     ensures { λ r. ⌜ TellsCut (now (text .entry)) (now (answers .entry)) (now (out .entry)) r (now (out .exit)) ⌝ }
 {
-    evidence::forwarded_told(forward::cut_text(text, answers, out))
+    c_evidence::forwarded_told(report_text::cut_text(text, answers, out))
 }
 
 // The same with no answers lent.
@@ -59,5 +59,5 @@ pub extern "C" fn tb_cut_signed_text(text: &[u8], out: &mut [u8]) -> TbForwarded
         TellsCut (now (text .entry)) (ownAnswers (pileOf (now (text .entry)))) (now (out .entry)) r (now (out .exit))
         ⌝ }
 {
-    evidence::forwarded_told(forward::cut_signed_text(text, out))
+    c_evidence::forwarded_told(report_text::cut_signed_text(text, out))
 }

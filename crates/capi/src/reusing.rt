@@ -1,16 +1,16 @@
 // Answers that a host kept, asked again. An answer is told by its code and by what the question reads of it, so that
 // one of `tb_check_response` and one of `tb_judge` do as well.
 ghost use mathlib.Core.Path.{_≡_};
-ghost use Rattle.reuse.specs.Reuse.{mayUse, sameDelegation};
+ghost use Rattle.check_reuse.specs.Reuse.{mayUse, sameDelegation};
 ghost use Rattle.capi.specs.Reusing.{delegationOf};
-use reuse::Delegation;
+use check_reuse::Delegation;
 
 // Whether the window of an answer may still be used at a time.
 #[no_mangle]
 pub extern "C" fn tb_may_use_fields(code: u32, maxt: u64, time: u64) -> bool
     ensures { λ r. ⌜ r ≡ mayUse code maxt time ⌝ }
 {
-    reuse::may_use(code, maxt, time)
+    check_reuse::may_use(code, maxt, time)
 }
 
 // Whether two answers come from one delegation: PUBK, MINT and MAXT are compared. Under which long-term key each was
@@ -40,5 +40,5 @@ pub extern "C" fn tb_same_delegation_fields(
         mint: second_mint,
         maxt: second_maxt,
     };
-    reuse::same_delegation(first_code, first, second_code, second)
+    check_reuse::same_delegation(first_code, first, second_code, second)
 }

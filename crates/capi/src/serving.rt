@@ -2,13 +2,13 @@
 ghost use mathlib.Core.Path.{_≡_};
 ghost use Rattle.laws.specs.Written.{written};
 ghost use Rattle.refusal.specs.Refusal.{passed};
-ghost use Rattle.writer.specs.Answered.{answered};
-ghost use Rattle.seals.specs.Delegation.{deleBytes, certBytes};
-ghost use Rattle.respond.specs.Refusing.{replyCode};
-ghost use Rattle.respond.specs.Response.{reply, responseBytes};
-ghost use Rattle.seals.specs.Signed.{srepBytes, radiusCode};
-ghost use Rattle.told.specs.Writing.{tbWrote};
-use told::TbWrote;
+ghost use Rattle.wire_request.specs.Answered.{answered};
+ghost use Rattle.server_parts.specs.Delegation.{deleBytes, certBytes};
+ghost use Rattle.server_response.specs.Refusing.{replyCode};
+ghost use Rattle.server_response.specs.Response.{reply, responseBytes};
+ghost use Rattle.server_parts.specs.Signed.{srepBytes, radiusCode};
+ghost use Rattle.c_packets.specs.Writing.{tbWrote};
+use c_packets::TbWrote;
 
 // SREP for the root of a batch, a time and its radius, at the front of out.
 #[no_mangle]
@@ -18,7 +18,7 @@ pub extern "C" fn tb_write_srep(root: &[u8; 32], midp: u64, radi: u32, out: &mut
     ensures { λ r. ⌜ now (out .exit)
         ≡ written (r .code) (srepBytes (now (root .entry)) midp radi) (now (out .entry)) ⌝ }
 {
-    told::wrote_told(seals::write_srep(*root, midp, radi, out))
+    c_packets::wrote_told(server_parts::write_srep(*root, midp, radi, out))
 }
 
 // The whole response to a request, at the front of out.
@@ -51,7 +51,7 @@ pub extern "C" fn tb_write_response<'a>(
         (now (signature .entry))))
         (now (out .entry)) ⌝ }
 {
-    told::wrote_told(respond::write_response(
+    c_packets::wrote_told(server_response::write_response(
         request,
         indx,
         *root,
@@ -71,7 +71,7 @@ pub extern "C" fn tb_write_dele(pubk: &[u8; 32], mint: u64, maxt: u64, out: &mut
     ensures { λ r. ⌜ now (out .exit)
         ≡ written (r .code) (deleBytes (now (pubk .entry)) mint maxt) (now (out .entry)) ⌝ }
 {
-    told::wrote_told(seals::write_dele(*pubk, mint, maxt, out))
+    c_packets::wrote_told(server_parts::write_dele(*pubk, mint, maxt, out))
 }
 
 // CERT for the same and the signature over that DELE, at the front of out.
@@ -89,5 +89,5 @@ pub extern "C" fn tb_write_cert(
     ensures { λ r. ⌜ now (out .exit)
         ≡ written (r .code) (certBytes (now (pubk .entry)) mint maxt (now (signature .entry))) (now (out .entry)) ⌝ }
 {
-    told::wrote_told(seals::write_cert(*pubk, mint, maxt, *signature, out))
+    c_packets::wrote_told(server_parts::write_cert(*pubk, mint, maxt, *signature, out))
 }

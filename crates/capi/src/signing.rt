@@ -1,24 +1,24 @@
 // The checks that verify signatures by themselves, for hosts.
 ghost use mathlib.Core.Path.{_≡_};
-ghost use Rattle.verdict.specs.Check.{checkedOf};
+ghost use Rattle.check_response.specs.Check.{checkedOf};
 ghost use Rattle.pile.specs.Valid.{judgementOf};
-ghost use Rattle.signatures.specs.Answers.{delegated, responded, answersOf};
-ghost use Rattle.signed.specs.Answers.{ownAnswers};
-ghost use Rattle.told.specs.Judging.{tbVerdict};
-ghost use Rattle.evidence.specs.Piling.{tbJudged};
-ghost use Rattle.evidence.specs.Signing.{tbAnswers};
+ghost use Rattle.check_signatures.specs.SignatureAnswers.{delegated, responded, answersOf};
+ghost use Rattle.pile_signed.specs.OwnAnswers.{ownAnswers};
+ghost use Rattle.c_packets.specs.Judging.{tbVerdict};
+ghost use Rattle.c_evidence.specs.Piling.{tbJudged};
+ghost use Rattle.c_evidence.specs.Signing.{tbAnswers};
 ghost use Rattle.capi.specs.Piling.{Checks, Cuts};
-use evidence::TbCut;
-use evidence::TbJudged;
-use evidence::TbReported;
-use told::TbVerdict;
+use c_evidence::TbCut;
+use c_evidence::TbJudged;
+use c_evidence::TbReported;
+use c_packets::TbVerdict;
 
 // Whether the two signatures of a response packet verify, the delegation's under the server's long-term key.
 #[no_mangle]
 pub extern "C" fn tb_answers(key: &[u8; 32], response: &[u8], out: &mut [u8; 2])
     ensures { λ _. ⌜ now (out .exit) ≡ tbAnswers (answersOf (now (key .entry)) (now (response .entry))) ⌝ }
 {
-    let a = evidence::answers_told(signatures::answers(*key, response));
+    let a = c_evidence::answers_told(check_signatures::answers(*key, response));
     *out = a;
 }
 
@@ -33,7 +33,7 @@ pub extern "C" fn tb_check_signed<'a>(
         ≡ tbVerdict (checkedOf (now (request .entry)) (now (response .entry))
         (delegated (now (key .entry)) (now (response .entry))) (responded (now (response .entry)))) ⌝ }
 {
-    told::verdict_told(signatures::check_signed(*key, request, response))
+    c_packets::verdict_told(check_signatures::check_signed(*key, request, response))
 }
 
 // What is said of the record at a place, by the key that stands in it.
@@ -41,7 +41,7 @@ pub extern "C" fn tb_check_signed<'a>(
 pub extern "C" fn tb_judge_signed(pile: &[u8], place: usize) -> TbJudged
     ensures { λ r. ⌜ r ≡ tbJudged (judgementOf (now (pile .entry)) (ownAnswers (now (pile .entry))) place) ⌝ }
 {
-    evidence::judgement_told(signed::judge_signed(pile, place))
+    c_evidence::judgement_told(pile_signed::judge_signed(pile, place))
 }
 
 // Whether a pile is a report, and the pair that it names.
@@ -49,7 +49,7 @@ pub extern "C" fn tb_judge_signed(pile: &[u8], place: usize) -> TbJudged
 pub extern "C" fn tb_check_signed_report(pile: &[u8]) -> TbReported
     ensures { λ r. ⌜ Checks (now (pile .entry)) (ownAnswers (now (pile .entry))) r ⌝ }
 {
-    evidence::report_told(signed::check_signed_report(pile))
+    c_evidence::report_told(pile_signed::check_signed_report(pile))
 }
 
 // The shortest run that convicts by itself, at the front of out.
@@ -58,5 +58,5 @@ pub extern "C" fn tb_cut_signed_run(pile: &[u8], out: &mut [u8]) -> TbCut
     ensures { λ r. ⌜ Cuts (now (pile .entry)) (ownAnswers (now (pile .entry))) (now (out .entry)) r
         (now (out .exit)) ⌝ }
 {
-    evidence::run_told(signed::cut_signed_run(pile, out))
+    c_evidence::run_told(pile_signed::cut_signed_run(pile, out))
 }

@@ -6,11 +6,11 @@ ghost use Rattle.laws.specs.Written.{written};
 ghost use Rattle.walk.specs.State.{requestNow};
 ghost use Rattle.walk.specs.Starting.{startedOf};
 ghost use Rattle.walk.specs.Asking.{askedOf};
-ghost use Rattle.hearing.specs.Heard.{ownHeard};
-ghost use Rattle.evidence.specs.Walking.{tbAsked};
+ghost use Rattle.walk_signed.specs.Heard.{ownHeard};
+ghost use Rattle.c_evidence.specs.Walking.{tbAsked};
 ghost use Rattle.capi.specs.Walking.{walkOf, walkStarted, heardOf, Took};
-use evidence::TbAsked;
-use evidence::TbTook;
+use c_evidence::TbAsked;
+use c_evidence::TbTook;
 use walk::Heard;
 use walk::Walk;
 
@@ -40,7 +40,7 @@ pub extern "C" fn tb_walk_start_fields<'a>(
     let s = walk::start(servers, *first, longest, pile);
     let why = s.refusal;
     if why.code != 0 {
-        return told::number(why);
+        return c_packets::number(why);
     }
     let w = s.walk;
     let ks = w.keys;
@@ -84,7 +84,7 @@ pub extern "C" fn tb_walk_ask_fields(
         last: last,
         most: most,
     };
-    evidence::asked_told(walk::ask(w, out))
+    c_evidence::asked_told(walk::ask(w, out))
 }
 
 // Takes a response. On a refusal the state and the pile stay.
@@ -123,8 +123,8 @@ pub extern "C" fn tb_walk_take_fields(
         most: most,
     };
     let h = Heard {
-        delegation: told::yes(delegation),
-        signature: told::yes(signature),
+        delegation: c_packets::yes(delegation),
+        signature: c_packets::yes(signature),
         sent: sent,
         received: received,
         rand: *next,
@@ -138,7 +138,7 @@ pub extern "C" fn tb_walk_take_fields(
     *rand = r;
     *last = v.last;
     let s = m.said;
-    evidence::took_told(s)
+    c_evidence::took_told(s)
 }
 
 // Takes a response with no answers lent: its signatures are verified under the key of the server that was asked.
@@ -178,7 +178,7 @@ pub extern "C" fn tb_walk_take_signed_fields(
         last: *last,
         most: most,
     };
-    let m = hearing::take_signed(w, sent, received, *next, response, pile);
+    let m = walk_signed::take_signed(w, sent, received, *next, response, pile);
     let v = m.walk;
     *step = v.step as u64;
     let n = v.nonce;
@@ -187,5 +187,5 @@ pub extern "C" fn tb_walk_take_signed_fields(
     *rand = r;
     *last = v.last;
     let s = m.said;
-    evidence::took_told(s)
+    c_evidence::took_told(s)
 }

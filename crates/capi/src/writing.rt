@@ -2,12 +2,12 @@
 ghost use mathlib.Core.Path.{_≡_};
 ghost use Rattle.laws.specs.Written.{written};
 ghost use Rattle.refusal.specs.Refusal.{passed};
-ghost use Rattle.wire.specs.Response.{signedCode};
-ghost use Rattle.writer.specs.Answered.{answered};
-ghost use Rattle.writer.specs.Request.{requestBytes};
-ghost use Rattle.writer.specs.Texts.{delegationText, responseText};
-ghost use Rattle.told.specs.Writing.{tbWrote};
-use told::TbWrote;
+ghost use Rattle.wire_packet.specs.Response.{signedCode};
+ghost use Rattle.wire_request.specs.Answered.{answered};
+ghost use Rattle.wire_request.specs.Request.{requestBytes};
+ghost use Rattle.wire_request.specs.Texts.{delegationText, responseText};
+ghost use Rattle.c_packets.specs.Writing.{tbWrote};
+use c_packets::TbWrote;
 
 // A request to the server with this long-term key, with this nonce, at the front of out.
 #[no_mangle]
@@ -17,7 +17,7 @@ pub extern "C" fn tb_write_request(key: &[u8; 32], nonce: &[u8; 32], out: &mut [
     ensures { λ r. ⌜ now (out .exit)
         ≡ written (r .code) (requestBytes (now (key .entry)) (now (nonce .entry))) (now (out .entry)) ⌝ }
 {
-    told::wrote_told(writer::write_request(*key, *nonce, out))
+    c_packets::wrote_told(wire_request::write_request(*key, *nonce, out))
 }
 
 // The delegation text of a response packet, at the front of out.
@@ -29,7 +29,7 @@ pub extern "C" fn tb_delegation_text(packet: &[u8], out: &mut [u8]) -> TbWrote
     ensures { λ r. ⌜ now (out .exit)
         ≡ written (r .code) (delegationText (now (packet .entry))) (now (out .entry)) ⌝ }
 {
-    told::wrote_told(writer::delegation_text(packet, out))
+    c_packets::wrote_told(wire_request::delegation_text(packet, out))
 }
 
 // The response text of a response packet, at the front of out.
@@ -41,5 +41,5 @@ pub extern "C" fn tb_response_text(packet: &[u8], out: &mut [u8]) -> TbWrote
     ensures { λ r. ⌜ now (out .exit)
         ≡ written (r .code) (responseText (now (packet .entry))) (now (out .entry)) ⌝ }
 {
-    told::wrote_told(writer::response_text(packet, out))
+    c_packets::wrote_told(wire_request::response_text(packet, out))
 }

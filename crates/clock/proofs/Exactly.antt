@@ -5,10 +5,10 @@ use mathlib.Core.Logic.{_↔_}
 use Prim.Native.Nat.{ℕ, _-_}
 use native.Mathlib.Omega.{arith}
 use Rattle.refusal.specs.Refusal.{refusal}
-use Rattle.agreement.specs.Agreement as agreement
-use Rattle.agreement.specs.declared.Agreement.{Agreement}
-use Rattle.agreement.specs.declared.Agreement.the-variants as variants
-use Rattle.agreement.proofs.Exactly as exactly
+use Rattle.clock_agreement.specs.Agreement as agreement
+use Rattle.clock_agreement.specs.declared.Agreement.{Agreement}
+use Rattle.clock_agreement.specs.declared.Agreement.the-variants as variants
+use Rattle.clock_agreement.proofs.Exactly as exactly
 use Rattle.clock.specs.Meaning.{spansThen, IsTime, TooFew, NoAgreement}
 use Rattle.clock.specs.Used.{tooEarly, countingAt}
 use Rattle.clock.specs.Answer.{later, answerOf, number}

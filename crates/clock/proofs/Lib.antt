@@ -2,6 +2,6 @@
 -- that is told, where servers are honest, stands in a crate of its own.
 pub mod Places
 pub mod Takes
-pub mod Answers
+pub mod AnswerLaws
 pub mod Exactly
 pub mod Once

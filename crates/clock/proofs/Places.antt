@@ -4,9 +4,9 @@ use mathlib.Core.Bool.{Bool, true, false}
 use mathlib.Core.List.{List, [], _∷_}
 use Prim.Native.Nat.{ℕ, _+_, max}
 use native.Mathlib.Numerals.{add-one}
-use Rattle.spans.specs.Spans.{usedAt, serverSpan}
-use Rattle.spans.specs.declared.Kept.{Kept}
-use Rattle.spans.specs.declared.Span.{Span}
+use Rattle.clock_spans.specs.Spans.{usedAt, serverSpan}
+use Rattle.clock_spans.specs.declared.Kept.{Kept}
+use Rattle.clock_spans.specs.declared.Span.{Span}
 use Rattle.clock.specs.State.{keptIn}
 use Rattle.clock.specs.Used.{usedIn, newestUsed}
 use Rattle.clock.specs.declared.Clock.{Clock}

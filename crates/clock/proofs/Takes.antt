@@ -9,24 +9,24 @@ use borrow.Author.Tests.{eq-eqb, ne-eqb, ltb-false}
 use Rattle.laws.proofs.First.{row-quiet, test-quiet}
 use Rattle.refusal.specs.Refusal.{refusal, refusals, when}
 use Rattle.refusal.specs.declared.Refusal.{Refusal}
-use Rattle.spans.specs.declared.Kept.{Kept}
+use Rattle.clock_spans.specs.declared.Kept.{Kept}
 use Rattle.clock.specs.State.{newest, takeCode, keeping, takenOf}
 use Rattle.clock.specs.declared.Clock.{Clock}
-use Rattle.clock.specs.declared.Moved.{Moved}
+use Rattle.clock.specs.declared.Updated.{Updated}
 
-abbrev moved : Refusal → Clock → Moved
-moved r k = record { refusal = r; clock = k }
+abbrev updated : Refusal → Clock → Updated
+updated r k = record { refusal = r; clock = k }
 
 -- of any operation whose code is a, and which leaves the state c on a refusal and else has the state g
 module _ {r a : Refusal} (c g : Clock) (f : r ≡ a) where
   number : r .code ≡ a .code
   number = ap (λ (x : Refusal). x .code) f
 
-  pub refused : (r .code ≡ 0 → ⊥) → moved r c ≡ moved a (cond (eqb (a .code) 0) g c)
-  refused n = simp (ne-eqb (a .code) 0 (λ q. n (number ∙ q))) (ap (λ (x : Refusal). moved x c) f)
+  pub refused : (r .code ≡ 0 → ⊥) → updated r c ≡ updated a (cond (eqb (a .code) 0) g c)
+  refused n = simp (ne-eqb (a .code) 0 (λ q. n (number ∙ q))) (ap (λ (x : Refusal). updated x c) f)
 
-  pub accepted : {k : Clock} → r .code ≡ 0 → k ≡ g → moved r k ≡ moved a (cond (eqb (a .code) 0) g c)
-  accepted z e = simp (eq-eqb (a .code) 0 (sym number ∙ z)) (ap₂ moved f e)
+  pub accepted : {k : Clock} → r .code ≡ 0 → k ≡ g → updated r k ≡ updated a (cond (eqb (a .code) 0) g c)
+  accepted z e = simp (eq-eqb (a .code) 0 (sym number ∙ z)) (ap₂ updated f e)
 
 -- a window that is taken: it is a server's, and its receipt is not before its request or the last receipt
 pub record Takeable (c : Clock) (s : ℕ) (w : Kept) : Type 0 where

@@ -3,11 +3,11 @@ use mathlib.Core.Bool.{cond}
 use Prim.Native.Nat.{ℕ, _-_}
 use lib.Dec.{eqb}
 use Rattle.refusal.specs.Refusal.{refusal}
-use Rattle.spans.specs.Drift.{last, lowLater, highLater}
-use Rattle.agreement.specs.Agreement.{agreementOf}
-use Rattle.agreement.specs.declared.Agreed.{Agreed}
-use Rattle.agreement.specs.declared.Agreement.{Agreement}
-use Rattle.agreement.specs.declared.Agreement.the-variants as agreement
+use Rattle.clock_spans.specs.Drift.{last, lowLater, highLater}
+use Rattle.clock_agreement.specs.Agreement.{agreementOf}
+use Rattle.clock_agreement.specs.declared.Agreed.{Agreed}
+use Rattle.clock_agreement.specs.declared.Agreement.{Agreement}
+use Rattle.clock_agreement.specs.declared.Agreement.the-variants as agreement
 use Rattle.clock.specs.Used.{tooEarly, countingAt, spansOf}
 use Rattle.clock.specs.declared.Clock.{Clock}
 use Rattle.clock.specs.declared.Time.{Time}

@@ -3,10 +3,10 @@ use mathlib.Core.Path.{_≡_}
 use mathlib.Core.Bool.{false}
 use mathlib.Core.List.{List}
 use Prim.Native.Nat.{ℕ, _-_, _≤_}
-use Rattle.spans.specs.declared.Span.{Span}
-use Rattle.agreement.specs.Count.{countOf}
-use Rattle.agreement.specs.Meaning.{Agrees, Disagrees}
-use Rattle.agreement.specs.declared.Agreed.{Agreed}
+use Rattle.clock_spans.specs.declared.Span.{Span}
+use Rattle.clock_agreement.specs.Count.{countOf}
+use Rattle.clock_agreement.specs.Meaning.{Agrees, Disagrees}
+use Rattle.clock_agreement.specs.declared.Agreed.{Agreed}
 use Rattle.clock.specs.Used.{tooEarly, countingAt, spansOf}
 use Rattle.clock.specs.Answer.{timeOf}
 use Rattle.clock.specs.declared.Clock.{Clock}

@@ -7,9 +7,9 @@ use lib.Dec.{eqb, ltb}
 use lib.ListN.{getD, set, replicate}
 use Rattle.refusal.specs.Refusal.{first, when}
 use Rattle.refusal.specs.declared.Refusal.{Refusal}
-use Rattle.spans.specs.declared.Kept.{Kept}
+use Rattle.clock_spans.specs.declared.Kept.{Kept}
 use Rattle.clock.specs.declared.Clock.{Clock}
-use Rattle.clock.specs.declared.Moved.{Moved}
+use Rattle.clock.specs.declared.Updated.{Updated}
 
 -- ---- what is kept
 
@@ -50,7 +50,7 @@ startOf drift =
     }
 
 -- a refusal leaves the state as it was
-abbrev pub startedOf : Clock → ℕ → Moved
+abbrev pub startedOf : Clock → ℕ → Updated
 startedOf c drift =
     record { refusal = startCode drift; clock = cond (eqb (startCode drift .code) 0) (startOf drift) c }
 
@@ -82,5 +82,5 @@ keeping c s w =
       received = pushed (c .received) s (w .received);
     }
 
-abbrev pub takenOf : Clock → ℕ → Kept → Moved
+abbrev pub takenOf : Clock → ℕ → Kept → Updated
 takenOf c s w = record { refusal = takeCode c s w; clock = cond (eqb (takeCode c s w .code) 0) (keeping c s w) c }

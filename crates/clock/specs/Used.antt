@@ -7,8 +7,8 @@ use Prim.Native.Nat.{ℕ, zero, suc, max}
 use lib.Dec.{ltb}
 use lib.ListN.{getD}
 use Rattle.laws.specs.Least.{somewhere}
-use Rattle.spans.specs.Spans.{usedAt, serverSpan}
-use Rattle.spans.specs.declared.Span.{Span}
+use Rattle.clock_spans.specs.Spans.{usedAt, serverSpan}
+use Rattle.clock_spans.specs.declared.Span.{Span}
 use Rattle.clock.specs.State.{keptIn, newest, older}
 use Rattle.clock.specs.declared.Clock.{Clock}
 

@@ -3,26 +3,26 @@ ghost use mathlib.Core.Path.{_≡_};
 ghost use Prim.Native.Nat.{_<_};
 ghost use Rattle.clock.specs.State.{startCode, startOf, startedOf, takeCode, pushed, keeping, takenOf};
 use super::Clock;
-use super::Moved;
+use super::Updated;
+use clock_spans::Kept;
 use refusal::PASSED;
 use refusal::Refusal;
 use refusal::codes;
 use refusal::refuse;
-use spans::Kept;
 
 // Starts, before any window, by a clock that goes wrong by at most drift parts per million.
-pub fn start(clock: Clock, drift: u32) -> Moved
+pub fn start(clock: Clock, drift: u32) -> Updated
     ensures { λ r. ⌜ r ≡ startedOf clock drift ⌝ }
 {
     let why = start_code(drift);
     if why.code != 0 {
-        return Moved {
+        return Updated {
             refusal: why,
             clock: clock,
         };
     }
     let begun = nothing_kept(drift);
-    Moved {
+    Updated {
         refusal: why,
         clock: begun,
     }
@@ -52,18 +52,18 @@ fn nothing_kept(drift: u32) -> Clock
 }
 
 // Takes one window more of a server.
-pub fn take(clock: Clock, server: usize, w: Kept) -> Moved
+pub fn take(clock: Clock, server: usize, w: Kept) -> Updated
     ensures { λ r. ⌜ r ≡ takenOf clock server w ⌝ }
 {
     let why = take_code(clock, server, w);
     if why.code != 0 {
-        return Moved {
+        return Updated {
             refusal: why,
             clock: clock,
         };
     }
     let more = kept(clock, server, w);
-    Moved {
+    Updated {
         refusal: why,
         clock: more,
     }

@@ -23,7 +23,7 @@ pub struct Clock {
 }
 
 // What a start, and a window that is taken, answer: a refusal or none, and the state for the next call.
-pub struct Moved {
+pub struct Updated {
     pub refusal: Refusal,
     pub clock: Clock,
 }

@@ -5,11 +5,11 @@ ghost use Prim.Native.Nat.{_<_};
 ghost use Rattle.clock.specs.State.{keptIn};
 ghost use Rattle.clock.specs.Used.{tooEarly, countingAt, spanOf, spansOf};
 use super::Clock;
-use spans::Kept;
-use spans::Span;
-use spans::is_used;
-use spans::larger;
-use spans::server_span;
+use clock_spans::Kept;
+use clock_spans::Span;
+use clock_spans::is_used;
+use clock_spans::larger;
+use clock_spans::server_span;
 
 // Window i of the state.
 fn kept_at(clock: Clock, i: usize) -> Kept

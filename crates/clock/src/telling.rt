@@ -7,15 +7,15 @@ use super::Time;
 use super::reading::counting_at;
 use super::reading::is_too_early;
 use super::reading::spans_of;
-use agreement::Agreed;
-use agreement::Agreement;
-use agreement::agree_on;
+use clock_agreement::Agreed;
+use clock_agreement::Agreement;
+use clock_agreement::agree_on;
+use clock_spans::LAST;
+use clock_spans::high_later;
+use clock_spans::low_later;
+use clock_spans::minus;
 use refusal::codes;
 use refusal::refuse;
-use spans::LAST;
-use spans::high_later;
-use spans::low_later;
-use spans::minus;
 
 // The time at the moment t of the host's own clock, where at most f of the servers that are counted lie.
 pub fn time_at(clock: Clock, t: u64, f: u64) -> Answer

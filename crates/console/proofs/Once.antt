@@ -3,9 +3,9 @@ use mathlib.Core.Path.{_≡_, refl, sym, ap, _∙_}
 use mathlib.Core.List.{List}
 use Prim.Native.Nat.{ℕ}
 use Rattle.laws.proofs.Once.{Settles}
-use Rattle.report.proofs.Runs.{takes-once}
-use Rattle.report.specs.Taking.{Takes}
-use Rattle.report.specs.declared.Taken.{Taken}
+use Rattle.pile_report.proofs.Runs.{takes-once}
+use Rattle.pile_report.specs.Taking.{Takes}
+use Rattle.pile_report.specs.declared.Taken.{Taken}
 use Rattle.console.specs.Text.{verdictText}
 use Rattle.console.proofs.answering.put_answers.Kinds as put-answers-kinds
 use Rattle.console.proofs.answering.put_answers.Reads as put-answers-reads

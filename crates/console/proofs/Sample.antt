@@ -4,9 +4,9 @@ use mathlib.Core.List.{_++_}
 use Prim.Native.Nat.{ℕ, zero, suc}
 use Rattle.laws.specs.Ascii.{ascii}
 use Rattle.refusal.specs.Refusal.{refusal, refusalAt}
-use Rattle.verdict.specs.Window.{windowOf}
-use Rattle.verdict.specs.declared.Verdict.{Verdict}
-use Rattle.verdict.specs.declared.Verdict.the-variants.{Valid, Refused}
+use Rattle.check_response.specs.Window.{windowOf}
+use Rattle.check_response.specs.declared.Verdict.{Verdict}
+use Rattle.check_response.specs.declared.Verdict.the-variants.{Valid, Refused}
 use Rattle.lines.specs.Line.{decimalIn, spaced, twoSpaced, labelled, windowLine, placeText, refusalLine}
 use Rattle.lines.specs.Line.{recordLine, runLine, countLine}
 use Rattle.console.specs.Text.{recordLines}

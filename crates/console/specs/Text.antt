@@ -2,12 +2,12 @@
 use mathlib.Core.List.{List, [], _++_}
 use Prim.Native.Nat.{ℕ, zero, suc}
 use Rattle.laws.specs.Ascii.{ascii}
-use Rattle.verdict.specs.declared.Verdict.{Verdict}
+use Rattle.check_response.specs.declared.Verdict.{Verdict}
 use Rattle.pile.specs.Pile.{recordsIn}
-use Rattle.report.specs.Report.{judged}
-use Rattle.report.specs.Taking.{takenNumber}
-use Rattle.report.specs.declared.Taken.{Taken}
-use Rattle.report.specs.declared.Taken.the-variants.{Run, Bad, Short, NoRun}
+use Rattle.pile_report.specs.Report.{judged}
+use Rattle.pile_report.specs.Taking.{takenNumber}
+use Rattle.pile_report.specs.declared.Taken.{Taken}
+use Rattle.pile_report.specs.declared.Taken.the-variants.{Run, Bad, Short, NoRun}
 use Rattle.lines.specs.Line.{countLine, refusedLine, recordLine, runLine}
 
 -- the first n records, which have the verdicts v

@@ -5,10 +5,10 @@ ghost use lib.ListN.{length};
 ghost use Rattle.laws.specs.Written.{written};
 ghost use Rattle.pile.specs.Pile.{lengthBad};
 ghost use Rattle.refusal.specs.Refusal.{when};
-ghost use Rattle.writer.specs.Answered.{wroteNumber, wroteLength, answered};
-ghost use Rattle.signed.specs.Answers.{ownAnswers};
-use signed::pile_answers;
-use writer::Wrote;
+ghost use Rattle.wire_request.specs.Answered.{wroteNumber, wroteLength, answered};
+ghost use Rattle.pile_signed.specs.OwnAnswers.{ownAnswers};
+use pile_signed::pile_answers;
+use wire_request::Wrote;
 
 // The answers of our own Ed25519 at the front of out, and how many bytes they are: none where the pile is not 1 to 16
 // whole records, or out is too short.

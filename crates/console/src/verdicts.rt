@@ -2,8 +2,8 @@
 ghost use Prim.Native.Nat.{_+_, _≤_};
 ghost use lib.ListN.{length};
 ghost use Rattle.pile.specs.Pile.{recordsIn};
-ghost use Rattle.report.specs.Report.{judged};
-ghost use Rattle.report.specs.Taking.{Takes};
+ghost use Rattle.pile_report.specs.Report.{judged};
+ghost use Rattle.pile_report.specs.Taking.{Takes};
 ghost use Rattle.laws.specs.Written.{Puts};
 ghost use Rattle.console.specs.Text.{recordLines, recordsText, verdictText};
 use libc::STDOUT_FILENO;
@@ -13,8 +13,8 @@ use lines::put_run;
 use lines::put_word;
 use pile::RECORD;
 use pile::judge;
-use report::Taken;
-use report::cut_run;
+use pile_report::Taken;
+use pile_report::cut_run;
 
 // The length of sixteen records, the most that a pile has.
 const LONGEST: usize = 16 * RECORD;

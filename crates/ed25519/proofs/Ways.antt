@@ -9,13 +9,13 @@ use lib.Dec.{ltb, lit<}
 use lib.ListN.{length, take, drop}
 use Rattle.laws.specs.Numbers.{le}
 use Rattle.digits.specs.Digits.{value, Each}
-use Rattle.field.specs.Field.{p}
-use Rattle.field.specs.Limbs.{radix}
-use Rattle.residue.specs.Residue.{Low}
-use Rattle.residue.proofs.Reducing.{each-below}
-use Rattle.scalar.specs.Order.{L}
-use Rattle.scalar.proofs.Steps.{L-pos}
-use Rattle.decode.specs.Decoding.{Decoding, decodeOf}
+use Rattle.ed25519_field.specs.Field.{p}
+use Rattle.ed25519_field.specs.Limbs.{radix}
+use Rattle.ed25519_residue.specs.Residue.{Low}
+use Rattle.ed25519_residue.proofs.Reducing.{each-below}
+use Rattle.ed25519_scalar.specs.Order.{L}
+use Rattle.ed25519_scalar.proofs.Steps.{L-pos}
+use Rattle.ed25519_point.specs.Decoding.{Decoding, decodeOf}
 use Rattle.ed25519.specs.Verification.{kOf, groupEquation, accepts, verifies, verifiesParts}
 
 -- a number modulo L has limbs below the radix

@@ -4,12 +4,16 @@ ghost use mathlib.Core.List.{_++_};
 ghost use Prim.Native.Nat.{_+_, _^_, _<_};
 ghost use lib.ListN.{length};
 ghost use Rattle.digits.specs.Digits.{value, Each};
-ghost use Rattle.field.specs.Limbs.{radix};
-ghost use Rattle.curve.specs.Coords.{ptOf, Good};
+ghost use Rattle.ed25519_field.specs.Limbs.{radix};
+ghost use Rattle.ed25519_curve.specs.Coords.{ptOf, Good};
 ghost use Rattle.ed25519.specs.Verification.{groupEquation, accepts, verifies, verifiesParts};
 use super::hashing::hash;
-use curve::Point;
-use field::Fe;
+use ed25519_base::times_base;
+use ed25519_curve::Point;
+use ed25519_curve::add;
+use ed25519_curve::point_equal;
+use ed25519_curve::times;
+use ed25519_field::Fe;
 
 // The most bytes that a text may have: with R and A as many as a message in pieces may, 2^64 - 1.
 const MOST: usize = 0xffff_ffff_ffff_ffbf;
@@ -19,7 +23,7 @@ fn group_equation(a: Point, r: Point, s: Fe, k: Fe) -> bool
     requires { ⌜ Good a × Good r × Each 67108863 s × Each 67108863 k ⌝ }
     ensures { λ b. ⌜ b ≡ groupEquation (ptOf a) (ptOf r) (value radix s) (value radix k) ⌝ }
 {
-    curve::point_equal(basepoint::times_base(s), curve::add(r, curve::times(k, a)))
+    point_equal(times_base(s), add(r, times(k, a)))
 }
 
 // Of a key and the halves of a signature.
@@ -29,14 +33,19 @@ fn check(key: &[u8], context: &[u8], text: &[u8], r: &[u8], s: &[u8]) -> bool
     ensures { λ b. ⌜ b ≡ accepts (now (key .entry)) (now (context .entry) ++ now (text .entry)) (now (r .entry))
         (now (s .entry)) ⌝ }
 {
-    let a = decode::decode(key);
+    let a = ed25519_point::decode(key);
     if a.ok {
-        let q = decode::decode(r);
+        let q = ed25519_point::decode(r);
         if q.ok {
-            if scalar::below_order(s) {
+            if ed25519_scalar::below_order(s) {
                 let ap = a.point;
                 let qp = q.point;
-                return group_equation(ap, qp, scalar::modulo(s), hash(r, key, context, text));
+                return group_equation(
+                    ap,
+                    qp,
+                    ed25519_scalar::modulo(s),
+                    hash(r, key, context, text),
+                );
             }
         }
     }

@@ -12,8 +12,8 @@ use Rattle.laws.specs.Numbers.{leBytes, beBytes}
 use Rattle.laws.proofs.Bytes.{bytes-take}
 use Rattle.sha512.specs.Computation.{digest, Sha512}
 use Rattle.hash.specs.Hashes.{H32, leafOf, linkOf}
-use Rattle.message.specs.Encode.{Field, words, values, encode}
-use Rattle.wire.specs.Packet.{mark, packetOf}
+use Rattle.wire_message.specs.Encode.{Field, words, values, encode}
+use Rattle.wire_packet.specs.Packet.{mark, packetOf}
 
 -- the fact as a record, so that antt finds the list
 pub record AreBytes (s : List ℕ) : Type 0 where

@@ -5,13 +5,13 @@ use Prim.Native.Nat.{ℕ, _*_, _≤_, _<_}
 use native.Mathlib.Omega.{arith}
 use lib.ListN.{length}
 use Rattle.tree.specs.Tree.{depthOf}
-use Rattle.batch.specs.Leaves.{countOf}
-use Rattle.batch.specs.Answers.{rootedOf, PlacesLeaf, pathBytes}
-use Rattle.batch.specs.declared.Rooted.{Rooted}
-use Rattle.batch.specs.declared.Placed.the-variants.{Written}
-use Rattle.batch.proofs.Leaves.{count-bounds}
-use Rattle.batch.proofs.Answers.{rooted-some, place-written}
-use Rattle.batch.proofs.Built.{path-bytes}
+use Rattle.tree_build.specs.Leaves.{countOf}
+use Rattle.tree_build.specs.Building.{rootedOf, PlacesLeaf, pathBytes}
+use Rattle.tree_build.specs.declared.Rooted.{Rooted}
+use Rattle.tree_build.specs.declared.Placed.the-variants.{Written}
+use Rattle.tree_build.proofs.Leaves.{count-bounds}
+use Rattle.tree_build.proofs.BuildingLaws.{rooted-some, place-written}
+use Rattle.tree_build.proofs.Built.{path-bytes}
 
 -- n leaves, of a tree of depth d
 module _ (n d : ℕ) (counted : countOf (32 * n) ≡ n) (deep : depthOf n ≡ d) (s : List ℕ) (long : length s ≡ 32 * n) where

@@ -11,15 +11,15 @@ use Rattle.laws.specs.First.{firstOf, whenOf}
 use Rattle.laws.proofs.First.{says-0, is-last, test-false}
 use Rattle.refusal.specs.Refusal.{refusals, first, when}
 use Rattle.refusal.specs.declared.Refusal.{Refusal}
-use Rattle.message.specs.Tags.{PATH}
-use Rattle.message.specs.Values.{valueOf}
+use Rattle.wire_message.specs.Tags.{PATH}
+use Rattle.wire_message.specs.Values.{valueOf}
 use Rattle.tree.specs.PathCheck.{leadsOf}
-use Rattle.wire.specs.Packet.{body}
-use Rattle.wire.specs.Response.{midpIn, mintIn, maxtIn}
-use Rattle.verdict.specs.Check.{pathMisses, timeOutside, answersCode, agreementCode, checkCode, windowIn, verdictOf}
-use Rattle.verdict.specs.Check.{verdictNumber}
-use Rattle.verdict.specs.declared.Verdict.the-variants.{Valid}
-use Rattle.verdict.proofs.Lent.{verdict-says, valid-by}
+use Rattle.wire_packet.specs.Packet.{body}
+use Rattle.wire_packet.specs.Response.{midpIn, mintIn, maxtIn}
+use Rattle.check_response.specs.Check.{pathMisses, timeOutside, answersCode, agreementCode, checkCode, windowIn, verdictOf}
+use Rattle.check_response.specs.Check.{verdictNumber}
+use Rattle.check_response.specs.declared.Verdict.the-variants.{Valid}
+use Rattle.check_response.proofs.Lent.{verdict-says, valid-by}
 use Rattle.examples.specs.Claims.{Before10, Climbs, Misses}
 
 -- what is left of the row of checks

@@ -6,19 +6,19 @@ use Prim.Native.Nat.{ℕ, _≤_}
 use lib.Dec.{T, eqb, eqb→eq}
 use lib.ListN.{length}
 use mir.Facts.{and-yes}
-use Rattle.verdict.specs.declared.Verdict.{Verdict}
+use Rattle.check_response.specs.declared.Verdict.{Verdict}
 use Rattle.pile.specs.Links.{linkedOf}
 use Rattle.pile.specs.Meaning.{GoodPile}
-use Rattle.runs.specs.Spans.{Answers}
-use Rattle.runs.specs.Convict.{Convicts, verdictIn}
-use Rattle.runs.specs.declared.Span.{Span}
-use Rattle.runs.specs.declared.Span.the-variants.{Places, Nothing}
-use Rattle.runs.proofs.Find.{runOf, run-exists}
-use Rattle.runs.proofs.SamePile.{alike-sym, alike-answer}
-use Rattle.report.specs.Report.{judged}
-use Rattle.report.specs.Taking.{ConvictsIn, Takes}
-use Rattle.report.specs.declared.Taken.{Taken}
-use Rattle.report.specs.declared.Taken.the-variants.{Run, NoRun}
+use Rattle.pile_runs.specs.Spans.{Answers}
+use Rattle.pile_runs.specs.Convict.{Convicts, verdictIn}
+use Rattle.pile_runs.specs.declared.Span.{Span}
+use Rattle.pile_runs.specs.declared.Span.the-variants.{Places, Nothing}
+use Rattle.pile_runs.proofs.Find.{runOf, run-exists}
+use Rattle.pile_runs.proofs.SamePile.{alike-sym, alike-answer}
+use Rattle.pile_report.specs.Report.{judged}
+use Rattle.pile_report.specs.Taking.{ConvictsIn, Takes}
+use Rattle.pile_report.specs.declared.Taken.{Taken}
+use Rattle.pile_report.specs.declared.Taken.the-variants.{Run, NoRun}
 use Rattle.examples.specs.Claims.{Finds, CutterSays}
 
 -- the run of a linked pile with these verdicts

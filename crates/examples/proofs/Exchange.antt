@@ -11,23 +11,23 @@ use Rattle.laws.specs.Upto.{upto}
 use Rattle.laws.proofs.Numbers.{le-written}
 use Rattle.laws.proofs.Same.{same-refl}
 use Rattle.hash.specs.Hashes.{leafOf}
-use Rattle.message.specs.Encode.{valueAmong}
-use Rattle.message.specs.Tags.{VER, NONC, DELE, PATH, RADI, MIDP, SREP, VERS, MINT, ROOT, CERT, MAXT, INDX}
-use Rattle.message.specs.Values.{valueOf}
-use Rattle.message.proofs.Encoded.{value-encoded}
+use Rattle.wire_message.specs.Encode.{valueAmong}
+use Rattle.wire_message.specs.Tags.{VER, NONC, DELE, PATH, RADI, MIDP, SREP, VERS, MINT, ROOT, CERT, MAXT, INDX}
+use Rattle.wire_message.specs.Values.{valueOf}
+use Rattle.wire_message.proofs.Encoded.{value-encoded}
 use Rattle.tree.specs.Tree.{nodesIn}
 use Rattle.tree.specs.PathCheck.{climb, reached, leadsOf}
-use Rattle.wire.specs.Packet.{body}
-use Rattle.wire.specs.Request.{requestBad, requestCode}
-use Rattle.wire.specs.Response.{srep, cert, dele, indxIn, verIn, versIn, radiIn, midpIn, mintIn, maxtIn}
-use Rattle.wire.proofs.GoodRequest.{good-request}
-use Rattle.wire.proofs.GoodResponse.{good-response}
-use Rattle.wire.proofs.PacketFields.{fields-value}
-use Rattle.wire.proofs.Versions.{one-version, version-held, version-test}
-use Rattle.verdict.specs.Check.{versionUnasked, versionDowngraded, nonceDiffers, pathMisses, answersCode, checkCode}
-use Rattle.verdict.specs.Check.{windowIn}
-use Rattle.verdict.specs.Window.{windowOf}
-use Rattle.verdict.proofs.Downgrade.{one-highest}
+use Rattle.wire_packet.specs.Packet.{body}
+use Rattle.wire_packet.specs.Request.{requestBad, requestCode}
+use Rattle.wire_packet.specs.Response.{srep, cert, dele, indxIn, verIn, versIn, radiIn, midpIn, mintIn, maxtIn}
+use Rattle.wire_packet.proofs.GoodRequest.{good-request}
+use Rattle.wire_packet.proofs.GoodResponse.{good-response}
+use Rattle.wire_packet.proofs.PacketFields.{fields-value}
+use Rattle.wire_packet.proofs.Versions.{one-version, version-held, version-test}
+use Rattle.check_response.specs.Check.{versionUnasked, versionDowngraded, nonceDiffers, pathMisses, answersCode, checkCode}
+use Rattle.check_response.specs.Check.{windowIn}
+use Rattle.check_response.specs.Window.{windowOf}
+use Rattle.check_response.proofs.Downgrade.{one-highest}
 use Rattle.examples.specs.Claims.{Before10, Climbs, Late}
 use Rattle.examples.proofs.Checking.{answers-left}
 use Rattle.examples.proofs.MadeRequest.{request, ask-packet, ask-good}

@@ -13,16 +13,16 @@ use Rattle.laws.proofs.First.{before-false}
 use Rattle.refusal.specs.Refusal.{refusals}
 use Rattle.hash.specs.Hashes.{linkOf}
 use Rattle.hash.proofs.Lengths.{length-H32}
-use Rattle.wire.specs.Blank.{zeros32}
-use Rattle.verdict.specs.Check.{answersCode, verdictBy}
+use Rattle.wire_packet.specs.Blank.{zeros32}
+use Rattle.check_response.specs.Check.{answersCode, verdictBy}
 use Rattle.pile.specs.Pile.{recordsIn, recordAt}
 use Rattle.pile.specs.Valid.{recordCode, recordVerdict}
 use Rattle.pile.specs.Links.{linkedOf}
 use Rattle.pile.specs.Meaning.{GoodPile, IsLinked, LinkReadable}
 use Rattle.pile.proofs.Exactly.{judged-at, readable-link-exactly}
-use Rattle.runs.specs.Convict.{verdictIn}
-use Rattle.runs.proofs.SamePile.{alike-same}
-use Rattle.report.specs.Report.{judged}
+use Rattle.pile_runs.specs.Convict.{verdictIn}
+use Rattle.pile_runs.proofs.SamePile.{alike-same}
+use Rattle.pile_report.specs.Report.{judged}
 use Rattle.examples.specs.Claims.{_±_}
 use Rattle.examples.specs.Spoken.{SomePile, Reply, verdictOn, verdictsOn, fits, allFit}
 use Rattle.examples.proofs.AreBytes.{AreBytes, bytes-zeros, bytes-link}

@@ -11,7 +11,7 @@ use lib.Seq.{take-at, take-all, take-append-seam, drop-at, drop-append-seam}
 use Rattle.laws.specs.Numbers.{le, leBytes}
 use Rattle.laws.specs.Zeros.{zeros}
 use Rattle.laws.proofs.Any.{any-not, any-none}
-use Rattle.wire.specs.Blank.{zeros32}
+use Rattle.wire_packet.specs.Blank.{zeros32}
 use Rattle.pile.specs.Pile.{randIn, requestLength, responseLength, requestArea, responseArea, requestPacket}
 use Rattle.pile.specs.Pile.{responsePacket}
 use Rattle.pile.specs.Valid.{areaBad, recordBad}

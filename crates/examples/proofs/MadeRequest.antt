@@ -9,13 +9,13 @@ use Rattle.laws.specs.Any.{any}
 use Rattle.laws.specs.Least.{least, somewhere}
 use Rattle.laws.specs.Numbers.{le, leBytes}
 use Rattle.laws.proofs.Numbers.{length-leBytes}
-use Rattle.message.specs.Encode.{Field, Fields, _≔_, encode, values, among, valueAmong}
-use Rattle.message.specs.Tags.{VER, NONC, TYPE}
-use Rattle.message.proofs.FieldsKept.{tagsWrong, fields-kept}
-use Rattle.wire.specs.Good.{PacketFields, GoodRequest}
-use Rattle.wire.specs.Packet.{packetOf}
-use Rattle.wire.proofs.PacketFields.{fields-packed}
-use Rattle.wire.proofs.Versions.{one-version, versions-good, version-held}
+use Rattle.wire_message.specs.Encode.{Field, Fields, _≔_, encode, values, among, valueAmong}
+use Rattle.wire_message.specs.Tags.{VER, NONC, TYPE}
+use Rattle.wire_message.proofs.FieldsKept.{tagsWrong, fields-kept}
+use Rattle.wire_packet.specs.Good.{PacketFields, GoodRequest}
+use Rattle.wire_packet.specs.Packet.{packetOf}
+use Rattle.wire_packet.proofs.PacketFields.{fields-packed}
+use Rattle.wire_packet.proofs.Versions.{one-version, versions-good, version-held}
 use Rattle.examples.proofs.AreBytes.{AreBytes, bytes-le, bytes-encode, bytes-packet}
 
 -- the request with this nonce

@@ -11,16 +11,16 @@ use Rattle.laws.specs.Numbers.{le, leBytes}
 use Rattle.laws.proofs.Numbers.{length-leBytes, le-written}
 use Rattle.hash.specs.Hashes.{leafOf}
 use Rattle.hash.proofs.Lengths.{length-leaf}
-use Rattle.message.specs.Encode.{Field, Fields, _≔_, encode, values, among, valueAmong}
-use Rattle.message.specs.Tags.{SIG, VER, NONC, DELE, TYPE, PATH, RADI, PUBK, MIDP, SREP, VERS, MINT, ROOT, CERT}
-use Rattle.message.specs.Tags.{MAXT, INDX}
-use Rattle.message.proofs.Encoded.{length-encoded}
-use Rattle.message.proofs.FieldsKept.{tagsWrong, fields-kept}
-use Rattle.wire.specs.Blank.{zeros32, zeros64}
-use Rattle.wire.specs.Good.{PacketFields, GoodResponse}
-use Rattle.wire.specs.Packet.{packetOf}
-use Rattle.wire.proofs.PacketFields.{fields-packed}
-use Rattle.wire.proofs.Versions.{one-version, versions-good, version-held}
+use Rattle.wire_message.specs.Encode.{Field, Fields, _≔_, encode, values, among, valueAmong}
+use Rattle.wire_message.specs.Tags.{SIG, VER, NONC, DELE, TYPE, PATH, RADI, PUBK, MIDP, SREP, VERS, MINT, ROOT, CERT}
+use Rattle.wire_message.specs.Tags.{MAXT, INDX}
+use Rattle.wire_message.proofs.Encoded.{length-encoded}
+use Rattle.wire_message.proofs.FieldsKept.{tagsWrong, fields-kept}
+use Rattle.wire_packet.specs.Blank.{zeros32, zeros64}
+use Rattle.wire_packet.specs.Good.{PacketFields, GoodResponse}
+use Rattle.wire_packet.specs.Packet.{packetOf}
+use Rattle.wire_packet.proofs.PacketFields.{fields-packed}
+use Rattle.wire_packet.proofs.Versions.{one-version, versions-good, version-held}
 use Rattle.examples.proofs.AreBytes.{AreBytes, bytes-zeros, bytes-le, bytes-leaf, bytes-encode, bytes-packet}
 use Rattle.examples.proofs.MadeRequest.{request}
 

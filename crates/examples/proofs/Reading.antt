@@ -6,19 +6,19 @@ use Prim.Native.Nat.{ℕ, zero, suc, _+_, _-_, _≤_, _<_}
 use native.Mathlib.Omega.{arith}
 use lib.ListN.{length}
 use Rattle.laws.proofs.First.{says-0, says-more, is-last, none-quiet}
-use Rattle.refusal.specs.Refusal.{refusals, first, moved}
+use Rattle.refusal.specs.Refusal.{refusals, first, shifted}
 use Rattle.refusal.specs.declared.Refusal.{Refusal}
-use Rattle.message.specs.Frame.{count, tagAt, frameCode}
-use Rattle.message.specs.Rules.{Row, messageCode}
-use Rattle.message.specs.Sentences.{TagsRise}
-use Rattle.message.proofs.Codes.{code-5}
-use Rattle.wire.specs.Packet.{packetCode, packetOf, body, bodyStart}
-use Rattle.wire.specs.Request.{requestCode, requestMessageCode}
-use Rattle.wire.specs.Response.{responseCode, responseMessageCode, shapeCode}
-use Rattle.wire.specs.Tables.{requestTable, rootTable}
-use Rattle.wire.proofs.Packets.{length-packet, body-packed, packet-packed}
-use Rattle.wire.proofs.RequestCodes.{request-says}
-use Rattle.wire.proofs.ResponseCodes.{response-says}
+use Rattle.wire_message.specs.Frame.{count, tagAt, frameCode}
+use Rattle.wire_message.specs.Rules.{TagRule, messageCode}
+use Rattle.wire_message.specs.Sentences.{TagsRise}
+use Rattle.wire_message.proofs.Codes.{code-5}
+use Rattle.wire_packet.specs.Packet.{packetCode, packetOf, body, bodyStart}
+use Rattle.wire_packet.specs.Request.{requestCode, requestMessageCode}
+use Rattle.wire_packet.specs.Response.{responseCode, responseMessageCode, shapeCode}
+use Rattle.wire_packet.specs.Tables.{requestTable, rootTable}
+use Rattle.wire_packet.proofs.Packets.{length-packet, body-packed, packet-packed}
+use Rattle.wire_packet.proofs.RequestCodes.{request-says}
+use Rattle.wire_packet.proofs.ResponseCodes.{response-says}
 use Rattle.examples.specs.Claims.{EqualTags, Refuses}
 
 -- equal refusals have one number
@@ -33,21 +33,21 @@ message-next f m h =
     says-0 refusals _ _ refl (none-quiet refusals (sym (packet-packed m short)))
     (is-last refusals (ap f (sym (body-packed m))))
 
-module _ (m : List ℕ) (code : ℕ) (some : 0 < code) (tabled : (rows : List Row) → messageCode m rows .code ≡ code) where
-  refused : (rows : List Row) → messageCode m rows .code ≡ 0 → ⊥
+module _ (m : List ℕ) (code : ℕ) (some : 0 < code) (tabled : (rows : List TagRule) → messageCode m rows .code ≡ code) where
+  refused : (rows : List TagRule) → messageCode m rows .code ≡ 0 → ⊥
   refused rows z = omega (arith, tabled rows)
 
   request-refused : length (packetOf m) ≤ 2000 → requestCode (packetOf m) .code ≡ code
   unfolding requestCode requestMessageCode
   request-refused h =
-      sym (code-of (message-next (λ s. moved bodyStart (requestMessageCode s)) m h))
+      sym (code-of (message-next (λ s. shifted bodyStart (requestMessageCode s)) m h))
       ∙ sym (code-of (says-more refusals _ refl (refused requestTable)))
       ∙ tabled requestTable
 
   response-refused : length (packetOf m) ≤ 2000 → responseCode (packetOf m) .code ≡ code
   unfolding responseCode responseMessageCode shapeCode
   response-refused h =
-      sym (code-of (message-next (λ s. moved bodyStart (responseMessageCode s)) m h))
+      sym (code-of (message-next (λ s. shifted bodyStart (responseMessageCode s)) m h))
       ∙ sym (code-of (says-more refusals _ (says-more refusals _ refl (refused rootTable)) (refused rootTable)))
       ∙ tabled rootTable
 

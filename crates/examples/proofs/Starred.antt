@@ -12,12 +12,12 @@ use Rattle.laws.specs.First.{firstOf, whenOf}
 use Rattle.laws.specs.Least.{least, somewhere}
 use Rattle.laws.specs.Numbers.{le}
 use Rattle.refusal.specs.declared.Refusal.{Refusal}
-use Rattle.message.specs.Frame.{offset, lengthBad, countBad, frameCode}
+use Rattle.wire_message.specs.Frame.{offset, lengthBad, countBad, frameCode}
 use Rattle.tree.specs.Tree.{depthOf}
-use Rattle.batch.specs.Leaves.{countOf}
-use Rattle.runs.specs.Clash.{windowsClash}
-use Rattle.report.specs.Taking.{takenNumber}
-use Rattle.report.specs.declared.Taken.the-variants.{NoRun}
+use Rattle.tree_build.specs.Leaves.{countOf}
+use Rattle.pile_runs.specs.Clash.{windowsClash}
+use Rattle.pile_report.specs.Taking.{takenNumber}
+use Rattle.pile_report.specs.declared.Taken.the-variants.{NoRun}
 use Rattle.examples.specs.Claims.{Row, low-end, high-end, contradicts, run, no-run, depth, path, indx, at-maxt}
 use Rattle.examples.specs.Claims.{above-maxt, message, equal-tags, _and_, Claim, Refuses}
 use Rattle.examples.specs.Table.{table, Each}

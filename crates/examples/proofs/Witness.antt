@@ -14,16 +14,16 @@ use Rattle.laws.specs.Least.{least, somewhere}
 use Rattle.laws.specs.Numbers.{le, leBytes}
 use Rattle.refusal.specs.Refusal.{refusal}
 use Rattle.refusal.specs.declared.Refusal.{Refusal}
-use Rattle.message.specs.Encode.{words}
-use Rattle.message.specs.Frame.{offset, lengthBad, countBad, frameCode}
-use Rattle.message.specs.Rules.{messageCode}
-use Rattle.message.specs.Tags.{NONC}
-use Rattle.message.proofs.Codes.{code-5}
-use Rattle.wire.specs.Blank.{zeros32}
-use Rattle.wire.specs.Packet.{packetOf}
-use Rattle.wire.proofs.Packets.{length-packet}
-use Rattle.verdict.specs.Check.{answersCode}
-use Rattle.verdict.specs.declared.Verdict.the-variants.{Refused}
+use Rattle.wire_message.specs.Encode.{words}
+use Rattle.wire_message.specs.Frame.{offset, lengthBad, countBad, frameCode}
+use Rattle.wire_message.specs.Rules.{messageCode}
+use Rattle.wire_message.specs.Tags.{NONC}
+use Rattle.wire_message.proofs.Codes.{code-5}
+use Rattle.wire_packet.specs.Blank.{zeros32}
+use Rattle.wire_packet.specs.Packet.{packetOf}
+use Rattle.wire_packet.proofs.Packets.{length-packet}
+use Rattle.check_response.specs.Check.{answersCode}
+use Rattle.check_response.specs.declared.Verdict.the-variants.{Refused}
 use Rattle.examples.specs.Claims.{Climbs, Late, EqualTags}
 use Rattle.examples.specs.Table.{table}
 use Rattle.examples.specs.Spoken.{SomeBytes, SomePile, SomeExchange, EachSpeaks, Reply, verdictOn}

@@ -6,38 +6,38 @@ use mathlib.Core.Bool.{Bool, true, false}
 use mathlib.Core.List.{List}
 use Prim.Native.Nat.{ℕ, _+_, _*_, _-_, _^_, _≤_, _<_}
 use lib.ListN.{length}
-use Rattle.message.specs.Frame.{count, tagAt}
-use Rattle.message.specs.Rules.{messageCode}
-use Rattle.message.specs.Rules as rules
-use Rattle.message.specs.Sentences.{Good}
-use Rattle.message.specs.Tags.{PATH}
-use Rattle.message.specs.Values.{valueOf}
-use Rattle.wire.specs.Packet.{packetOf, body}
-use Rattle.wire.specs.Request.{requestOf, requestBad}
-use Rattle.wire.specs.Response.{indxIn, midpIn, mintIn, maxtIn, responseCode, responseOf}
+use Rattle.wire_message.specs.Frame.{count, tagAt}
+use Rattle.wire_message.specs.Rules.{messageCode}
+use Rattle.wire_message.specs.Rules as rules
+use Rattle.wire_message.specs.Sentences.{Good}
+use Rattle.wire_message.specs.Tags.{PATH}
+use Rattle.wire_message.specs.Values.{valueOf}
+use Rattle.wire_packet.specs.Packet.{packetOf, body}
+use Rattle.wire_packet.specs.Request.{requestOf, requestBad}
+use Rattle.wire_packet.specs.Response.{indxIn, midpIn, mintIn, maxtIn, responseCode, responseOf}
 use Rattle.tree.specs.PathCheck.{leadsOf}
-use Rattle.batch.specs.Leaves.{countOf}
-use Rattle.batch.specs.Answers.{rootedOf, PlacesLeaf, pathBytes}
-use Rattle.batch.specs.declared.Placed.the-variants.{Written}
-use Rattle.verdict.specs.Window.{windowOf}
-use Rattle.verdict.specs.Check.{versionUnasked, versionDowngraded, nonceDiffers, pathMisses, windowIn, verdictOf}
-use Rattle.verdict.specs.Check.{verdictNumber}
-use Rattle.verdict.specs.declared.Verdict.{Verdict}
-use Rattle.verdict.specs.declared.Verdict.the-variants.{Valid}
-use Rattle.verdict.specs.declared.Window.{Window}
+use Rattle.tree_build.specs.Leaves.{countOf}
+use Rattle.tree_build.specs.Building.{rootedOf, PlacesLeaf, pathBytes}
+use Rattle.tree_build.specs.declared.Placed.the-variants.{Written}
+use Rattle.check_response.specs.Window.{windowOf}
+use Rattle.check_response.specs.Check.{versionUnasked, versionDowngraded, nonceDiffers, pathMisses, windowIn, verdictOf}
+use Rattle.check_response.specs.Check.{verdictNumber}
+use Rattle.check_response.specs.declared.Verdict.{Verdict}
+use Rattle.check_response.specs.declared.Verdict.the-variants.{Valid}
+use Rattle.check_response.specs.declared.Window.{Window}
 use Rattle.pile.specs.Pile.{recordsIn}
 use Rattle.pile.specs.Links.{linkedOf}
 use Rattle.pile.specs.Meaning.{GoodPile}
-use Rattle.runs.specs.Alike.{Alike}
-use Rattle.runs.specs.Clash.{windowsClash}
-use Rattle.runs.specs.Spans.{Answers}
-use Rattle.runs.specs.Convict.{Convicts, verdictIn}
-use Rattle.runs.specs.declared.Span.{Span}
-use Rattle.runs.specs.declared.Span.the-variants.{Places, Nothing}
-use Rattle.report.specs.Report.{judged}
-use Rattle.report.specs.Taking.{Takes, takenNumber}
-use Rattle.report.specs.declared.Taken.{Taken}
-use Rattle.report.specs.declared.Taken.the-variants.{Run, NoRun}
+use Rattle.pile_runs.specs.Alike.{Alike}
+use Rattle.pile_runs.specs.Clash.{windowsClash}
+use Rattle.pile_runs.specs.Spans.{Answers}
+use Rattle.pile_runs.specs.Convict.{Convicts, verdictIn}
+use Rattle.pile_runs.specs.declared.Span.{Span}
+use Rattle.pile_runs.specs.declared.Span.the-variants.{Places, Nothing}
+use Rattle.pile_report.specs.Report.{judged}
+use Rattle.pile_report.specs.Taking.{Takes, takenNumber}
+use Rattle.pile_report.specs.declared.Taken.{Taken}
+use Rattle.pile_report.specs.declared.Taken.the-variants.{Run, NoRun}
 
 -- the window of a response that says MIDP and RADI; MINT and MAXT, of which no example speaks, are as wide as can be
 infix 80 _±_
@@ -130,9 +130,9 @@ pub record EqualTags (m : List ℕ) : Type 0 where
 -- every reader gives this code to the message m: by any table, and, where its packet has at most 2,000 bytes, as the
 -- message of a request and of a response
 pub record Refuses (m : List ℕ) (code : ℕ) : Type 0 where
-  pub by-table : (rows : List rules.Row) → messageCode m rows .code ≡ code
-  pub in-request : length (packetOf m) ≤ 2000 → requestOf (packetOf m) .answer .code ≡ code
-  pub in-response : length (packetOf m) ≤ 2000 → responseOf (packetOf m) .answer .code ≡ code
+  pub by-table : (rows : List rules.TagRule) → messageCode m rows .code ≡ code
+  pub in-request : length (packetOf m) ≤ 2000 → requestOf (packetOf m) .refusal .code ≡ code
+  pub in-response : length (packetOf m) ≤ 2000 → responseOf (packetOf m) .refusal .code ≡ code
 
 -- ---- what they claim
 

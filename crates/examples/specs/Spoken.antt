@@ -7,9 +7,9 @@ use Prim.Native.Nat.{ℕ, _*_, _^_, _≤_}
 use lib.Dec.{ltb}
 use lib.ListN.{length}
 use Rattle.laws.specs.Bytes.{Bytes}
-use Rattle.wire.specs.Packet.{packetOf}
-use Rattle.verdict.specs.Check.{answersCode, verdictBy}
-use Rattle.verdict.specs.declared.Verdict.{Verdict}
+use Rattle.wire_packet.specs.Packet.{packetOf}
+use Rattle.check_response.specs.Check.{answersCode, verdictBy}
+use Rattle.check_response.specs.declared.Verdict.{Verdict}
 use Rattle.examples.specs.Claims.{_±_, Row, low-end, high-end, contradicts, run, no-run, depth, path, indx}
 use Rattle.examples.specs.Claims.{at-maxt, above-maxt, message, equal-tags, _and_}
 use Rattle.examples.specs.Claims.{Linked, Climbs, Late, EqualTags}

@@ -4,7 +4,7 @@ use mathlib.Core.List.{List, [], _∷_}
 use Prim.Native.Nat.{_-_, _^_}
 use lib.ListN.{replicate}
 use Rattle.refusal.specs.declared.Refusal.{Refusal}
-use Rattle.verdict.specs.declared.Verdict.the-variants.{Valid, Refused}
+use Rattle.check_response.specs.declared.Verdict.the-variants.{Valid, Refused}
 use Rattle.examples.specs.Claims.{_±_, Row, low-end, high-end, contradicts, run, no-run, depth, path, indx}
 use Rattle.examples.specs.Claims.{at-maxt, above-maxt, message, equal-tags, _and_, Claim}
 

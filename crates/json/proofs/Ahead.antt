@@ -6,13 +6,13 @@ use native.Mathlib.Omega.{arith}
 use lib.Dec.{eqb}
 use lib.ListN.{length, getD}
 use Rattle.laws.specs.Pick.{pick}
-use Rattle.tokens.specs.declared.Skip.{Skip}
-use Rattle.tokens.specs.declared.Skip.the-variants.{Bad}
-use Rattle.tokens.specs.Scan.{blank, pastWhile}
-use Rattle.tokens.proofs.Ahead.{of-pick, ahead-number, ahead-colon, forth-then, forth-after}
-use Rattle.tokens.proofs.While.{while-ahead}
-use Rattle.tokens.proofs.Turns.{Ahead, Forth, back, ahead-walked}
-use Rattle.strings.proofs.Ahead.{ahead-string}
+use Rattle.json_tokens.specs.declared.Skip.{Skip}
+use Rattle.json_tokens.specs.declared.Skip.the-variants.{Bad}
+use Rattle.json_tokens.specs.Scan.{blank, pastWhile}
+use Rattle.json_tokens.proofs.Ahead.{of-pick, ahead-number, ahead-colon, forth-then, forth-after}
+use Rattle.json_tokens.proofs.While.{while-ahead}
+use Rattle.json_tokens.proofs.Turns.{Ahead, Forth, back, ahead-walked}
+use Rattle.json_strings.proofs.Ahead.{ahead-string}
 use Rattle.json.specs.Value.{literalAt, plainAt, itemStep, memberStep, arrayOf, objectOf, valueBy, valueAt}
 use Rattle.json.specs.Value.{arrayAt, objectAt}
 

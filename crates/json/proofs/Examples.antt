@@ -8,12 +8,12 @@ use Rattle.laws.specs.Ascii.{ascii}
 use Rattle.laws.specs.Pick.{pick, either, both}
 use Rattle.json.specs.declared.Found.{Found}
 use Rattle.json.specs.declared.Found.the-variants.{At, Nothing, Twice}
-use Rattle.tokens.specs.Scan.{then, thenStep, pastWhile, after, pastColon}
-use Rattle.tokens.specs.Walk.{onward, walk, moreOf, starts}
-use Rattle.tokens.specs.Number.{someDigits, pastMinus, pastSign, wholeAt, fractionAt, signedAt, exponentAt}
-use Rattle.tokens.specs.Number.{integerAt, numberAt}
-use Rattle.strings.specs.Text.{escapeOf, nibbleOf, nibbleAt, hexAt, escapeAt, leastSecond, mostSecond, secondAt}
-use Rattle.strings.specs.Text.{tailAt, longAt, wideAt, unitAt, unitStep, stringAt, codesAt, contentAt, sameList}
+use Rattle.json_tokens.specs.Scan.{then, thenStep, pastWhile, after, pastColon}
+use Rattle.json_tokens.specs.Walk.{onward, walk, moreOf, starts}
+use Rattle.json_tokens.specs.Number.{someDigits, pastMinus, pastSign, wholeAt, fractionAt, signedAt, exponentAt}
+use Rattle.json_tokens.specs.Number.{integerAt, numberAt}
+use Rattle.json_strings.specs.Text.{escapeOf, nibbleOf, nibbleAt, hexAt, escapeAt, leastSecond, mostSecond, secondAt}
+use Rattle.json_strings.specs.Text.{tailAt, longAt, wideAt, unitAt, unitStep, stringAt, codesAt, contentAt, sameList}
 use Rattle.json.specs.Value.{literalAt, plainAt, itemStep, memberStep, arrayOf, objectOf, valueBy, valueAt}
 use Rattle.json.specs.Value.{endsAt, isText}
 use Rattle.json.specs.Members.{membersOf, named, placeOf, valuePlace, answerOf, countOf, tally, foundOf}

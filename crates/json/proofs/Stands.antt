@@ -6,11 +6,11 @@ use mathlib.Core.List.{List, _∷_, _++_}
 use native.Mathlib.Omega.{arith}
 use lib.ListN.{length}
 use Rattle.laws.specs.Pick.{pick}
-use Rattle.tokens.specs.declared.Skip.{Skip}
-use Rattle.tokens.specs.declared.Skip.the-variants.{Past}
-use Rattle.tokens.specs.Scan.{thenStep, blank, after}
-use Rattle.tokens.proofs.Stands.{Stands, stands-right, stands-at, stands-next, colon-reads}
-use Rattle.strings.proofs.Plain.{Each, string-reads}
+use Rattle.json_tokens.specs.declared.Skip.{Skip}
+use Rattle.json_tokens.specs.declared.Skip.the-variants.{Past}
+use Rattle.json_tokens.specs.Scan.{thenStep, blank, after}
+use Rattle.json_tokens.proofs.Stands.{Stands, stands-right, stands-at, stands-next, colon-reads}
+use Rattle.json_strings.proofs.Plain.{Each, string-reads}
 use Rattle.json.specs.Value.{plainAt, valueAt, memberStep}
 use Rattle.json.proofs.Ahead.{value-is}
 

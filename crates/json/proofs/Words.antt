@@ -9,7 +9,7 @@ use lib.ListN.{length, getD, drop, drop-of-length-le}
 use lib.Seq.{drop-cons}
 use borrow.Author.Tests.{eq-eqb, ne-eqb}
 use Rattle.laws.specs.Pick.{both}
-use Rattle.tokens.specs.Scan.{startsWith}
+use Rattle.json_tokens.specs.Scan.{startsWith}
 
 module _ (s w : List ℕ) (k : ℕ) where
   pub word-more : k < length w → k < length s → getD s k 0 ≡ getD w k 0

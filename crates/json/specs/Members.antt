@@ -5,13 +5,13 @@ use mathlib.Core.List.{List, [], _∷_}
 use lib.Dec.{eqb}
 use lib.ListN.{length, getD}
 use Rattle.laws.specs.Pick.{pick}
-use Rattle.tokens.specs.declared.Skip.{Skip}
-use Rattle.tokens.specs.declared.Skip.the-variants.{Past, Bad}
+use Rattle.json_tokens.specs.declared.Skip.{Skip}
+use Rattle.json_tokens.specs.declared.Skip.the-variants.{Past, Bad}
 use Rattle.json.specs.declared.Found.{Found}
 use Rattle.json.specs.declared.Found.the-variants.{At, Nothing, Twice}
-use Rattle.tokens.specs.Scan.{then, pastBlanks, pastColon}
-use Rattle.tokens.specs.Walk.{starts}
-use Rattle.strings.specs.Text.{stringAt, contentAt, sameList}
+use Rattle.json_tokens.specs.Scan.{then, pastBlanks, pastColon}
+use Rattle.json_tokens.specs.Walk.{starts}
+use Rattle.json_strings.specs.Text.{stringAt, contentAt, sameList}
 use Rattle.json.specs.Value.{valueAt, memberStep}
 
 -- the places of the members of the object at a place, where its values are nested at most d deep

@@ -4,15 +4,15 @@ use mathlib.Core.Bool.{Bool, true, false}
 use mathlib.Core.List.{List, [], _∷_}
 use lib.Dec.{eqb}
 use lib.ListN.{length, getD, drop}
-use Rattle.tokens.specs.declared.Skip.{Skip}
-use Rattle.tokens.specs.declared.Skip.the-variants.{Past, Bad}
-use Rattle.tokens.specs.declared.Step.{Step}
-use Rattle.tokens.specs.declared.Step.the-variants.{More, End, Wrong}
+use Rattle.json_tokens.specs.declared.Skip.{Skip}
+use Rattle.json_tokens.specs.declared.Skip.the-variants.{Past, Bad}
+use Rattle.json_tokens.specs.declared.Step.{Step}
+use Rattle.json_tokens.specs.declared.Step.the-variants.{More, End, Wrong}
 use Rattle.laws.specs.Pick.{pick}
-use Rattle.tokens.specs.Scan.{then, thenStep, startsWith, pastBlanks, after, pastColon}
-use Rattle.tokens.specs.Walk.{walked}
-use Rattle.tokens.specs.Number.{numberAt}
-use Rattle.strings.specs.Text.{stringAt}
+use Rattle.json_tokens.specs.Scan.{then, thenStep, startsWith, pastBlanks, after, pastColon}
+use Rattle.json_tokens.specs.Walk.{walked}
+use Rattle.json_tokens.specs.Number.{numberAt}
+use Rattle.json_strings.specs.Text.{stringAt}
 
 unfoldable pub literalAt : List ℕ → List ℕ → ℕ → Skip
 literalAt w s at = pick (startsWith w (drop at s)) (Past (at + length w)) Bad

@@ -6,13 +6,13 @@ ghost use Rattle.json.specs.Members.{named, valuePlace, answerOf, countO
 ghost use Rattle.laws.specs.Pick.{pick};
 use super::Found;
 use super::values::member;
-use strings::holds;
-use strings::string;
-use tokens::Skip;
-use tokens::Step;
-use tokens::blanks;
-use tokens::byte;
-use tokens::colon;
+use json_strings::holds;
+use json_strings::string;
+use json_tokens::Skip;
+use json_tokens::Step;
+use json_tokens::blanks;
+use json_tokens::byte;
+use json_tokens::colon;
 
 fn is_named(s: &[u8], k: usize, w: &[u8]) -> bool
     ensures { λ r. ⌜ r ≡ named (now (s .entry)) (now (w .entry)) k ⌝ }

@@ -2,16 +2,16 @@
 ghost use mathlib.Core.Path.{_≡_};
 ghost use Prim.Native.Nat.{_+_, _≤_, _<_};
 ghost use lib.ListN.{length};
-ghost use Rattle.tokens.specs.Scan.{startsWith};
+ghost use Rattle.json_tokens.specs.Scan.{startsWith};
 ghost use Rattle.json.specs.Value.{literalAt, plainAt, valueAt, arrayAt, objectAt, itemStep, memberStep, isText};
-use strings::string;
-use tokens::Skip;
-use tokens::Step;
-use tokens::after_item;
-use tokens::blanks;
-use tokens::byte;
-use tokens::colon;
-use tokens::number;
+use json_strings::string;
+use json_tokens::Skip;
+use json_tokens::Step;
+use json_tokens::after_item;
+use json_tokens::blanks;
+use json_tokens::byte;
+use json_tokens::colon;
+use json_tokens::number;
 
 // The bytes at the front are those of the word.
 fn starts_with(s: &[u8], w: &[u8]) -> bool

@@ -5,8 +5,8 @@ use Prim.Native.Nat.{ℕ, zero, suc, _+_, _/_, _%_}
 use lib.Dec.{ltb}
 use Rattle.laws.specs.Ascii.{ascii}
 use Rattle.refusal.specs.Refusal.{carries}
-use Rattle.verdict.specs.declared.Verdict.{Verdict}
-use Rattle.verdict.specs.declared.Verdict.the-variants.{Valid, Refused}
+use Rattle.check_response.specs.declared.Verdict.{Verdict}
+use Rattle.check_response.specs.declared.Verdict.the-variants.{Valid, Refused}
 
 -- n in decimal: its tens, where it has any, and then its last digit; of a longer number the last k digits
 unfoldable pub decimalIn : ℕ → ℕ → List ℕ

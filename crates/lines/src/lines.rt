@@ -7,9 +7,9 @@ use super::pieces::put_number;
 use super::pieces::put_spaced;
 use super::pieces::put_two;
 use super::pieces::put_word;
+use check_response::Verdict;
+use check_response::Window;
 use refusal::codes;
-use verdict::Verdict;
-use verdict::Window;
 
 // A word and a number.
 pub fn put_labelled(out: &mut [u8], at: usize, word: &[u8], x: u64) -> usize

@@ -21,15 +21,15 @@ use Rattle.laws.proofs.Same.{same-refl, same-true}
 use Rattle.laws.proofs.Zeros.{zeros-at, zeros-all}
 use Rattle.refusal.specs.Refusal.{refusals}
 use Rattle.refusal.specs.declared.Refusal.{Refusal}
-use Rattle.verdict.specs.Check.{checkCode}
-use Rattle.verdict.specs.declared.Verdict.the-variants.{Valid, Refused}
-use Rattle.verdict.specs.declared.Window.{Window}
-use Rattle.verdict.proofs.Exactly.{passes-code, code-exactly}
-use Rattle.verdict.proofs.Lent.{by-valid, valid-by, by-refused, key-by, no-key}
-use Rattle.wire.specs.Blank.{zeros32}
-use Rattle.wire.specs.Request.{requestBad, requestCode}
-use Rattle.wire.proofs.GoodRequest.{good-request, request-good}
-use Rattle.wire.proofs.RequestCodes.{lent-good}
+use Rattle.check_response.specs.Check.{checkCode}
+use Rattle.check_response.specs.declared.Verdict.the-variants.{Valid, Refused}
+use Rattle.check_response.specs.declared.Window.{Window}
+use Rattle.check_response.proofs.Exactly.{passes-code, code-exactly}
+use Rattle.check_response.proofs.Lent.{by-valid, valid-by, by-refused, key-by, no-key}
+use Rattle.wire_packet.specs.Blank.{zeros32}
+use Rattle.wire_packet.specs.Request.{requestBad, requestCode}
+use Rattle.wire_packet.proofs.GoodRequest.{good-request, request-good}
+use Rattle.wire_packet.proofs.RequestCodes.{lent-good}
 use Rattle.pile.specs.Pile.{recordsIn, recordAt, requestLength, responseLength, requestPacket, responsePacket}
 use Rattle.pile.specs.Pile.{saidYes, aboveOne, lengthBad, answerBad, pileBad, pileCode}
 use Rattle.pile.specs.Valid.{areaBad, recordBad, recordCode, recordVerdict, verdictAt, windowAt}

@@ -2,9 +2,9 @@
 use mathlib.Core.Path.{_≡_, ap, ap₂, _∙_}
 use mathlib.Core.List.{List}
 use Prim.Native.Nat.{ℕ}
-use Rattle.verdict.specs.Check.{verdictBy, keyBy, verdictNumber}
-use Rattle.verdict.specs.declared.Verdict.{Verdict}
-use Rattle.verdict.proofs.Lent.{verdict-says}
+use Rattle.check_response.specs.Check.{verdictBy, keyBy, verdictNumber}
+use Rattle.check_response.specs.declared.Verdict.{Verdict}
+use Rattle.check_response.proofs.Lent.{verdict-says}
 use Rattle.pile.specs.Valid.{windowAt, pubkAt, judgeCode, judgementOf}
 use Rattle.pile.specs.declared.Judgement.{Judgement}
 

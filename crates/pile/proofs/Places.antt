@@ -4,10 +4,10 @@ use Prim.Native.Nat.{ℕ, _+_, _*_}
 use mathlib.Core.List.{List}
 use mathlib.Core.Bool.{Bool}
 use native.Mathlib.Omega.{arith}
-use Rattle.wire.specs.Places.{Carries, Bare, ToldIn}
-use Rattle.wire.proofs.Bare.{when-bare, first-bare, end-bare}
-use Rattle.wire.proofs.Places.{over-told, row-told, end-told}
-use Rattle.verdict.proofs.Places.{check-place, check-bare}
+use Rattle.wire_packet.specs.Places.{Carries, Bare, ToldIn}
+use Rattle.wire_packet.proofs.Bare.{when-bare, first-bare, end-bare}
+use Rattle.wire_packet.proofs.Places.{over-told, row-told, end-told}
+use Rattle.check_response.proofs.Places.{check-place, check-bare}
 use Rattle.pile.specs.Pile.{recordAt, requestPacket, responsePacket, saidYes}
 use Rattle.pile.specs.Valid.{recordCode, judgeCode}
 

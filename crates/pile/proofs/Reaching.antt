@@ -6,7 +6,7 @@ use mathlib.Core.Bool.{Bool, false}
 use borrow.Author.Tests.{ltb-false}
 use lib.ListN.{length}
 use Rattle.laws.proofs.Any.{any-parts}
-use Rattle.wire.proofs.RequestCodes.{lent-body}
+use Rattle.wire_packet.proofs.RequestCodes.{lent-body}
 use Rattle.pile.specs.Pile.{requestLength, responseLength, requestArea, responseArea}
 use Rattle.pile.specs.Facts.{Readable}
 use Rattle.pile.specs.Links.{unreadable}

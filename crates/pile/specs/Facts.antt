@@ -3,8 +3,8 @@ use Prim.Native.Nat.{ℕ, _≤_}
 use mathlib.Core.Path.{_≡_}
 use mathlib.Core.List.{List}
 use lib.ListN.{length}
-use Rattle.wire.specs.Facts.{Asks}
-use Rattle.wire.specs.Packet.{body}
+use Rattle.wire_packet.specs.Facts.{Asks}
+use Rattle.wire_packet.specs.Packet.{body}
 use Rattle.pile.specs.Pile.{requestLength, responseLength, requestPacket}
 
 -- the response packet of the record b and the NONC of r's request can be read

@@ -11,10 +11,10 @@ use Rattle.hash.specs.Hashes.{linkOf}
 use Rattle.laws.specs.Any.{any}
 use Rattle.laws.specs.Same.{same}
 use Rattle.laws.specs.Zeros.{zeros}
-use Rattle.message.specs.Tags.{NONC}
-use Rattle.message.specs.Values.{valueOf}
-use Rattle.wire.specs.Packet.{body}
-use Rattle.wire.specs.Request.{requestBad}
+use Rattle.wire_message.specs.Tags.{NONC}
+use Rattle.wire_message.specs.Values.{valueOf}
+use Rattle.wire_packet.specs.Packet.{body}
+use Rattle.wire_packet.specs.Request.{requestBad}
 use Rattle.pile.specs.Pile.{recordsIn, recordAt, randIn, requestLength, responseLength, requestPacket}
 use Rattle.pile.specs.Pile.{responsePacket, lengthBad}
 

@@ -5,11 +5,11 @@ use mathlib.Core.Path.{_≡_}
 use mathlib.Core.List.{List}
 use lib.ListN.{length, getD}
 use Rattle.hash.specs.Hashes.{linkOf}
-use Rattle.message.specs.Tags.{NONC}
-use Rattle.message.specs.Values.{valueOf}
-use Rattle.verdict.specs.Passes.{Passes}
-use Rattle.wire.specs.Good.{GoodRequest}
-use Rattle.wire.specs.Packet.{body}
+use Rattle.wire_message.specs.Tags.{NONC}
+use Rattle.wire_message.specs.Values.{valueOf}
+use Rattle.check_response.specs.Passes.{Passes}
+use Rattle.wire_packet.specs.Good.{GoodRequest}
+use Rattle.wire_packet.specs.Packet.{body}
 use Rattle.pile.specs.Pile.{recordsIn, recordAt, randIn, requestLength, responseLength, requestPacket}
 use Rattle.pile.specs.Pile.{responsePacket, saidYes}
 

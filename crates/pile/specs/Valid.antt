@@ -11,11 +11,11 @@ use Rattle.laws.specs.Pasted.{part}
 use Rattle.laws.specs.Zeros.{zeros}
 use Rattle.refusal.specs.Refusal.{first, when}
 use Rattle.refusal.specs.declared.Refusal.{Refusal}
-use Rattle.verdict.specs.Check.{checkCode, windowIn, pubkIn, verdictBy, keyBy}
-use Rattle.verdict.specs.declared.Checked.{Checked}
-use Rattle.verdict.specs.declared.Verdict.{Verdict}
-use Rattle.verdict.specs.declared.Window.{Window}
-use Rattle.wire.specs.Packet.{body}
+use Rattle.check_response.specs.Check.{checkCode, windowIn, pubkIn, verdictBy, keyBy}
+use Rattle.check_response.specs.declared.Checked.{Checked}
+use Rattle.check_response.specs.declared.Verdict.{Verdict}
+use Rattle.check_response.specs.declared.Window.{Window}
+use Rattle.wire_packet.specs.Packet.{body}
 use Rattle.pile.specs.Pile.{recordsIn, recordAt, requestLength, responseLength, requestArea, responseArea}
 use Rattle.pile.specs.Pile.{requestPacket, responsePacket, saidYes, pileBad}
 use Rattle.pile.specs.declared.Judgement.{Judgement}

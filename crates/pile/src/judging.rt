@@ -4,7 +4,7 @@ ghost use Prim.Native.Nat.{_+_, _*_, _≤_, _<_};
 ghost use lib.ListN.{length};
 ghost use Rattle.pile.specs.Pile.{saidYes};
 ghost use Rattle.pile.specs.Valid.{recordChecked, verdictAt, checkedAt, nothingAt, judgeCode, judgementOf};
-ghost use Rattle.verdict.specs.Check.{verdictNumber};
+ghost use Rattle.check_response.specs.Check.{verdictNumber};
 use super::Judgement;
 use super::damage::record_bad;
 use super::piles::pile_bad;
@@ -12,11 +12,11 @@ use super::records::RECORD;
 use super::records::record_at;
 use super::records::request_of;
 use super::records::response_of;
+use check_response::Checked;
+use check_response::Verdict;
+use check_response::check_response;
 use refusal::codes;
 use refusal::refuse;
-use verdict::Checked;
-use verdict::Verdict;
-use verdict::check_response;
 
 // Judges record k. Where there is none, or the pile or its answers are bad, the refusal is 15.
 pub fn judge<'a>(pile: &'a [u8], answers: &'a [u8], k: usize) -> Judgement

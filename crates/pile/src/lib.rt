@@ -8,6 +8,7 @@ mod linking;
 mod piles;
 mod records;
 
+use check_response::Verdict;
 pub use damage::record_bad;
 pub use judging::judge;
 pub use judging::verdict_at;
@@ -20,7 +21,6 @@ pub use records::record_at;
 pub use records::request_of;
 pub use records::response_area;
 pub use records::response_of;
-use verdict::Verdict;
 
 // What is said of one record: its place, from 0, its window or its refusal, and the delegated key, 32 zero bytes on a
 // refusal.

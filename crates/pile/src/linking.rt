@@ -9,14 +9,14 @@ use super::records::record_at;
 use super::records::request_of;
 use super::records::response_of;
 use hash::link;
-use message::tags::NONC;
-use message::value_of;
 use octets::all_zero;
 use octets::copy32;
 use octets::equal;
 use octets::le32;
-use wire::packet::body_of;
-use wire::request_bad;
+use wire_message::tags::NONC;
+use wire_message::value_of;
+use wire_packet::packet::body_of;
+use wire_packet::request_bad;
 
 // Whether record k is linked: the NONC of its request is H of the whole response packet of the record before it and its
 // own rand. The answer is no where there are no two such records, and where their packets can't be read.

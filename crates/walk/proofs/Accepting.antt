@@ -10,9 +10,9 @@ use Rattle.laws.proofs.Any.{any-parts}
 use Rattle.laws.proofs.First.{row-quiet, test-quiet, quiet-of}
 use Rattle.refusal.specs.Refusal.{refusals}
 use Rattle.refusal.specs.declared.Refusal.{Refusal}
-use Rattle.verdict.specs.Check.{checkCode}
-use Rattle.wire.specs.Response.{responseCode}
-use Rattle.wire.proofs.Packets.{packet-0}
+use Rattle.check_response.specs.Check.{checkCode}
+use Rattle.wire_packet.specs.Response.{responseCode}
+use Rattle.wire_packet.proofs.Packets.{packet-0}
 use Rattle.walk.specs.State.{overOf, Going, requestNow}
 use Rattle.walk.specs.Starting.{serversIn, twice, keysBad, startCode}
 use Rattle.walk.specs.Asking.{askCode}

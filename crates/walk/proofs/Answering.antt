@@ -3,11 +3,11 @@ use Prim.Native.Nat.{ℕ}
 use mathlib.Core.Path.{_≡_, sym, ap, _∙_}
 use mathlib.Core.List.{List}
 use Rattle.refusal.specs.declared.Refusal.{Refusal}
-use Rattle.verdict.specs.Check.{windowIn, verdictBy, verdictOf}
-use Rattle.verdict.specs.declared.Verdict.the-variants.{Valid, Refused}
-use Rattle.verdict.specs.declared.Window.{Window}
-use Rattle.verdict.proofs.Lent.{by-valid, by-refused, refused-by}
-use Rattle.wire.specs.Packet.{body}
+use Rattle.check_response.specs.Check.{windowIn, verdictBy, verdictOf}
+use Rattle.check_response.specs.declared.Verdict.the-variants.{Valid, Refused}
+use Rattle.check_response.specs.declared.Window.{Window}
+use Rattle.check_response.proofs.Lent.{by-valid, by-refused, refused-by}
+use Rattle.wire_packet.specs.Packet.{body}
 use Rattle.walk.specs.State.{requestNow}
 use Rattle.walk.specs.Taking.{responseCodeNow, takeCode, takeVerdict}
 use Rattle.walk.specs.declared.Walk.{Walk}

@@ -9,11 +9,11 @@ use lib.Dec.{eqb}
 use Rattle.laws.proofs.First.{row-quiet, test-quiet}
 use Rattle.refusal.specs.Refusal.{passed, refusals}
 use Rattle.refusal.specs.declared.Refusal.{Refusal}
-use Rattle.wire.specs.Places.{Bare}
-use Rattle.verdict.specs.Check.{answersCode, agreementCode, checkCode}
-use Rattle.verdict.specs.declared.Verdict.{Verdict}
-use Rattle.verdict.specs.declared.Verdict.the-variants.{Valid, Refused}
-use Rattle.verdict.specs.declared.Window.{Window}
+use Rattle.wire_packet.specs.Places.{Bare}
+use Rattle.check_response.specs.Check.{answersCode, agreementCode, checkCode}
+use Rattle.check_response.specs.declared.Verdict.{Verdict}
+use Rattle.check_response.specs.declared.Verdict.the-variants.{Valid, Refused}
+use Rattle.check_response.specs.declared.Window.{Window}
 
 -- the refusal of an answer
 abbrev pub refusalIn : Verdict → Refusal

@@ -12,12 +12,12 @@ use Rattle.laws.proofs.Any.{any-here, any-later}
 use Rattle.laws.proofs.First.{test-true}
 use Rattle.laws.proofs.Least.{nowhere, nowhere-at}
 use Rattle.refusal.specs.Refusal.{refusal, refusals}
-use Rattle.wire.specs.Places.{Carries, Bare, ToldIn}
-use Rattle.wire.specs.Request.{requestBad}
-use Rattle.wire.proofs.Bare.{when-bare, first-bare, end-bare}
-use Rattle.wire.proofs.Places.{over-told, row-told, end-told}
-use Rattle.verdict.proofs.Places.{check-place, check-bare}
-use Rattle.writer.proofs.ReadBack.{request-passes}
+use Rattle.wire_packet.specs.Places.{Carries, Bare, ToldIn}
+use Rattle.wire_packet.specs.Request.{requestBad}
+use Rattle.wire_packet.proofs.Bare.{when-bare, first-bare, end-bare}
+use Rattle.wire_packet.proofs.Places.{over-told, row-told, end-told}
+use Rattle.check_response.proofs.Places.{check-place, check-bare}
+use Rattle.wire_request.proofs.ReadBack.{request-passes}
 use Rattle.walk.specs.State.{overOf, keyAt, keyOf, requestNow}
 use Rattle.walk.specs.Starting.{metBefore, twice, blankWalk}
 use Rattle.walk.specs.Asking.{askCode}

@@ -14,35 +14,35 @@ use Rattle.laws.specs.Pasted.{fronted}
 use Rattle.laws.proofs.First.{row-quiet, test-quiet}
 use Rattle.laws.proofs.Zeros.{zeros-replicate}
 use Rattle.refusal.specs.Refusal.{refusals}
-use Rattle.verdict.specs.Check.{checkCode, windowIn}
-use Rattle.verdict.specs.declared.Verdict.the-variants.{Valid}
-use Rattle.verdict.specs.declared.Window.{Window}
-use Rattle.wire.specs.Packet.{body}
-use Rattle.wire.specs.Request.{requestBad}
+use Rattle.check_response.specs.Check.{checkCode, windowIn}
+use Rattle.check_response.specs.declared.Verdict.the-variants.{Valid}
+use Rattle.check_response.specs.declared.Window.{Window}
+use Rattle.wire_packet.specs.Packet.{body}
+use Rattle.wire_packet.specs.Request.{requestBad}
 use Rattle.pile.specs.Pile.{recordsIn, recordAt, requestPacket, responsePacket, saidYes}
 use Rattle.pile.specs.Links.{firstRandZero}
 use Rattle.pile.specs.Valid.{windowAt}
 use Rattle.pile.specs.Meaning.{WholePile, GoodPile, ValidRecord, IsLinked, ZeroRand, Undamaged}
 use Rattle.pile.proofs.Exactly.{whole-exactly, undamaged-exactly, passed-judged, tested-links}
 use Rattle.pile.proofs.Recorded.{record-front}
-use Rattle.runs.specs.Clash.{windowsClash}
-use Rattle.report.specs.Report.{judged, joined, Reports, reportNumber}
-use Rattle.report.specs.Meaning.{Sound, Accepts, Decides}
-use Rattle.report.specs.Taking as cutter
-use Rattle.report.specs.declared.Report.{Report}
-use Rattle.report.specs.declared.Report.the-variants.{Pair, Clear}
-use Rattle.report.specs.declared.Taken.{Taken}
-use Rattle.report.specs.declared.Taken.the-variants.{Run, NoRun}
-use Rattle.report.proofs.Says.{report-once}
-use Rattle.report.proofs.Runs.{joined-later, takes-once}
-use Rattle.report.proofs.Exactly.{joined-first}
-use Rattle.report.proofs.Sound.{sound-decides, sound-convicts, sound-valid, sound-linked, sound-rand}
-use Rattle.report.proofs.Agree.{named-is-cut}
+use Rattle.pile_runs.specs.Clash.{windowsClash}
+use Rattle.pile_report.specs.Report.{judged, joined, Reports, reportNumber}
+use Rattle.pile_report.specs.Meaning.{Sound, Accepts, Decides}
+use Rattle.pile_report.specs.Taking as cutter
+use Rattle.pile_report.specs.declared.Report.{Report}
+use Rattle.pile_report.specs.declared.Report.the-variants.{Pair, Clear}
+use Rattle.pile_report.specs.declared.Taken.{Taken}
+use Rattle.pile_report.specs.declared.Taken.the-variants.{Run, NoRun}
+use Rattle.pile_report.proofs.Says.{report-once}
+use Rattle.pile_report.proofs.Runs.{joined-later, takes-once}
+use Rattle.pile_report.proofs.Exactly.{joined-first}
+use Rattle.pile_report.proofs.Sound.{sound-decides, sound-convicts, sound-valid, sound-linked, sound-rand}
+use Rattle.pile_report.proofs.Agree.{named-is-cut}
 use Rattle.walk.specs.State.{keyAt}
 use Rattle.walk.specs.Taking.{recorded, movedOn, pileOf, allYes, Takes, pileAfter}
 use Rattle.walk.specs.Trace.{Reached, heard, records}
 use Rattle.walk.specs.Trace.Reached.{took}
-use Rattle.walk.specs.Standing.{Entry, Stands}
+use Rattle.walk.specs.Standing.{Recorded, InStep}
 use Rattle.walk.specs.declared.Walk.{Walk}
 use Rattle.walk.specs.declared.Heard.{Heard}
 use Rattle.walk.specs.declared.Said.the-variants.{Ended}
@@ -53,12 +53,12 @@ use Rattle.walk.proofs.History.{holds}
 -- ---- the pile of a state that stands, once a record is written
 
 -- a record that holds our request and its answer was not lent with a bad request
-asked-well : (key r : List ℕ) → Entry key r → requestBad (requestPacket r) ≡ false
+asked-well : (key r : List ℕ) → Recorded key r → requestBad (requestPacket r) ≡ false
 unfolding checkCode
 asked-well key r e = test-quiet refusals _ _ tt (row-quiet refusals _ _ (e .passes) .0)
 
 module _
-    (keys nonce : List ℕ) (most : ℕ) (w : Walk) (b : List ℕ) (st : Stands keys nonce most w b)
+    (keys nonce : List ℕ) (most : ℕ) (w : Walk) (b : List ℕ) (st : InStep keys nonce most w b)
     (some : 0 < w .step) where
   abbrev pile : List ℕ
   pile = pileOf (w .step) b
@@ -101,7 +101,7 @@ module _
   pub at : (k : ℕ) → k < w .step → recordAt (pileOf (w .step) b) k ≡ recordAt b k
   at k h = record-front b (4096 * w .step) k (omega arith)
 
-  entry : (k : ℕ) → k < w .step → Entry (keyAt (w .keys) (k % w .count)) (recordAt pile k)
+  entry : (k : ℕ) → k < w .step → Recorded (keyAt (w .keys) (k % w .count)) (recordAt pile k)
   entry k h = rw (at k h) (st .entries k h)
 
   undamaged : (k : ℕ) → k < w .step → Undamaged (recordAt pile k)

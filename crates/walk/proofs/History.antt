@@ -13,7 +13,7 @@ use Rattle.walk.specs.Starting.{begunWalk}
 use Rattle.walk.specs.Taking.{recordNow, recorded, movedOn, pileOf}
 use Rattle.walk.specs.Trace.{Reached, heard, records}
 use Rattle.walk.specs.Trace.Reached.{begun, took}
-use Rattle.walk.specs.Standing.{Stands}
+use Rattle.walk.specs.Standing.{InStep}
 use Rattle.walk.specs.declared.Walk.{Walk}
 use Rattle.walk.specs.declared.Heard.{Heard}
 use Rattle.walk.specs.declared.Said.the-variants.{Next, Ended, Refused}
@@ -29,7 +29,7 @@ pub record Holds (w : Walk) (b : List ℕ) (xs : List (List ℕ)) (front : List 
 
 module _ (keys nonce : List ℕ) (most : ℕ) (n32 : length nonce ≡ 32) where
   module _
-      (w : Walk) (b : List ℕ) (st : Stands keys nonce most w b) (xs : List (List ℕ)) (front : List ℕ)
+      (w : Walk) (b : List ℕ) (st : InStep keys nonce most w b) (xs : List (List ℕ)) (front : List ℕ)
       (g : Holds w b xs front) (h : Heard) (x : List ℕ) (a : Accepted w h x (length b))
       (rl : length (h .rand) ≡ 32) where
     last-of : getD (xs ++ (x ∷ [])) (w .step) [] ≡ x

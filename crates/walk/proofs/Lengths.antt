@@ -7,7 +7,7 @@ use native.Mathlib.Omega.{arith}
 use lib.ListN.{length, length-take, length-drop}
 use Rattle.laws.proofs.Pasted.{length-pasted}
 use Rattle.pile.proofs.Recorded.{length-record}
-use Rattle.writer.proofs.RequestPieces.{length-request}
+use Rattle.wire_request.proofs.RequestPieces.{length-request}
 use Rattle.walk.specs.State.{Going, keyOf, requestNow}
 use Rattle.walk.specs.Taking.{recordNow, recorded}
 use Rattle.walk.specs.declared.Walk.{Walk}

@@ -6,13 +6,13 @@ use native.Mathlib.Omega.{arith}
 use Rattle.laws.specs.Written.{written}
 use Rattle.laws.proofs.Once.{Settles}
 use Rattle.refusal.specs.declared.Refusal.{Refusal}
-use Rattle.report.proofs.Says.{report-once}
+use Rattle.pile_report.proofs.Says.{report-once}
 use Rattle.walk.specs.State.{requestNow}
 use Rattle.walk.specs.Taking.{Takes, walkAfter, pileAfter}
 use Rattle.walk.specs.declared.Asked.{Asked}
 use Rattle.walk.specs.declared.Walk.{Walk}
 use Rattle.walk.specs.declared.Heard.{Heard}
-use Rattle.walk.specs.declared.Moved.{Moved}
+use Rattle.walk.specs.declared.Stepped.{Stepped}
 use Rattle.walk.specs.declared.Said.{Said}
 use Rattle.walk.specs.declared.Said.the-variants.{Next, Ended, Refused}
 use Rattle.walk.proofs.Taken.{Took}
@@ -40,7 +40,7 @@ module _ (w : Walk) (h : Heard) (x b : List ℕ) where
   said-once (Refused c) (Refused d) p q = ap Refused (p .0 ∙ sym (q .0))
 
   -- the state and the buffer too
-  pub took-once : (x1 x2 : Moved) (b1 b2 : List ℕ) → Took w h x b (x1 .said) (x1 .walk) b1
+  pub took-once : (x1 x2 : Stepped) (b1 b2 : List ℕ) → Took w h x b (x1 .said) (x1 .walk) b1
       → Took w h x b (x2 .said) (x2 .walk) b2 → (x1 ≡ x2) × (b1 ≡ b2)
   took-once m n c d p q =
       let s = said-once (m .said) (n .said) (p .1 .0) (q .1 .0) in

@@ -6,12 +6,12 @@ use native.Mathlib.Omega.{arith}
 use lib.ListN.{length, drop, replicate, drop-of-length-le}
 use Rattle.laws.specs.Written.{written}
 use Rattle.refusal.specs.Refusal.{passed}
-use Rattle.writer.specs.Answered.{wroteNumber}
-use Rattle.writer.specs.Request.{requestBytes}
-use Rattle.writer.specs.declared.Wrote.{Wrote}
-use Rattle.writer.specs.declared.Wrote.the-variants.{Done}
-use Rattle.writer.proofs.Answered.{Writes, done-exactly}
-use Rattle.writer.proofs.RequestPieces.{length-request}
+use Rattle.wire_request.specs.Answered.{wroteNumber}
+use Rattle.wire_request.specs.Request.{requestBytes}
+use Rattle.wire_request.specs.declared.Wrote.{Wrote}
+use Rattle.wire_request.specs.declared.Wrote.the-variants.{Done}
+use Rattle.wire_request.proofs.Answered.{Writes, done-exactly}
+use Rattle.wire_request.proofs.RequestPieces.{length-request}
 use Rattle.walk.specs.State.{keyOf, requestNow}
 use Rattle.walk.specs.declared.Walk.{Walk}
 

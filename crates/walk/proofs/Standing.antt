@@ -9,23 +9,23 @@ use native.Mathlib.Omega.{arith}
 use lib.ListN.{length, take, length-append, length-drop, length-replicate}
 use Rattle.hash.specs.Hashes.{linkOf}
 use Rattle.hash.proofs.Lengths.{length-link}
-use Rattle.message.specs.Tags.{NONC}
-use Rattle.message.specs.Values.{valueOf}
+use Rattle.wire_message.specs.Tags.{NONC}
+use Rattle.wire_message.specs.Values.{valueOf}
 use Rattle.pile.specs.Pile.{recordAt, randIn, requestPacket, responsePacket}
 use Rattle.pile.specs.Valid.{recordBad}
 use Rattle.pile.specs.Meaning.{IsLinked}
 use Rattle.pile.proofs.Recorded as reads
-use Rattle.verdict.specs.Check.{checkCode}
-use Rattle.wire.specs.Blank.{zeros32}
-use Rattle.wire.specs.Packet.{body}
-use Rattle.writer.specs.Request.{requestBytes}
-use Rattle.writer.proofs.ReadBack.{nonce-reads}
+use Rattle.check_response.specs.Check.{checkCode}
+use Rattle.wire_packet.specs.Blank.{zeros32}
+use Rattle.wire_packet.specs.Packet.{body}
+use Rattle.wire_request.specs.Request.{requestBytes}
+use Rattle.wire_request.proofs.ReadBack.{nonce-reads}
 use Rattle.walk.specs.State.{keyAt, keyOf, requestNow}
 use Rattle.walk.specs.Starting.{startCode, begunWalk}
 use Rattle.walk.specs.Taking.{recordNow, recorded, movedOn}
 use Rattle.walk.specs.Trace.{Reached}
 use Rattle.walk.specs.Trace.Reached.{begun, took}
-use Rattle.walk.specs.Standing.{nonceIn, Entry, Stands}
+use Rattle.walk.specs.Standing.{nonceIn, Recorded, InStep}
 use Rattle.walk.specs.declared.Walk.{Walk}
 use Rattle.walk.specs.declared.Heard.{Heard}
 use Rattle.walk.specs.declared.Said.the-variants.{Next, Ended, Refused}
@@ -80,7 +80,7 @@ module _ (w : Walk) (h : Heard) (response : List ℕ) (room : ℕ) (a : Accepted
   now-passes =
       rw (now-request, now-response) (check-yes (requestNow w) response (h .delegation) (h .signature) (a .checked))
 
-  now-entry : Entry (keyOf w) (recordNow w response)
+  now-entry : Recorded (keyOf w) (recordNow w response)
   now-entry = record { keyed = now-key; ours = now-ours; undamaged = now-undamaged; passes = now-passes }
 
   -- it is linked to the record b, where the nonce that was asked is
@@ -90,7 +90,7 @@ module _ (w : Walk) (h : Heard) (response : List ℕ) (room : ℕ) (a : Accepted
 -- ---- one accepted response more
 
 module _ (keys nonce : List ℕ) (most : ℕ) where
-  module _ (w : Walk) (b : List ℕ) (st : Stands keys nonce most w b) where
+  module _ (w : Walk) (b : List ℕ) (st : InStep keys nonce most w b) where
     pub stands-long : Long w
     stands-long =
         let n : length keys ≤ 256 = omega (arith, st .whole, st .to) in
@@ -115,15 +115,15 @@ module _ (keys nonce : List ℕ) (most : ℕ) where
           reads.record-here b (recordNow w response) (w .step) fits
           (length-now w stands-long (a .goes) response (a .short))
 
-      entry-here : Entry (keyAt (w .keys) (w .step % w .count)) (recordAt later (w .step))
+      entry-here : Recorded (keyAt (w .keys) (w .step % w .count)) (recordAt later (w .step))
       unfolding keyOf
       entry-here = rw here (now-entry w h response (length b) a stands-long)
 
-      entries-more : (k : ℕ) → k < w .step + 1 → Entry (keyAt (w .keys) (k % w .count)) (recordAt later k)
+      entries-more : (k : ℕ) → k < w .step + 1 → Recorded (keyAt (w .keys) (k % w .count)) (recordAt later k)
       entries-more k l =
           let u : k ≤ w .step = omega arith in
           ⊎-elim
-          (λ e. subst (λ (i : ℕ). Entry (keyAt (w .keys) (i % w .count)) (recordAt later i)) (sym e) entry-here)
+          (λ e. subst (λ (i : ℕ). Recorded (keyAt (w .keys) (i % w .count)) (recordAt later i)) (sym e) entry-here)
           (λ m. rw (before k m) (st .entries k m)) (eq-or-lt-of-le u)
 
       link-here : 0 < w .step → IsLinked (recordAt later (w .step - 1)) (recordAt later (w .step))
@@ -156,7 +156,7 @@ module _ (keys nonce : List ℕ) (most : ℕ) where
           (sym (now-response w h response (length b) a stands-long)
           ∙ ap responsePacket (sym here ∙ ap (recordAt later) e))
 
-      pub stands-more : Stands keys nonce most (movedOn w h response) (recorded w response b)
+      pub stands-more : InStep keys nonce most (movedOn w h response) (recorded w response b)
       unfolding movedOn
       stands-more = record {
         over-these = st .over-these;
@@ -186,7 +186,7 @@ module _ (keys nonce : List ℕ) (most : ℕ) where
 
   module _ (n32 : length nonce ≡ 32) where
     pub stands-first : (b : List ℕ) → startCode keys (length b) .code ≡ 0
-        → Stands keys nonce most (begunWalk keys nonce most) b
+        → InStep keys nonce most (begunWalk keys nonce most) b
     unfolding begunWalk
     stands-first b e =
         let g = accepting.begun keys (length b) refl e in
@@ -211,7 +211,7 @@ module _ (keys nonce : List ℕ) (most : ℕ) where
         }
 
     -- wherever the caller comes to
-    pub standing : (w : Walk) (b : List ℕ) → Reached keys nonce most w b → Stands keys nonce most w b
+    pub standing : (w : Walk) (b : List ℕ) → Reached keys nonce most w b → InStep keys nonce most w b
     standing w b (begun c e) = stands-first c e
     standing w b (took v c h x (Next u) s l t) =
         stands-more v c (standing v c s) h x (accepted v h x (length c) refl (t .0)) l

@@ -6,11 +6,11 @@ use lib.ListN.{length, take, replicate}
 use native.Mathlib.Omega.{arith}
 use Rattle.laws.proofs.Pasted.{take-replicate}
 use Rattle.refusal.specs.declared.Refusal.{Refusal}
-use Rattle.report.specs.Report.{Reports}
-use Rattle.report.specs.declared.Report.{Report}
-use Rattle.verdict.specs.Check.{windowIn}
-use Rattle.verdict.specs.declared.Window.{Window}
-use Rattle.wire.specs.Packet.{body}
+use Rattle.pile_report.specs.Report.{Reports}
+use Rattle.pile_report.specs.declared.Report.{Report}
+use Rattle.check_response.specs.Check.{windowIn}
+use Rattle.check_response.specs.declared.Window.{Window}
+use Rattle.wire_packet.specs.Packet.{body}
 use Rattle.walk.specs.State.{Going}
 use Rattle.walk.specs.Taking.{takeCode, recorded, movedOn, SaidOf, Takes, saidNumber, walkAfter, pileAfter}
 use Rattle.walk.specs.Taking.{pileOf, allYes}

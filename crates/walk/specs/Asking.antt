@@ -6,7 +6,7 @@ use mathlib.Core.List.{[], _∷_}
 use lib.Dec.{eqb, ltb}
 use Rattle.refusal.specs.Refusal.{first, when, passed}
 use Rattle.refusal.specs.declared.Refusal.{Refusal}
-use Rattle.wire.specs.Blank.{zeros32}
+use Rattle.wire_packet.specs.Blank.{zeros32}
 use Rattle.walk.specs.State.{overOf, serverOf}
 use Rattle.walk.specs.declared.Walk.{Walk}
 use Rattle.walk.specs.declared.Asked.{Asked}

@@ -5,7 +5,7 @@ use mathlib.Core.List.{List, [], _∷_}
 use lib.Dec.{leb, ltb}
 use lib.ListN.{take, drop}
 use Rattle.laws.specs.Any.{any}
-use Rattle.writer.specs.Request.{requestBytes}
+use Rattle.wire_request.specs.Request.{requestBytes}
 use Rattle.walk.specs.declared.Walk.{Walk}
 
 -- the walk has ended: both rounds are done. A state that has not 3 to 8 servers, which no start hands out, counts as

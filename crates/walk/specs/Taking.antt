@@ -11,11 +11,11 @@ use Rattle.laws.specs.Pasted.{pasted}
 use Rattle.pile.specs.Recording.{recordBytes}
 use Rattle.refusal.specs.Refusal.{first, when}
 use Rattle.refusal.specs.declared.Refusal.{Refusal}
-use Rattle.report.specs.Report.{Reports}
-use Rattle.verdict.specs.Check.{checkCode, windowIn, verdictBy}
-use Rattle.verdict.specs.declared.Verdict.{Verdict}
-use Rattle.verdict.specs.declared.Window.{Window}
-use Rattle.wire.specs.Packet.{body}
+use Rattle.pile_report.specs.Report.{Reports}
+use Rattle.check_response.specs.Check.{checkCode, windowIn, verdictBy}
+use Rattle.check_response.specs.declared.Verdict.{Verdict}
+use Rattle.check_response.specs.declared.Window.{Window}
+use Rattle.wire_packet.specs.Packet.{body}
 use Rattle.walk.specs.State.{overOf, keyOf, requestNow}
 use Rattle.walk.specs.declared.Walk.{Walk}
 use Rattle.walk.specs.declared.Heard.{Heard}

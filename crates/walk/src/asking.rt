@@ -11,7 +11,7 @@ use refusal::PASSED;
 use refusal::Refusal;
 use refusal::codes;
 use refusal::refuse;
-use writer::write_request;
+use wire_request::write_request;
 
 // The request of this step, at the front of out. The state is not changed, so that asking again gives the same.
 pub fn ask(w: Walk, out: &mut [u8]) -> Asked

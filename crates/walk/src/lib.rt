@@ -8,12 +8,12 @@ mod taking;
 
 pub use asking::ask;
 pub use asking::key_of;
+use check_response::Window;
+use pile_report::Report;
 use refusal::Refusal;
-use report::Report;
 pub use starting::start;
 pub use taking::take;
 pub use taking::take_code;
-use verdict::Window;
 
 // The state between packets: the servers' keys, 32 bytes each, and how many there are; the step, from 0; the nonce of
 // the request that is asked, and the rand that it was made with; when the last accepted response was received; and the
@@ -60,7 +60,7 @@ pub enum Said {
 }
 
 // That, and the state for the next call.
-pub struct Moved {
+pub struct Stepped {
     pub said: Said,
     pub walk: Walk,
 }

@@ -2,31 +2,31 @@
 ghost use mathlib.Core.Path.{_≡_};
 ghost use Prim.Native.Nat.{_*_, _≤_};
 ghost use lib.ListN.{length};
-ghost use Rattle.wire.specs.Packet.{body};
-ghost use Rattle.verdict.specs.Check.{windowIn, verdictOf};
+ghost use Rattle.wire_packet.specs.Packet.{body};
+ghost use Rattle.check_response.specs.Check.{windowIn, verdictOf};
 ghost use Rattle.walk.specs.State.{Going, requestNow};
 ghost use Rattle.walk.specs.Taking.{clockWrong, takeCode, takeVerdict, movedOn, SaidOf, Takes};
 ghost use Rattle.walk.specs.Taking.{saidNumber, walkAfter, pileAfter};
 use super::Heard;
-use super::Moved;
 use super::Said;
+use super::Stepped;
 use super::Walk;
 use super::asking::over;
 use super::asking::request_now;
 use super::recording::put_record;
+use check_response::Verdict;
+use check_response::Window;
+use check_response::check_response;
 use hash::link;
 use pile::RECORD;
+use pile_report::check_report;
 use refusal::PASSED;
 use refusal::Refusal;
 use refusal::codes;
 use refusal::refuse;
-use report::check_report;
-use verdict::Verdict;
-use verdict::Window;
-use verdict::check_response;
 
 // Takes the response to the request that was asked. A refusal leaves the state and the pile as they were.
-pub fn take(w: Walk, h: Heard, response: &[u8], pile: &mut [u8]) -> Moved
+pub fn take(w: Walk, h: Heard, response: &[u8], pile: &mut [u8]) -> Stepped
     ensures { λ r. ⌜
         saidNumber (r .said) ≡ takeCode w h (now (response .entry)) (length (now (pile .entry))) .code
         ⌝ }
@@ -36,7 +36,7 @@ pub fn take(w: Walk, h: Heard, response: &[u8], pile: &mut [u8]) -> Moved
 {
     let v = take_verdict(w, h, response, pile.len());
     match v {
-        Verdict::Refused(why) => Moved {
+        Verdict::Refused(why) => Stepped {
             said: Said::Refused(why),
             walk: w,
         },
@@ -45,7 +45,7 @@ pub fn take(w: Walk, h: Heard, response: &[u8], pile: &mut [u8]) -> Moved
 }
 
 // Writes the record of a response that nothing refuses, and moves on.
-fn accept(w: Walk, h: Heard, window: Window, response: &[u8], pile: &mut [u8]) -> Moved
+fn accept(w: Walk, h: Heard, window: Window, response: &[u8], pile: &mut [u8]) -> Stepped
     requires { ⌜
         (takeCode w h (now response) (length (now pile)) .code ≡ 0) × (window ≡ windowIn (body (now response)))
         ⌝ }
@@ -59,7 +59,7 @@ fn accept(w: Walk, h: Heard, window: Window, response: &[u8], pile: &mut [u8]) -
     put_record(w, response, pile);
     let s = said_of(w, window, pile);
     let next = moved_on(w, h, response);
-    Moved {
+    Stepped {
         said: s,
         walk: next,
     }

@@ -314,7 +314,7 @@ fn what_follows_two_dashes_are_files() {
 fn a_pipe_is_read_once() {
     let room = Room::new("pipe");
     let pile =
-        fs::File::open(format!("{ROOT}/crates/alone/data/appendix.pile")).expect("it is kept");
+        fs::File::open(format!("{ROOT}/crates/trawl_alone/data/appendix.pile")).expect("it is kept");
     let mut cat = Command::new("cat").stdin(pile).stdout(Stdio::piped()).spawn().expect("cat runs");
     let mut command = room.command(&["/dev/stdin"]);
     let ran = command.stdin(cat.stdout.take().expect("it is piped")).output().expect("it runs");
@@ -328,7 +328,7 @@ fn a_pipe_is_read_once() {
 #[test]
 fn every_action_reads_a_pipe() {
     let room = Room::new("pipes");
-    let pile = format!("{ROOT}/crates/alone/data/appendix.pile");
+    let pile = format!("{ROOT}/crates/trawl_alone/data/appendix.pile");
     let made = Command::new("mkfifo").arg("fifo").current_dir(&room.folder).status();
     assert!(made.expect("mkfifo runs").success() || room.folder.join("fifo").exists());
     for action in ["--judge", "--draw", "--cut"] {
@@ -350,7 +350,7 @@ fn every_action_reads_a_pipe() {
 fn nobody_is_told_that_the_reader_has_gone() {
     let room = Room::new("gone");
     let report = format!("{ROOT}/vectors/malfeasance-report.json");
-    let pile = format!("{ROOT}/crates/alone/data/appendix.pile");
+    let pile = format!("{ROOT}/crates/trawl_alone/data/appendix.pile");
     let words: [&[&str]; 6] = [
         &["--draw", &report],
         &["--judge", &report],

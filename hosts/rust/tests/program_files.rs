@@ -18,7 +18,7 @@ fn report() -> String {
 /// A call of each action that prints something, on files that are there.
 fn calls() -> Vec<Vec<String>> {
     let report = report();
-    let pile = format!("{ROOT}/crates/alone/data/appendix.pile");
+    let pile = format!("{ROOT}/crates/trawl_alone/data/appendix.pile");
     let calls: [&[&str]; 11] = [
         &[],
         &[&pile],

@@ -1,4 +1,4 @@
-//! Prints the numbers of the tables in crates/doubles, one a line: for each of the points B, 2B, 4B,
+//! Prints the numbers of the tables in crates/ed25519_doubles, one a line: for each of the points B, 2B, 4B,
 //! .. 2^255 B, in the coordinates that RFC 8032's doubling gives from those of B, ten limbs of 26 bits
 //! of each of Y - X, Y + X, 2 Z and 2 d T.
 //!

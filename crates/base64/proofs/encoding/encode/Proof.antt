@@ -4,13 +4,13 @@ use native.Mathlib.Omega.{arith}
 use Prim.Native.Nat.{_-_, _≤_}
 use lib.ListN.{length, drop}
 use Rattle.laws.proofs.Filled.{Filled, filled-first, filled-length, filled-last}
-use Rattle.base64.specs.Encode.{encodeOf}
+use Rattle.base64.specs.Encode.{encode64}
 use Rattle.base64.proofs.Encodes.{three-fits, three-next, two-fits, two-next, one-fits, one-next, none-left}
 use Rattle.base64.proofs.encoding.encode.Statement.{statement}
 use Rattle.base64.proofs.encoding.encode.Tie as tie
 
 abbrev Inv-loop : tie.InvT-loop
-Inv-loop s out₀ k₀ at₀ out k at = (k ≤ length s) × Filled (encodeOf s) (encodeOf (drop k s)) out₀ at out
+Inv-loop s out₀ k₀ at₀ out k at = (k ≤ length s) × Filled (encode64 s) (encode64 (drop k s)) out₀ at out
 
 abbrev μ-loop : tie.MeasureT-loop
 μ-loop s out₀ k₀ at₀ out k at = length s - k

@@ -1,6 +1,6 @@
 -- `capi::building::tb_root` meets its contract.
 use mathlib.Core.Path.{ap, _∙_}
-use Rattle.told.specs.Building.{tbRooted}
+use Rattle.c_packets.specs.Building.{tbRooted}
 use borrow.Author.Needs.{needs}
 use Rattle.capi.proofs.building.tb_root.Statement.{statement}
 use Rattle.capi.proofs.building.tb_root.Tie as tie

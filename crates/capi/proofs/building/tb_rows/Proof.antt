@@ -1,7 +1,7 @@
 -- `capi::building::tb_rows` meets its contract.
 use mathlib.Core.Path.{ap, _∙_}
 use lib.ListN.{length}
-use Rattle.told.specs.Building.{tbLaid}
+use Rattle.c_packets.specs.Building.{tbLaid}
 use Rattle.capi.proofs.Rows.{told-length}
 use borrow.Author.Needs.{needs}
 use Rattle.capi.proofs.building.tb_rows.Statement.{statement}

@@ -1,6 +1,6 @@
 -- `capi::clocking::tb_clock_now_fields` meets its contract.
 use mathlib.Core.Path.{ap, _∙_}
-use Rattle.told.specs.Clocking.{tbTime}
+use Rattle.c_packets.specs.Clocking.{tbTime}
 use borrow.Author.Needs.{needs}
 use Rattle.capi.proofs.clocking.tb_clock_now_fields.Statement.{statement}
 use Rattle.capi.proofs.clocking.tb_clock_now_fields.Tie as tie

@@ -1,9 +1,9 @@
 -- `capi::finding::tb_find_server` meets its contract.
 use mathlib.Core.Path.{refl}
 use native.Mathlib.Omega.{arith}
-use Rattle.servers.proofs.Matching.{within-owner, within-shipped}
-use Rattle.servers.proofs.Seeking.{sought-at}
-use Rattle.told.specs.Finding.{tbFound}
+use Rattle.server_list.proofs.Matching.{within-owner, within-shipped}
+use Rattle.server_list.proofs.Seeking.{sought-at}
+use Rattle.c_packets.specs.Finding.{tbFound}
 use borrow.Author.Needs.{needs}
 use Rattle.capi.proofs.finding.tb_find_server.Statement.{statement}
 use Rattle.capi.proofs.finding.tb_find_server.Tie as tie

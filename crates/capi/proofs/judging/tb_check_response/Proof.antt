@@ -1,7 +1,7 @@
 -- `capi::judging::tb_check_response` meets its contract.
 use mathlib.Core.Path.{ap, ap₂, _∙_}
-use Rattle.told.specs.Judging.{tbVerdict}
-use Rattle.verdict.specs.Check.{checkedOf}
+use Rattle.c_packets.specs.Judging.{tbVerdict}
+use Rattle.check_response.specs.Check.{checkedOf}
 use borrow.Author.Needs.{needs}
 use Rattle.capi.proofs.judging.tb_check_response.Statement.{statement}
 use Rattle.capi.proofs.judging.tb_check_response.Tie as tie

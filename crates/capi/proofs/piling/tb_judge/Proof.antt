@@ -1,6 +1,6 @@
 -- `capi::piling::tb_judge` meets its contract.
 use mathlib.Core.Path.{ap, _∙_}
-use Rattle.evidence.specs.Piling.{tbJudged}
+use Rattle.c_evidence.specs.Piling.{tbJudged}
 use borrow.Author.Needs.{needs}
 use Rattle.capi.proofs.piling.tb_judge.Statement.{statement}
 use Rattle.capi.proofs.piling.tb_judge.Tie as tie

@@ -1,8 +1,8 @@
 -- `capi::publishing::tb_read_report` meets its contract.
 use mathlib.Core.Path.{ap, _∙_}
-use Rattle.intake.specs.Entry.{entriesOf}
-use Rattle.intake.specs.Read.{pileBytes}
-use Rattle.evidence.specs.Publishing.{tbRecords}
+use Rattle.report_read.specs.Entry.{entriesOf}
+use Rattle.report_read.specs.Read.{pileBytes}
+use Rattle.c_evidence.specs.Publishing.{tbRecords}
 use Rattle.capi.proofs.ReadNumbers.{read-left}
 use borrow.Author.Needs.{needs}
 use Rattle.capi.proofs.publishing.tb_read_report.Statement.{statement}

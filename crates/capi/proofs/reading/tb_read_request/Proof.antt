@@ -1,6 +1,6 @@
 -- `capi::reading::tb_read_request` meets its contract.
 use mathlib.Core.Path.{ap, _∙_}
-use Rattle.told.specs.Reading.{tbRequest}
+use Rattle.c_packets.specs.Reading.{tbRequest}
 use borrow.Author.Needs.{needs}
 use Rattle.capi.proofs.reading.tb_read_request.Statement.{statement}
 use Rattle.capi.proofs.reading.tb_read_request.Tie as tie

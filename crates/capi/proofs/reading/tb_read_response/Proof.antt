@@ -1,6 +1,6 @@
 -- `capi::reading::tb_read_response` meets its contract.
 use mathlib.Core.Path.{ap, _∙_}
-use Rattle.told.specs.Reading.{tbResponse}
+use Rattle.c_packets.specs.Reading.{tbResponse}
 use borrow.Author.Needs.{needs}
 use Rattle.capi.proofs.reading.tb_read_response.Statement.{statement}
 use Rattle.capi.proofs.reading.tb_read_response.Tie as tie

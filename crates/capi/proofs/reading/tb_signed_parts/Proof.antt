@@ -1,6 +1,6 @@
 -- `capi::reading::tb_signed_parts` meets its contract.
 use mathlib.Core.Path.{ap, _∙_}
-use Rattle.told.specs.Reading.{tbParts}
+use Rattle.c_packets.specs.Reading.{tbParts}
 use borrow.Author.Needs.{needs}
 use Rattle.capi.proofs.reading.tb_signed_parts.Statement.{statement}
 use Rattle.capi.proofs.reading.tb_signed_parts.Tie as tie

@@ -1,6 +1,6 @@
 -- `capi::signing::tb_answers` meets its contract.
 use mathlib.Core.Path.{ap, _∙_}
-use Rattle.evidence.specs.Signing.{tbAnswers}
+use Rattle.c_evidence.specs.Signing.{tbAnswers}
 use borrow.Author.Needs.{needs}
 use Rattle.capi.proofs.signing.tb_answers.Statement.{statement}
 use Rattle.capi.proofs.signing.tb_answers.Tie as tie

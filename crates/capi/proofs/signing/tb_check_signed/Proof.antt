@@ -1,6 +1,6 @@
 -- `capi::signing::tb_check_signed` meets its contract.
 use mathlib.Core.Path.{ap, _∙_}
-use Rattle.told.specs.Judging.{tbVerdict}
+use Rattle.c_packets.specs.Judging.{tbVerdict}
 use borrow.Author.Needs.{needs}
 use Rattle.capi.proofs.signing.tb_check_signed.Statement.{statement}
 use Rattle.capi.proofs.signing.tb_check_signed.Tie as tie

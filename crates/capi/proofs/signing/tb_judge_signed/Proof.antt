@@ -1,6 +1,6 @@
 -- `capi::signing::tb_judge_signed` meets its contract.
 use mathlib.Core.Path.{ap, _∙_}
-use Rattle.evidence.specs.Piling.{tbJudged}
+use Rattle.c_evidence.specs.Piling.{tbJudged}
 use borrow.Author.Needs.{needs}
 use Rattle.capi.proofs.signing.tb_judge_signed.Statement.{statement}
 use Rattle.capi.proofs.signing.tb_judge_signed.Tie as tie

@@ -1,6 +1,6 @@
 -- `capi::stamping::tb_old_window` meets its contract.
 use mathlib.Core.Path.{ap, _∙_}
-use Rattle.told.specs.Stamping.{tbOld}
+use Rattle.c_packets.specs.Stamping.{tbOld}
 use borrow.Author.Needs.{needs}
 use Rattle.capi.proofs.stamping.tb_old_window.Statement.{statement}
 use Rattle.capi.proofs.stamping.tb_old_window.Tie as tie

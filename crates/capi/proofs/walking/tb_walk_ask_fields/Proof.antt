@@ -1,6 +1,6 @@
 -- `capi::walking::tb_walk_ask_fields` meets its contract.
 use mathlib.Core.Path.{ap, _∙_}
-use Rattle.evidence.specs.Walking.{tbAsked}
+use Rattle.c_evidence.specs.Walking.{tbAsked}
 use borrow.Author.Needs.{needs}
 use Rattle.capi.proofs.walking.tb_walk_ask_fields.Statement.{statement}
 use Rattle.capi.proofs.walking.tb_walk_ask_fields.Tie as tie

@@ -1,6 +1,6 @@
 -- `capi::walking::tb_walk_take_signed_fields` meets its contract.
 use mathlib.Core.Path.{refl}
-use Rattle.hearing.specs.Heard.{ownHeard}
+use Rattle.walk_signed.specs.Heard.{ownHeard}
 use Rattle.capi.specs.Walking.{walkOf}
 use Rattle.capi.proofs.Walked.{took-of}
 use borrow.Author.Needs.{needs}

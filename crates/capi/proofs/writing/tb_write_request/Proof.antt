@@ -1,6 +1,6 @@
 -- `capi::writing::tb_write_request` meets its contract.
 use mathlib.Core.Path.{ap, _∙_}
-use Rattle.told.specs.Writing.{tbWrote}
+use Rattle.c_packets.specs.Writing.{tbWrote}
 use borrow.Author.Needs.{needs}
 use Rattle.capi.proofs.writing.tb_write_request.Statement.{statement}
 use Rattle.capi.proofs.writing.tb_write_request.Tie as tie

@@ -1,5 +1,5 @@
 -- `clock::telling::time_at` meets its contract.
-use Rattle.clock.proofs.Answers.{early, in-time}
+use Rattle.clock.proofs.AnswerLaws.{early, in-time}
 use borrow.Author.Needs.{needs}
 use Rattle.clock.proofs.telling.time_at.Statement.{statement}
 use Rattle.clock.proofs.telling.time_at.Tie as tie

@@ -4,10 +4,10 @@ use native.Mathlib.Omega.{arith}
 use Rattle.laws.specs.Written.{written}
 use Rattle.pile.specs.Pile.{lengthBad}
 use Rattle.refusal.specs.Refusal.{when}
-use Rattle.writer.specs.Answered.{wroteNumber, wroteLength}
-use Rattle.writer.specs.declared.Wrote.{Wrote}
-use Rattle.writer.proofs.Answered.{done-exactly}
-use Rattle.signed.specs.Answers.{ownAnswers}
+use Rattle.wire_request.specs.Answered.{wroteNumber, wroteLength}
+use Rattle.wire_request.specs.declared.Wrote.{Wrote}
+use Rattle.wire_request.proofs.Answered.{done-exactly}
+use Rattle.pile_signed.specs.OwnAnswers.{ownAnswers}
 use borrow.Author.Needs.{needs}
 use Rattle.console.proofs.answering.put_answers.Statement.{statement}
 use Rattle.console.proofs.answering.put_answers.Tie as tie

@@ -4,9 +4,9 @@ use mathlib.Core.Path.{_≡_, ap}
 use mathlib.Core.List.{_++_}
 use Prim.Native.Nat.{ℕ, suc, _+_, _*_, _-_, _≤_}
 use native.Mathlib.Omega.{arith}
-use Rattle.verdict.specs.declared.Verdict.{Verdict}
+use Rattle.check_response.specs.declared.Verdict.{Verdict}
 use Rattle.pile.specs.declared.Judgement.{Judgement}
-use Rattle.report.specs.Report.{judged}
+use Rattle.pile_report.specs.Report.{judged}
 use Rattle.laws.specs.Written.{Puts}
 use Rattle.lines.specs.Line.{recordLine}
 use Rattle.console.specs.Text.{recordLines}

@@ -4,7 +4,7 @@ use mathlib.Core.Path.{_≡_, sym, ap}
 use mathlib.Core.List.{List}
 use Prim.Native.Nat.{ℕ}
 use native.Mathlib.Omega.{arith}
-use Rattle.report.specs.declared.Taken.{Taken}
+use Rattle.pile_report.specs.declared.Taken.{Taken}
 use Rattle.laws.specs.Written.{Puts}
 use Rattle.console.specs.Text.{verdictText}
 use Rattle.laws.proofs.Written.{puts-more, puts-as}

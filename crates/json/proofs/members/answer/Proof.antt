@@ -1,6 +1,6 @@
 use borrow.Author.Needs.{needs}
 use Rattle.json.specs.Members.{answerOf}
-use Rattle.tokens.proofs.Picks.{picks}
+use Rattle.json_tokens.proofs.Picks.{picks}
 use Rattle.json.proofs.members.answer.Statement.{statement}
 use Rattle.json.proofs.members.answer.Tie as tie
 

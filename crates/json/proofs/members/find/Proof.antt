@@ -4,12 +4,12 @@ use mathlib.Core.Path.{_≡_, refl, sym, _∙_, ap}
 use lib.ListN.{length}
 use Rattle.json.specs.Members.{membersOf, answerOf, tally, foundOf}
 use Rattle.json.specs.Value.{memberStep, valueAt}
-use Rattle.tokens.specs.Walk.{starts}
+use Rattle.json_tokens.specs.Walk.{starts}
 use Rattle.json.proofs.Ahead.{forth-members}
 use Rattle.laws.specs.Pick.{pick}
 use Rattle.json.proofs.Finds.{tally-more, tally-last}
-use Rattle.tokens.proofs.Picks.{picks}
-use Rattle.tokens.proofs.Turns.{turn-falls, starts-more, starts-end, starts-wrong}
+use Rattle.json_tokens.proofs.Picks.{picks}
+use Rattle.json_tokens.proofs.Turns.{turn-falls, starts-more, starts-end, starts-wrong}
 use Rattle.json.proofs.members.find.Statement.{statement}
 use Rattle.json.proofs.members.find.Tie as tie
 

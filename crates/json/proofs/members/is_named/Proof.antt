@@ -1,6 +1,6 @@
 use borrow.Author.Needs.{needs}
 use Rattle.json.specs.Members.{named}
-use Rattle.tokens.proofs.Picks.{picks}
+use Rattle.json_tokens.proofs.Picks.{picks}
 use Rattle.json.proofs.members.is_named.Statement.{statement}
 use Rattle.json.proofs.members.is_named.Tie as tie
 

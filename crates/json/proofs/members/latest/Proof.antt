@@ -1,5 +1,5 @@
 use borrow.Author.Needs.{needs}
-use Rattle.tokens.proofs.Picks.{picks}
+use Rattle.json_tokens.proofs.Picks.{picks}
 use Rattle.json.proofs.members.latest.Statement.{statement}
 use Rattle.json.proofs.members.latest.Tie as tie
 

@@ -1,6 +1,6 @@
 use borrow.Author.Needs.{needs}
 use Rattle.json.specs.Members.{countOf}
-use Rattle.tokens.proofs.Picks.{picks}
+use Rattle.json_tokens.proofs.Picks.{picks}
 use Rattle.json.proofs.members.one_more.Statement.{statement}
 use Rattle.json.proofs.members.one_more.Tie as tie
 

@@ -1,8 +1,8 @@
 use borrow.Author.Needs.{needs}
 use mathlib.Core.Path.{sym, _∙_, ap}
 use Rattle.json.specs.Members.{placeOf, valuePlace}
-use Rattle.tokens.specs.Scan.{pastColon}
-use Rattle.tokens.proofs.Picks.{then-bad, then-past}
+use Rattle.json_tokens.specs.Scan.{pastColon}
+use Rattle.json_tokens.proofs.Picks.{then-bad, then-past}
 use Rattle.json.proofs.members.value_place.Statement.{statement}
 use Rattle.json.proofs.members.value_place.Tie as tie
 

@@ -4,10 +4,10 @@ use Prim.Native.Nat.{ℕ, _+_, _-_, _*_, _<_}
 use mathlib.Core.Path.{_≡_, sym, _∙_}
 use lib.ListN.{length}
 use denote.Ref.{now}
-use Rattle.tokens.specs.Walk.{walked}
+use Rattle.json_tokens.specs.Walk.{walked}
 use Rattle.json.specs.Value.{itemStep, memberStep, arrayOf, objectOf, arrayAt, objectAt, valueAt}
-use Rattle.tokens.proofs.Picks.{picks, inside}
-use Rattle.tokens.proofs.Turns.{walked-more, walked-end, walked-wrong, turn-falls}
+use Rattle.json_tokens.proofs.Picks.{picks, inside}
+use Rattle.json_tokens.proofs.Turns.{walked-more, walked-end, walked-wrong, turn-falls}
 use Rattle.json.proofs.Ahead.{forth-items, forth-members, value-is, array-is, object-is, array-none, object-none}
 use borrow.Fn.Kinds.{In}
 use borrow.Fn.PlainCycle.{Measures, is, falls, and}
@@ -26,12 +26,12 @@ use Rattle.json.proofs.values.+array+item+member+object+value.Lts-objec
 use Rattle.json.proofs.values.value.Reads as value
 use Rattle.json.proofs.values.value.Kinds as value-kinds
 use Rattle.json.proofs.values.+array+item+member+object+value.Lts-value as value-lts
-use Rattle.tokens.proofs.after_item.Reads as after-item-reads
-use Rattle.tokens.proofs.blanks.Reads as blanks-reads
-use Rattle.tokens.proofs.byte.Reads as byte-reads
-use Rattle.tokens.proofs.colon.Reads as colon-reads
+use Rattle.json_tokens.proofs.after_item.Reads as after-item-reads
+use Rattle.json_tokens.proofs.blanks.Reads as blanks-reads
+use Rattle.json_tokens.proofs.byte.Reads as byte-reads
+use Rattle.json_tokens.proofs.colon.Reads as colon-reads
 use Rattle.json.proofs.values.plain.Reads as plain-reads
-use Rattle.strings.proofs.string.Reads as string-reads
+use Rattle.json_strings.proofs.string.Reads as string-reads
 use Rattle.json.proofs.values.+array+item+member+object+value.{statement}
 use Rattle.json.proofs.values.+array+item+member+object+value.Tie.{close}
 

@@ -2,7 +2,7 @@ use borrow.Author.Needs.{needs}
 use native.Mathlib.Omega.{arith}
 use denote.Ref.{now}
 use Rattle.json.specs.Value.{plainAt}
-use Rattle.tokens.proofs.Picks.{inside, picks}
+use Rattle.json_tokens.proofs.Picks.{inside, picks}
 use Rattle.json.proofs.values.plain.Statement.{statement}
 use Rattle.json.proofs.values.plain.Tie as tie
 

@@ -3,7 +3,7 @@ use native.Mathlib.Omega.{arith}
 use Prim.Native.Nat.{_-_}
 use mathlib.Core.Path.{_≡_, refl, _∙_}
 use lib.ListN.{length, drop}
-use Rattle.tokens.specs.Scan.{startsWith}
+use Rattle.json_tokens.specs.Scan.{startsWith}
 use Rattle.json.proofs.Words.{word-more, word-differs, word-short, word-done}
 use Rattle.json.proofs.values.starts_with.Statement.{statement}
 use Rattle.json.proofs.values.starts_with.Tie as tie

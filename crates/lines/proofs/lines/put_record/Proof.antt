@@ -1,7 +1,7 @@
 -- `lines::lines::put_record` meets its contract, by the verdict.
 use mathlib.Core.Path.{sym, ap}
 use native.Mathlib.Omega.{arith}
-use Rattle.verdict.specs.declared.Verdict.{Verdict}
+use Rattle.check_response.specs.declared.Verdict.{Verdict}
 use Rattle.lines.specs.Line.{recordLine}
 use Rattle.laws.proofs.Written.{puts-as}
 use borrow.Author.Needs.{needs}

@@ -3,9 +3,9 @@ use mathlib.Core.Path.{sym, ap, _∙_}
 use Rattle.laws.proofs.First.{before-true, before-false}
 use Rattle.refusal.specs.Refusal.{refusals}
 use Rattle.refusal.specs.declared.Refusal.{Refusal}
-use Rattle.wire.specs.Blank.{zeros32}
-use Rattle.verdict.specs.Check.{verdictOf, keyOf}
-use Rattle.verdict.specs.declared.Verdict.the-variants.{Refused}
+use Rattle.wire_packet.specs.Blank.{zeros32}
+use Rattle.check_response.specs.Check.{verdictOf, keyOf}
+use Rattle.check_response.specs.declared.Verdict.the-variants.{Refused}
 use Rattle.pile.specs.Valid.{recordCode, recordVerdict}
 use Rattle.pile.proofs.Reaching.{lengths-fit}
 use borrow.Author.Needs.{needs}

@@ -2,8 +2,8 @@
 use mathlib.Core.Path.{sym, ap, _∙_}
 use Rattle.laws.proofs.First.{before-true, before-false}
 use Rattle.refusal.specs.Refusal.{refusals}
-use Rattle.verdict.specs.declared.Checked.{Checked}
-use Rattle.verdict.specs.declared.Verdict.the-variants.{Refused}
+use Rattle.check_response.specs.declared.Checked.{Checked}
+use Rattle.check_response.specs.declared.Verdict.the-variants.{Refused}
 use Rattle.pile.specs.Valid.{recordVerdict, judgeCode}
 use Rattle.pile.proofs.Wholes.{judged-there}
 use Rattle.pile.proofs.Judged.{judge-clauses}

@@ -1,6 +1,6 @@
 -- `pile::judging::verdict_at` meets its contract.
 use mathlib.Core.Path.{ap}
-use Rattle.verdict.specs.declared.Checked.{Checked}
+use Rattle.check_response.specs.declared.Checked.{Checked}
 use borrow.Author.Needs.{needs}
 use Rattle.pile.proofs.judging.verdict_at.Statement.{statement}
 use Rattle.pile.proofs.judging.verdict_at.Tie as tie

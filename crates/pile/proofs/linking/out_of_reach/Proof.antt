@@ -1,7 +1,7 @@
 -- `pile::linking::out_of_reach` meets its contract.
 -- It returns true at the first test of the row that holds, and else what the last test says.
 use mathlib.Core.Path.{ap, _∙_}
-use Rattle.wire.specs.Request.{requestBad}
+use Rattle.wire_packet.specs.Request.{requestBad}
 use Rattle.pile.specs.Links.{unreadable}
 use Rattle.laws.proofs.Rows.{row, past-lt, only}
 use borrow.Author.Needs.{needs}

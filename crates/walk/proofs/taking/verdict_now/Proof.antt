@@ -2,8 +2,8 @@
 use Prim.Native.Nat.{ℕ}
 use mathlib.Core.Path.{ap, _∙_}
 use mathlib.Core.List.{List}
-use Rattle.verdict.specs.Check.{verdictOf}
-use Rattle.verdict.specs.declared.Checked.{Checked}
+use Rattle.check_response.specs.Check.{verdictOf}
+use Rattle.check_response.specs.declared.Checked.{Checked}
 use borrow.Author.Needs.{needs}
 use Rattle.walk.proofs.taking.verdict_now.Statement.{statement}
 use Rattle.walk.proofs.taking.verdict_now.Tie as tie

@@ -1,0 +1,43 @@
+// Multiples of a point (RFC 8032, section 6, point_mul).
+ghost use mathlib.Core.Path.{_≡_};
+ghost use mathlib.Core.Bool.{cond};
+ghost use lib.Dec.{eqb};
+ghost use Rattle.digits.specs.Digits.{value, Each};
+ghost use Rattle.ed25519_field.specs.Limbs.{radix};
+ghost use Rattle.ed25519_curve.specs.Coords.{ptOf, Good};
+ghost use Rattle.ed25519_curve.specs.Points.{pointAdd, pointMul};
+use super::Point;
+use super::adding::add;
+use super::adding::double;
+use super::constants::zero_point;
+use ed25519_field::Fe;
+
+// q with p added where the bit is 1.
+fn picked(q: Point, p: Point, bit: u64) -> Point
+    requires { ⌜ Good q × Good p ⌝ }
+    ensures { λ r. ⌜ (ptOf r ≡ cond (eqb bit 1) (pointAdd (ptOf q) (ptOf p)) (ptOf q)) × Good r ⌝ }
+{
+    if bit == 1 {
+        return add(q, p);
+    }
+    q
+}
+
+// The multiple of b by the number whose limbs are s.
+pub fn times(s: Fe, b: Point) -> Point
+    requires { ⌜ Each 67108863 s × Good b ⌝ }
+    ensures { λ r. ⌜ (ptOf r ≡ pointMul (value radix s) (ptOf b)) × Good r ⌝ }
+{
+    let mut p = b;
+    let mut q = zero_point();
+    let mut i: usize = 0;
+    while i < 256 {
+        let bit = ed25519_residue::bit(s, i);
+        let n = picked(q, p, bit);
+        q = n;
+        let m = double(p);
+        p = m;
+        i += 1;
+    }
+    q
+}

@@ -1,0 +1,2 @@
+-- The definitions that the contracts of ed25519_residue cite.
+pub mod Residue

@@ -1,0 +1,69 @@
+// The characters of a string, in groups of four.
+ghost use mathlib.Core.Path.{_≡_};
+ghost use mathlib.Core.Bool.{true};
+ghost use Rattle.json_strings.specs.Text.{contentAt};
+ghost use Rattle.json_base64.specs.Sized.{CharOf, QuadOf, Lettered, empty};
+use super::Letter;
+use super::Quad;
+use super::stretches::four;
+use json_strings::Unit;
+
+// Whether the string ends at a place.
+pub fn at_end(s: &[u8], k: usize) -> bool
+    ensures { λ r. ⌜ r ≡ empty (contentAt (now (s .entry)) k) ⌝ }
+{
+    match json_strings::unit_of(s, k) {
+        Unit::Code(_, _) => false,
+        Unit::Close(_) => true,
+        Unit::Ill => true,
+    }
+}
+
+// The character at a place.
+fn letter_at(s: &[u8], k: usize) -> Letter
+    ensures { λ r. ⌜ CharOf (now (s .entry)) k r ⌝ }
+{
+    match json_strings::unit_of(s, k) {
+        Unit::Code(c, j) => Letter::Is(c, j),
+        Unit::Close(_) => Letter::Stop,
+        Unit::Ill => Letter::Stop,
+    }
+}
+
+// The four characters at a place, one by one.
+fn quad_singly(s: &[u8], k: usize) -> Quad
+    ensures { λ r. ⌜ QuadOf (now (s .entry)) k r ⌝ }
+{
+    let Letter::Is(a, i) = letter_at(s, k) else {
+        return Quad::End;
+    };
+    let Letter::Is(b, j) = letter_at(s, i) else {
+        return Quad::Fewer;
+    };
+    let Letter::Is(c, m) = letter_at(s, j) else {
+        return Quad::Fewer;
+    };
+    let Letter::Is(d, n) = letter_at(s, m) else {
+        return Quad::Fewer;
+    };
+    Quad::Four(base64::group_of(a, b, c, d), n)
+}
+
+// The four letters at a place.
+fn quad_together(s: &[u8], k: usize) -> Quad
+    requires { ⌜ Lettered (now s) k 1 ⌝ }
+    ensures { λ r. ⌜ QuadOf (now (s .entry)) k r ⌝ }
+{
+    Quad::Four(base64::three_of(s[k], s[k + 1], s[k + 2], s[k + 3]), k + 4)
+}
+
+// The four characters at a place.
+pub fn quad_of(s: &[u8], k: usize) -> Quad
+    ensures { λ r. ⌜ QuadOf (now (s .entry)) k r ⌝ }
+{
+    if four(s, k) {
+        quad_together(s, k)
+    } else {
+        quad_singly(s, k)
+    }
+}

@@ -1,0 +1,259 @@
+-- The reader of a string reads what derives from `string`, whatever follows.
+use Prim.Native.Nat.{ℕ, _+_, _-_, _*_, _≤_, _<_}
+use mathlib.Core.Path.{_≡_, refl, sym, _∙_}
+use mathlib.Core.Bool.{true, false}
+use mathlib.Core.List.{List, [], _∷_, _++_, append-assoc}
+use native.Mathlib.Omega.{arith}
+use borrow.Author.Tests.{eqb-true, ne-eqb, le-leb, lt-ltb, le-ltb}
+use lib.Dec.{eqb}
+use lib.ListN.{length, getD}
+use Rattle.laws.specs.Pick.{pick, both}
+use Rattle.json_tokens.specs.declared.Skip.the-variants.{Bad}
+use Rattle.json_strings.specs.declared.Unit.{Unit}
+use Rattle.json_strings.specs.declared.Unit.the-variants.{Code, Close, Ill}
+use Rattle.json_tokens.specs.Walk.{walked}
+use Rattle.json_strings.specs.Text.{escapeOf, nibbleOf, nibbleAt, hexAt, escapeAt, leastSecond, mostSecond, secondAt, tailAt}
+use Rattle.json_strings.specs.Text.{twoAt, threeAt, longAt, wideAt, unitAt, stepOf, unitStep, stringAt}
+use Rattle.json_strings.proofs.Ahead.{forth-unit}
+use Rattle.json_laws.specs.Rules.{these, within, join, left, right, *_, none, more}
+use Rattle.json_laws.specs.Abnf
+use Rattle.json_laws.proofs.Rest.{Rest, Passes, if-true, if-false, if-is, if-not, rest-front, rest-past, rest-next}
+use Rattle.json_laws.proofs.Rest.{rest-as, Reads, Any, Goes, goes, Stays, stays, walk-on, walk-last}
+use Rattle.json_laws.proofs.Spans.{of-pick-cases}
+
+-- a character ends where t stands
+data Told (s t : List ℕ) : Unit → Type 0 where
+  code : {c j : ℕ} → Rest s j t → Told s t (Code c j)
+
+told-goes : {s t : List ℕ} {u : Unit} → Told s t u → Goes s t (stepOf u)
+told-goes (code h) = goes h
+
+-- ---- Hexadecimal digits.
+data Hex : List ℕ → Type 0 where
+  hex : {b : ℕ} → eqb (nibbleOf b) 16 ≡ false → Hex (b ∷ [])
+
+hex-is : {x : List ℕ} → Abnf.HEXDIG x → Hex x
+unfolding nibbleOf pick Abnf.HEXDIG Abnf.DIGIT
+hex-is (left (within {b = b} l h)) =
+    hex {b = b} (rw (le-ltb b 48 l, lt-ltb b 58 (omega arith)) (ne-eqb (b - 48) 16 (λ e. omega arith)))
+hex-is (right (left (within {b = b} l h))) =
+    hex {b = b} (rw (le-ltb b 48 (omega arith), le-ltb b 58 (omega arith), le-ltb b 65 l, lt-ltb b 71 (omega arith))
+    (ne-eqb (b - 55) 16 (λ e. omega arith)))
+hex-is (right (right (within {b = b} l h))) =
+    hex {b = b} (rw (
+      le-ltb b 48 (omega arith),
+      le-ltb b 58 (omega arith),
+      le-ltb b 65 (omega arith),
+      le-ltb b 71
+          (omega arith),
+      le-ltb b 97 l,
+      lt-ltb b 103 (omega arith),
+    ) (ne-eqb (b - 87) 16 (λ e. omega arith)))
+
+-- ---- The second byte of a character.
+least-le : (b c : ℕ) → 128 ≤ c → (b ≡ 224 → 160 ≤ c) → (b ≡ 240 → 144 ≤ c) → leastSecond b ≤ c
+unfolding leastSecond
+least-le b c h p q =
+    of-pick-cases (λ n. n ≤ c) (eqb b 224) (λ t. p (eqb-true _ _ t))
+    (λ t. of-pick-cases (λ n. n ≤ c) (eqb b 240) (λ u. q (eqb-true _ _ u)) (λ u. h))
+
+most-le : (b c : ℕ) → c ≤ 191 → (b ≡ 237 → c ≤ 159) → (b ≡ 244 → c ≤ 143) → c ≤ mostSecond b
+unfolding mostSecond
+most-le b c h p q =
+    of-pick-cases (λ n. c ≤ n) (eqb b 237) (λ t. p (eqb-true _ _ t))
+    (λ t. of-pick-cases (λ n. c ≤ n) (eqb b 244) (λ u. q (eqb-true _ _ u)) (λ u. h))
+
+module _ {s : List ℕ} (k : ℕ) (t : List ℕ) where
+  -- ---- Escapes.
+  four-told : {x y z w : List ℕ} → Hex x → Hex y → Hex z → Hex w → Rest s k ((x ++ (y ++ (z ++ w))) ++ t)
+      → Told s t (hexAt s k)
+  unfolding hexAt nibbleAt
+  four-told (hex {b = a} p) (hex {b = b} q) (hex {b = c} r) (hex {b = d} v) h =
+      if-false (Told s t) Ill (rw (rest-front h) p)
+      (if-false (Told s t) Ill (rw (rest-front (rest-past (a ∷ []) (b ∷ c ∷ d ∷ t) h)) q)
+      (if-false (Told s t) Ill (rw (rest-front (rest-past (a ∷ b ∷ []) (c ∷ d ∷ t) h)) r)
+      (if-false (Told s t) Ill (rw (rest-front (rest-past (a ∷ b ∷ c ∷ []) (d ∷ t) h)) v)
+      (code (rest-past (a ∷ b ∷ c ∷ d ∷ []) t h)))))
+
+  letter-told : (a : ℕ) → (a ≡ 117 → ⊥) → eqb (escapeOf a) 0 ≡ false → Rest s k (a ∷ t) → Told s t (escapeAt s k)
+  unfolding escapeAt
+  letter-told a n z h =
+      if-not (Told s t) (hexAt s (k + 1)) (λ e. n (sym (rest-front h) ∙ e))
+      (if-false (Told s t) Ill (rw (rest-front h) z) (code (rest-next h)))
+
+  u-told : {u : List ℕ} → Rest s k (117 ∷ u) → Told s t (hexAt s (k + 1)) → Told s t (escapeAt s k)
+  unfolding escapeAt
+  u-told h g = if-is (Told s t) _ (rest-front h) g
+
+  -- ---- UTF-8.
+  second-is : (b c : ℕ) (u : List ℕ) → leastSecond b ≤ c → c ≤ mostSecond b → Rest s k (b ∷ c ∷ u) → secondAt s k ≡ true
+  unfolding secondAt both
+  second-is b c u l m h =
+      rw (rest-front h, rest-front (rest-next h), le-leb (leastSecond b) c l, le-leb c (mostSecond b) m) refl
+
+tail-is : {s : List ℕ} (k c : ℕ) (u : List ℕ) → 128 ≤ c → c ≤ 191 → Rest s k (c ∷ u) → tailAt s k ≡ true
+unfolding tailAt both
+tail-is k c u l m h = rw (rest-front h, le-leb 128 c l, le-leb c 191 m) refl
+
+module _ {s : List ℕ} (k : ℕ) (t : List ℕ) where
+  two-told : (b c : ℕ) → 194 ≤ b → b < 224 → 128 ≤ c → c ≤ 191 → Rest s k (b ∷ c ∷ t) → Told s t (wideAt s k)
+  unfolding wideAt
+  two-told b c l m o p h =
+      if-false (Told s t) Ill (rw (rest-front h) (le-ltb b 194 l))
+      (if-true (Told s t) Ill (second-is k t b c t (least-le b c o (λ e. omega arith) (λ e. omega arith))
+      (most-le b c p (λ e. omega arith) (λ e. omega arith)) h)
+      (if-true (Told s t) (longAt s k) (rw (rest-front h) (lt-ltb b 224 m)) (code (rest-past (b ∷ c ∷ []) t h))))
+
+  -- past the second byte
+  long-told : (b c : ℕ) (u : List ℕ) → 224 ≤ b → leastSecond b ≤ c → c ≤ mostSecond b → Rest s k (b ∷ c ∷ u)
+      → Told s t (longAt s k) → Told s t (wideAt s k)
+  unfolding wideAt
+  long-told b c u l o p h g =
+      if-false (Told s t) Ill (rw (rest-front h) (le-ltb b 194 (omega arith)))
+      (if-true (Told s t) Ill (second-is k t b c u o p h)
+      (if-false (Told s t) (Code (twoAt s k) (k + 2)) (rw (rest-front h) (le-ltb b 224 l)) g))
+
+  three-told : (b c d : ℕ) → 224 ≤ b → b < 240 → leastSecond b ≤ c → c ≤ mostSecond b → 128 ≤ d → d ≤ 191
+      → Rest s k (b ∷ c ∷ d ∷ t) → Told s t (wideAt s k)
+  unfolding longAt
+  three-told b c d l m o p q r h =
+      long-told b c (d ∷ t) l o p h
+      (if-true (Told s t) Ill (tail-is (k + 2) d t q r (rest-past (b ∷ c ∷ []) (d ∷ t) h))
+      (if-true (Told s t) _ (rw (rest-front h) (lt-ltb b 240 m)) (code (rest-past (b ∷ c ∷ d ∷ []) t h))))
+
+  tails-told : (b c d e : ℕ) → 240 ≤ b → b < 245 → leastSecond b ≤ c → c ≤ mostSecond b → 128 ≤ d → d ≤ 191 → 128 ≤ e
+      → e ≤ 191 → Rest s k (b ∷ c ∷ d ∷ e ∷ t) → Told s t (wideAt s k)
+  unfolding longAt
+  tails-told b c d e l m o p q r v w h =
+      long-told b c (d ∷ e ∷ t) (omega arith) o p h
+      (if-true (Told s t) Ill (tail-is (k + 2) d (e ∷ t) q r (rest-past (b ∷ c ∷ []) (d ∷ e ∷ t) h))
+      (if-false (Told s t) (Code (threeAt s k) (k + 3)) (rw (rest-front h) (le-ltb b 240 l))
+      (if-true (Told s t) Ill (tail-is (k + 3) e t v w (rest-past (b ∷ c ∷ d ∷ []) (e ∷ t) h))
+      (if-true (Told s t) Ill (rw (rest-front h) (lt-ltb b 245 m)) (code (rest-past (b ∷ c ∷ d ∷ e ∷ []) t h))))))
+
+  -- ---- Characters.
+  plain-told : (c : ℕ) → 32 ≤ c → c < 128 → (c ≡ 34 → ⊥) → (c ≡ 92 → ⊥) → Rest s k (c ∷ t) → Told s t (unitAt s k)
+  unfolding unitAt
+  plain-told c l m n o h =
+      if-not (Told s t) (Close (k + 1)) (λ e. n (sym (rest-front h) ∙ e))
+      (if-not (Told s t) (escapeAt s (k + 1)) (λ e. o (sym (rest-front h) ∙ e))
+      (if-false (Told s t) Ill (rw (rest-front h) (le-ltb c 32 l))
+      (if-true (Told s t) (wideAt s k) (rw (rest-front h) (lt-ltb c 128 m)) (code (rest-next h)))))
+
+  wide-told : (b : ℕ) (u : List ℕ) → 128 ≤ b → Rest s k (b ∷ u) → Told s t (wideAt s k) → Told s t (unitAt s k)
+  unfolding unitAt
+  wide-told b u l h g =
+      let f : getD s k 0 ≡ b = rest-front h in
+      if-not (Told s t) (Close (k + 1)) (λ (e : getD s k 0 ≡ 34). omega arith)
+      (if-not (Told s t) (escapeAt s (k + 1)) (λ (e : getD s k 0 ≡ 92). omega arith)
+      (if-false (Told s t) Ill (rw f (le-ltb b 32 (omega arith)))
+      (if-false (Told s t) (Code (getD s k 0) (k + 1)) (rw f (le-ltb b 128 l)) g)))
+
+  utf8-2-told : (x : List ℕ) → Abnf.UTF8-2 x → Rest s k (x ++ t) → Told s t (unitAt s k)
+  unfolding Abnf.UTF8-2 Abnf.UTF8-tail
+  utf8-2-told x (join (within {b = b} l m) (within {b = c} o p)) h =
+      wide-told b (c ∷ t) (omega arith) h (two-told b c l (omega arith) o p h)
+
+  utf8-3-told : (x : List ℕ) → Abnf.UTF8-3 x → Rest s k (x ++ t) → Told s t (unitAt s k)
+  unfolding Abnf.UTF8-3 Abnf.UTF8-tail
+  utf8-3-told x (left (join these (join (within {b = c} o p) (within {b = d} q r)))) h =
+      wide-told 224 (c ∷ d ∷ t) (omega arith) h
+      (three-told 224 c d (omega arith) (omega arith)
+      (least-le 224 c (omega arith) (λ e. omega arith) (λ e. omega arith))
+      (most-le 224 c p (λ e. omega arith) (λ e. omega arith)) q r h)
+  utf8-3-told x (right (left (join (within {b = b} l m) (join (within {b = c} o p) (within {b = d} q r))))) h =
+      wide-told b (c ∷ d ∷ t) (omega arith) h
+      (three-told b c d (omega arith) (omega arith) (least-le b c o (λ e. omega arith) (λ e. omega arith))
+      (most-le b c p (λ e. omega arith) (λ e. omega arith)) q r h)
+  utf8-3-told x (right (right (left (join these (join (within {b = c} o p) (within {b = d} q r)))))) h =
+      wide-told 237 (c ∷ d ∷ t) (omega arith) h
+      (three-told 237 c d (omega arith) (omega arith) (least-le 237 c o (λ e. omega arith) (λ e. omega arith))
+      (most-le 237 c (omega arith) (λ e. omega arith) (λ e. omega arith)) q r h)
+  utf8-3-told x (right (right (right (join (within {b = b} l m) (join (within {b = c} o p) (within {b = d} q r)))))) h =
+      wide-told b (c ∷ d ∷ t) (omega arith) h
+      (three-told b c d (omega arith) (omega arith) (least-le b c o (λ e. omega arith) (λ e. omega arith))
+      (most-le b c p (λ e. omega arith) (λ e. omega arith)) q r h)
+
+  utf8-4-told : (x : List ℕ) → Abnf.UTF8-4 x → Rest s k (x ++ t) → Told s t (unitAt s k)
+  unfolding Abnf.UTF8-4 Abnf.UTF8-tail
+  utf8-4-told x (left (join these (join (within {b = c} o p) (join (within {b = d} q r) (within {b = e} v w))))) h =
+      wide-told 240 (c ∷ d ∷ e ∷ t) (omega arith) h
+      (tails-told 240 c d e (omega arith) (omega arith)
+      (least-le 240 c (omega arith) (λ z. omega arith) (λ z. omega arith))
+      (most-le 240 c p (λ z. omega arith) (λ z. omega arith)) q r v w h)
+  utf8-4-told x (right (left (join (within {b = b} l m)
+      (join (within {b = c} o p) (join (within {b = d} q r) (within {b = e} v w)))))) h =
+      wide-told b (c ∷ d ∷ e ∷ t) (omega arith) h
+      (tails-told b c d e (omega arith) (omega arith) (least-le b c o (λ z. omega arith) (λ z. omega arith))
+      (most-le b c p (λ z. omega arith) (λ z. omega arith)) q r v w h)
+  utf8-4-told x (right (right (join these (join (within {b = c} o p)
+      (join (within {b = d} q r) (within {b = e} v w)))))) h =
+      wide-told 244 (c ∷ d ∷ e ∷ t) (omega arith) h
+      (tails-told 244 c d e (omega arith) (omega arith) (least-le 244 c o (λ z. omega arith) (λ z. omega arith))
+      (most-le 244 c (omega arith) (λ z. omega arith) (λ z. omega arith)) q r v w h)
+
+  unescaped-told : (x : List ℕ) → Abnf.unescaped x → Rest s k (x ++ t) → Told s t (unitAt s k)
+  unfolding Abnf.unescaped
+  unescaped-told x (left (within {b = c} l m)) h =
+      plain-told c (omega arith) (omega arith) (λ e. omega arith) (λ e. omega arith) h
+  unescaped-told x (right (left (within {b = c} l m))) h =
+      plain-told c (omega arith) (omega arith) (λ e. omega arith) (λ e. omega arith) h
+  unescaped-told x (right (right (left (within {b = c} l m)))) h =
+      plain-told c (omega arith) (omega arith) (λ e. omega arith) (λ e. omega arith) h
+  unescaped-told x (right (right (right (left u)))) h = utf8-2-told x u h
+  unescaped-told x (right (right (right (right (left u))))) h = utf8-3-told x u h
+  unescaped-told x (right (right (right (right (right u))))) h = utf8-4-told x u h
+
+  -- after a backslash
+  slash-told : {u : List ℕ} → Rest s k (92 ∷ u) → Told s t (escapeAt s (k + 1)) → Told s t (unitAt s k)
+  unfolding unitAt
+  slash-told h g =
+      if-not (Told s t) (Close (k + 1)) (λ (e : getD s k 0 ≡ 34). omega (arith, rest-front h))
+      (if-is (Told s t) _ (rest-front h) g)
+
+  char-told : (x : List ℕ) → Abnf.char x → Rest s k (x ++ t) → Told s t (unitAt s k)
+  unfolding Abnf.char Abnf.escape escapeOf pick
+  char-told x (left u) h = unescaped-told x u h
+  char-told x (right (join these (left these))) h =
+      slash-told h (letter-told (k + 1) t 34 (λ e. omega arith) refl (rest-next h))
+  char-told x (right (join these (right (left these)))) h =
+      slash-told h (letter-told (k + 1) t 92 (λ e. omega arith) refl (rest-next h))
+  char-told x (right (join these (right (right (left these))))) h =
+      slash-told h (letter-told (k + 1) t 47 (λ e. omega arith) refl (rest-next h))
+  char-told x (right (join these (right (right (right (left these)))))) h =
+      slash-told h (letter-told (k + 1) t 98 (λ e. omega arith) refl (rest-next h))
+  char-told x (right (join these (right (right (right (right (left these))))))) h =
+      slash-told h (letter-told (k + 1) t 102 (λ e. omega arith) refl (rest-next h))
+  char-told x (right (join these (right (right (right (right (right (left these)))))))) h =
+      slash-told h (letter-told (k + 1) t 110 (λ e. omega arith) refl (rest-next h))
+  char-told x (right (join these (right (right (right (right (right (right (left these))))))))) h =
+      slash-told h (letter-told (k + 1) t 114 (λ e. omega arith) refl (rest-next h))
+  char-told x (right (join these (right (right (right (right (right (right (right (left these)))))))))) h =
+      slash-told h (letter-told (k + 1) t 116 (λ e. omega arith) refl (rest-next h))
+  char-told x (right (join these (right (right (right
+      (right (right (right (right (right (join these (join p (join q (join r v)))))))))))))) h =
+      slash-told h (u-told (k + 1) t (rest-next h)
+      (four-told (k + 1 + 1) t (hex-is p) (hex-is q) (hex-is r) (hex-is v) (rest-next (rest-next h))))
+
+-- ---- Strings.
+module _ (s : List ℕ) where
+  quote-stays : (k : ℕ) (t : List ℕ) → Rest s k (34 ∷ t) → Stays s t (unitStep s k)
+  unfolding unitStep unitAt
+  quote-stays k t h = if-is (λ u. Stays s t (stepOf u)) _ (rest-front h) (stays (rest-next h))
+
+  char-goes : (k : ℕ) (x t : List ℕ) → Abnf.char x → Rest s k (x ++ t) → Goes s t (unitStep s k)
+  unfolding unitStep
+  char-goes k x t c h = told-goes (char-told k t x c h)
+
+  chars-walk : (k : ℕ) (x t : List ℕ) → (* Abnf.char) x → Rest s k (x ++ (34 ∷ t))
+      → Passes s t (walked (length s) (unitStep s) k)
+  chars-walk k x t none h = walk-last (unitStep s) k refl (quote-stays k t h)
+  chars-walk k z t (more {x = x} {y = y} c m) h =
+      walk-on (Passes s t) (unitStep s) (forth-unit s) k refl
+      (char-goes k x (y ++ (34 ∷ t)) c (rest-as (append-assoc x y (34 ∷ t)) h)) (λ j r. chars-walk j y t m r)
+
+  pub string-reads : Reads s Abnf.string Any (stringAt s)
+  unfolding stringAt Abnf.string Abnf.quotation-mark
+  string-reads k z t (join these (join {x = x} m these)) c h =
+      if-is (Passes s t) Bad (rest-front h) (chars-walk (k + 1) x t m
+      (rest-as (append-assoc x (34 ∷ []) t) (rest-next h)))

@@ -1,0 +1,136 @@
+-- string = quotation-mark *char quotation-mark (RFC 8259, section 7). The text is UTF-8 (section 8.1): a byte sequence
+-- that RFC 3629 does not allow is no character.
+use Prim.Native.Nat.{ℕ, zero, suc, _+_, _*_, _-_, _%_}
+use mathlib.Core.Bool.{Bool, true, false, not, _&&_}
+use mathlib.Core.List.{List, [], _∷_, _++_}
+use lib.Dec.{eqb, leb, ltb}
+use lib.ListN.{length, getD}
+use Rattle.json_tokens.specs.declared.Skip.{Skip}
+use Rattle.json_tokens.specs.declared.Skip.the-variants.{Past, Bad}
+use Rattle.json_tokens.specs.declared.Step.{Step}
+use Rattle.json_tokens.specs.declared.Step.the-variants.{More, End, Wrong}
+use Rattle.json_strings.specs.declared.Unit.{Unit}
+use Rattle.json_strings.specs.declared.Unit.the-variants.{Code, Close, Ill}
+use Rattle.laws.specs.Pick.{pick, either, both}
+use Rattle.json_tokens.specs.Walk.{walked, starts}
+
+-- what \" \\ \/ \b \f \n \r \t stand for; 0 for any other letter
+unfoldable pub escapeOf : ℕ → ℕ
+escapeOf b =
+    pick (eqb b 34) 34 (pick (eqb b 92) 92 (pick (eqb b 47) 47 (pick (eqb b 98) 8
+    (pick (eqb b 102) 12 (pick (eqb b 110) 10 (pick (eqb b 114) 13 (pick (eqb b 116) 9 0)))))))
+
+-- HEXDIG, in either case; 16 for any other letter
+unfoldable pub nibbleOf : ℕ → ℕ
+nibbleOf b =
+    pick (ltb b 48) 16 (pick (ltb b 58) (b - 48) (pick (ltb b 65) 16 (pick (ltb b 71) (b - 55)
+    (pick (ltb b 97) 16 (pick (ltb b 103) (b - 87) 16)))))
+
+unfoldable pub nibbleAt : List ℕ → ℕ → ℕ
+nibbleAt s at = nibbleOf (getD s at 0)
+
+-- 4HEXDIG
+unfoldable pub hexAt : List ℕ → ℕ → Unit
+hexAt s at =
+    pick (eqb (nibbleAt s at) 16) Ill (pick (eqb (nibbleAt s (at + 1)) 16) Ill
+    (pick (eqb (nibbleAt s (at + 2)) 16) Ill (pick (eqb (nibbleAt s (at + 3)) 16) Ill
+    (Code (4096 * nibbleAt s at + 256 * nibbleAt s (at + 1) + 16 * nibbleAt s (at + 2) + nibbleAt s (at + 3))
+    (at + 4)))))
+
+-- what follows a backslash
+unfoldable pub escapeAt : List ℕ → ℕ → Unit
+escapeAt s at =
+    pick (eqb (getD s at 0) 117) (hexAt s (at + 1))
+    (pick (eqb (escapeOf (getD s at 0)) 0) Ill (Code (escapeOf (getD s at 0)) (at + 1)))
+
+-- RFC 3629, section 4. The second byte of a character: mostly UTF8-tail = %x80-BF, and less after four of the first
+-- bytes
+unfoldable pub leastSecond : ℕ → ℕ
+leastSecond b = pick (eqb b 224) 160 (pick (eqb b 240) 144 128)
+
+unfoldable pub mostSecond : ℕ → ℕ
+mostSecond b = pick (eqb b 237) 159 (pick (eqb b 244) 143 191)
+
+unfoldable pub secondAt : List ℕ → ℕ → Bool
+secondAt s at =
+    both (leb (leastSecond (getD s at 0)) (getD s (at + 1) 0)) (leb (getD s (at + 1) 0) (mostSecond (getD s at 0)))
+
+unfoldable pub tailAt : List ℕ → ℕ → Bool
+tailAt s at = both (leb 128 (getD s at 0)) (leb (getD s at 0) 191)
+
+-- RFC 3629, section 3: each byte behind the first, 10xxxxxx, has six bits more of the character's number
+unfoldable pub moreBits : ℕ → ℕ → ℕ
+moreBits n b = 64 * n + b % 64
+
+-- 110xxxxx 10xxxxxx
+unfoldable pub twoAt : List ℕ → ℕ → ℕ
+twoAt s at = moreBits (getD s at 0 % 32) (getD s (at + 1) 0)
+
+-- 1110xxxx 10xxxxxx 10xxxxxx
+unfoldable pub threeAt : List ℕ → ℕ → ℕ
+threeAt s at = moreBits (moreBits (getD s at 0 % 16) (getD s (at + 1) 0)) (getD s (at + 2) 0)
+
+-- 11110xxx 10xxxxxx 10xxxxxx 10xxxxxx
+unfoldable pub fourAt : List ℕ → ℕ → ℕ
+fourAt s at =
+    moreBits (moreBits (moreBits (getD s at 0 % 8) (getD s (at + 1) 0)) (getD s (at + 2) 0)) (getD s (at + 3) 0)
+
+-- UTF8-3 (first byte E0-EF), UTF8-4 (F0-F4), past the second byte
+unfoldable pub longAt : List ℕ → ℕ → Unit
+longAt s at =
+    pick (tailAt s (at + 2)) (pick (ltb (getD s at 0) 240) (Code (threeAt s at) (at + 3))
+    (pick (tailAt s (at + 3)) (pick (ltb (getD s at 0) 245) (Code (fourAt s at) (at + 4)) Ill) Ill)) Ill
+
+-- UTF8-2 (first byte C2-DF), or longer
+unfoldable pub wideAt : List ℕ → ℕ → Unit
+wideAt s at =
+    pick (ltb (getD s at 0) 194) Ill
+    (pick (secondAt s at) (pick (ltb (getD s at 0) 224) (Code (twoAt s at) (at + 2)) (longAt s at)) Ill)
+
+-- one character of a string, or the closing quote
+unfoldable pub unitAt : List ℕ → ℕ → Unit
+unitAt s at =
+    pick (eqb (getD s at 0) 34) (Close (at + 1))
+    (pick (eqb (getD s at 0) 92) (escapeAt s (at + 1))
+    (pick (ltb (getD s at 0) 32) Ill
+    (pick (ltb (getD s at 0) 128) (Code (getD s at 0) (at + 1)) (wideAt s at))))
+
+-- unescaped = %x20-21 / %x23-5B / %x5D-10FFFF, where that is one byte: a character that stands for itself
+unfoldable pub unescaped : ℕ → Bool
+unescaped b = ((not (eqb b 34) && not (eqb b 92)) && not (ltb b 32)) && ltb b 128
+
+abbrev pub stepOf : Unit → Step
+stepOf (Code c k) = More k
+stepOf (Close k) = End k
+stepOf Ill = Wrong
+
+-- a turn of a string
+unfoldable pub unitStep : List ℕ → ℕ → Step
+unitStep s at = stepOf (unitAt s at)
+
+-- a whole string, at its opening quote
+unfoldable pub stringAt : List ℕ → ℕ → Skip
+stringAt s at = pick (eqb (getD s at 0) 34) (walked (length s) (unitStep s) (at + 1)) Bad
+
+-- a character's number
+abbrev pub codesOf : Unit → List ℕ
+codesOf (Code c k) = c ∷ []
+codesOf (Close k) = []
+codesOf Ill = []
+
+unfoldable pub codesAt : List ℕ → List ℕ → List ℕ
+codesAt s [] = []
+codesAt s (k ∷ ks) = codesOf (unitAt s k) ++ codesAt s ks
+
+-- what a string holds, unescaped (RFC 8259, section 8.3): the numbers of its characters. \u and four digits are one
+-- number, also of a surrogate: a character above U+FFFF is one where it stands as UTF-8, and two where it is escaped
+-- (section 7). `at` is past the opening quote.
+unfoldable pub contentAt : List ℕ → ℕ → List ℕ
+contentAt s at = codesAt s (starts (suc (length s)) (unitStep s) at)
+
+-- two lists are the same
+unfoldable pub sameList : List ℕ → List ℕ → Bool
+sameList [] [] = true
+sameList [] (y ∷ ys) = false
+sameList (x ∷ xs) [] = false
+sameList (x ∷ xs) (y ∷ ys) = both (eqb x y) (sameList xs ys)

@@ -1,0 +1,116 @@
+// Strings (RFC 8259, section 7).
+ghost use mathlib.Core.Path.{_≡_};
+ghost use Prim.Native.Nat.{_+_, _≤_, _<_};
+ghost use lib.ListN.{length};
+ghost use Rattle.json_tokens.specs.Walk.{walked};
+ghost use Rattle.json_strings.specs.Text.{unitAt, unitStep, stringAt, contentAt, sameList};
+use super::Unit;
+use super::escapes::escape;
+use super::letters::wide;
+use super::unescaped::unescaped_run;
+use json_tokens::Skip;
+use json_tokens::Step;
+use json_tokens::byte;
+
+// What stands at a place within a string.
+pub fn unit_of(s: &[u8], at: usize) -> Unit
+    ensures { λ r. ⌜ r ≡ unitAt (now (s .entry)) at ⌝ }
+{
+    let b = byte(s, at);
+    if b == 34 {
+        return Unit::Close(at + 1);
+    }
+    if b == 92 {
+        return escape(s, at + 1);
+    }
+    if b < 32 {
+        return Unit::Ill;
+    }
+    if b < 128 {
+        Unit::Code(b as u32, at + 1)
+    } else {
+        wide(s, at)
+    }
+}
+
+// One turn of a string.
+fn unit_step(s: &[u8], at: usize) -> Step
+    ensures { λ r. ⌜ r ≡ unitStep (now (s .entry)) at ⌝ }
+{
+    match unit_of(s, at) {
+        Unit::Code(_, k) => Step::More(k),
+        Unit::Close(k) => Step::End(k),
+        Unit::Ill => Step::Wrong,
+    }
+}
+
+// Where to go on after the character from k to n: past the run that it begins, if it is one byte. Others come in rows of
+// their own, and after them no run is looked for.
+fn onward(s: &[u8], k: usize, n: usize) -> usize
+    requires { ⌜ k < n ⌝ }
+    ensures { λ r. ⌜
+        (walked (length (now (s .entry))) (unitStep (now (s .entry))) r
+        ≡ walked (length (now (s .entry))) (unitStep (now (s .entry))) n)
+        × (n ≤ r)
+        ⌝ }
+{
+    if n - k == 1 { unescaped_run(s, n) } else { n }
+}
+
+// A string, at its opening quote.
+pub fn string(s: &[u8], at: usize) -> Skip
+    ensures { λ r. ⌜ r ≡ stringAt (now (s .entry)) at ⌝ }
+{
+    let b = byte(s, at);
+    if b != 34 {
+        return Skip::Bad;
+    }
+    let mut k = at + 1;
+    loop {
+        match unit_step(s, k) {
+            Step::More(n) => {
+                k = onward(s, k, n);
+            }
+            Step::End(e) => {
+                return Skip::Past(e);
+            }
+            Step::Wrong => {
+                return Skip::Bad;
+            }
+        }
+    }
+}
+
+// The string whose characters start at a place holds the word, unescaped.
+pub fn holds(s: &[u8], at: usize, w: &[u8]) -> bool
+    ensures { λ r. ⌜ r ≡ sameList (contentAt (now (s .entry)) at) (now (w .entry)) ⌝ }
+{
+    let mut k = at;
+    let mut i = 0;
+    loop {
+        match unit_of(s, k) {
+            Unit::Code(c, j) => {
+                if w.len() <= i {
+                    return false;
+                }
+                if c != word(w[i]) {
+                    return false;
+                }
+                k = j;
+                i += 1;
+            }
+            Unit::Close(_) => {
+                return w.len() <= i;
+            }
+            Unit::Ill => {
+                return w.len() <= i;
+            }
+        }
+    }
+}
+
+fn word(b: u8) -> u32
+    ensures { λ r. ⌜ r ≡ b ⌝ }
+{
+    b as u32
+}

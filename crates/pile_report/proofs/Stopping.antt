@@ -1,0 +1,81 @@
+-- What the check of a report says hangs on no verdict behind the first refused record.
+use mathlib.Core.Path.{_≡_, refl, sym, subst, _∙_}
+use mathlib.Core.Bool.{Bool, true, false, not}
+use mathlib.Core.List.{List, []}
+use mathlib.Core.Logic.{⊎-elim}
+use Prim.Native.Nat.{ℕ, _+_, _-_, _<_}
+use native.Mathlib.Nat.{eq-or-lt-of-le}
+use native.Mathlib.Omega.{arith}
+use borrow.Author.Tests.{ltb-true, ltb-false}
+use lib.Dec.{T, ltb}
+use lib.ListN.{length, set}
+use lib.Seq.{getD-set-same}
+use Rattle.laws.specs.Least.{IsFirst, Never}
+use Rattle.pile_runs.specs.Clash.{valid}
+use Rattle.pile_runs.specs.Convict.{verdictIn}
+use Rattle.check_response.specs.declared.Verdict.{Verdict}
+use Rattle.pile_report.specs.Promises.{UpToRefused}
+use Rattle.pile_report.specs.Report.{refused, Says}
+use Rattle.pile_report.specs.declared.Report.{Report}
+use Rattle.pile_report.specs.declared.Report.the-variants.{Pair, Bad, Record, Unlinked, Clear}
+use Rattle.pile_report.proofs.SameArrays.{says-moved}
+
+-- ---- an array that is filled with verdicts, place by place
+
+-- all are known,
+pub up-to-all : (v w : ℕ → Verdict) (n : ℕ) → ((i : ℕ) → i < n → v i ≡ w i) → UpToRefused v w n
+up-to-all v w n f = record { known = n; most = omega arith; same = f; stopped = λ h. absurd (omega arith) }
+
+-- or those up to place k, at which the verdict x is a refusal
+pub up-to-place : (w : ℕ → Verdict) (n k : ℕ) (vs : List Verdict) (x : Verdict) → k < n → k < length vs
+    → ((i : ℕ) → i < k + 1 → verdictIn (set vs k x) i ≡ w i) → T (not (valid x))
+    → UpToRefused (verdictIn (set vs k x)) w n
+up-to-place w n k vs x below inside f t =
+    let e : k + 1 - 1 ≡ k = omega arith in
+    record {
+      known = k + 1;
+      most = omega arith;
+      same = f;
+      stopped = λ h. (omega arith, rw (e, getD-set-same vs k x (verdictIn [] 0) inside) t);
+    }
+
+-- ---- what is said by such an array
+
+module _ (v w : ℕ → Verdict) (l : ℕ → Bool) (n : ℕ) (u : UpToRefused v w n) where
+  -- where it stopped, a record is refused,
+  not-none : u .known < n → Never (refused v) n → ⊥
+  not-none h none =
+      let s = u .stopped h in none (u .known - 1) (omega (arith, s .0)) (s .1)
+
+  -- and the first of those is known
+  first-known : u .known < n → (k : ℕ) → IsFirst (refused v) n k → k < u .known
+  first-known h k g = by (ltb k (u .known)) refl
+    where
+      by : (t : Bool) → ltb k (u .known) ≡ t → k < u .known
+      by true e = ltb-true k (u .known) e
+      by false e =
+          let s = u .stopped h in
+          absurd (g .earlier (u .known - 1) (omega (arith, ltb-false k (u .known) e, s .0)) (s .1))
+
+  early : u .known < n → (r : Report) → Says v l n r → Says w l n r
+  early h (Pair i j) s = absurd (not-none h (s .0))
+  early h Bad s = s
+  early h (Record why k) s =
+      let g = first-known h k (s .0) in (
+        record {
+          inside = s .0 .inside;
+          holds = subst (λ (x : Verdict). T (not (valid x))) (u .same k g) (s .0 .holds);
+          earlier = λ i q t.
+              s .0 .earlier i q (subst (λ (x : Verdict). T (not (valid x))) (sym (u .same i (omega arith))) t);
+        },
+        sym (u .same k g) ∙ s .1,
+      )
+  early h (Unlinked k) s = absurd (not-none h (s .0))
+  early h Clear s = absurd (not-none h (s .0))
+
+  pub says-until : (r : Report) → Says v l n r → Says w l n r
+  says-until r s =
+      ⊎-elim
+      (λ (e : u .known ≡ n). says-moved v w l l n (λ i h. u .same i (omega arith)) (λ i h. refl) r s)
+      (λ (h : u .known < n). early h r s)
+      (eq-or-lt-of-le (u .most))

@@ -1,0 +1,36 @@
+-- What private functions promise each other. Nothing public is stated by it.
+use mathlib.Core.Path.{_≡_}
+use mathlib.Core.Bool.{Bool, false, cond, _&&_}
+use Prim.Native.Nat.{ℕ, _-_, _≤_, _<_}
+use lib.Dec.{T, eqb}
+use Rattle.check_response.specs.declared.Verdict.{Verdict}
+use Rattle.check_response.specs.declared.Verdict.the-variants.{Valid, Refused}
+use Rattle.laws.specs.Least.{IsFirst, Never}
+use Rattle.pile_runs.specs.Clash.{valid}
+use Rattle.pile_report.specs.Report.{refused}
+use Rattle.pile_report.specs.declared.Found.{Found}
+use Rattle.pile_report.specs.declared.Found.the-variants.{At, Nothing}
+use Rattle.pile_report.specs.declared.Report.{Report}
+use Rattle.pile_report.specs.declared.Report.the-variants.{Record, Clear}
+
+-- the first place below n at which p holds, or that there is none
+abbrev pub FirstAt : (ℕ → Bool) → ℕ → Found → Type 0
+FirstAt p n (At k) = IsFirst p n k
+FirstAt p n Nothing = Never p n
+
+-- the answer that the verdict on the first refused record gives
+abbrev pub recordOf : Verdict → ℕ → Report
+recordOf (Refused why) k = Record why k
+recordOf (Valid w) k = Clear
+
+-- of n records with the verdicts w, v has those of the first `known`: all, or else the last of these is refused.
+-- Whether one before it is refused too is not said
+pub record UpToRefused (v w : ℕ → Verdict) (n : ℕ) : Type 0 where
+  pub known : ℕ
+  pub most : known ≤ n
+  pub same : (k : ℕ) → k < known → v k ≡ w k
+  pub stopped : known < n → (0 < known) × T (refused v (known - 1))
+
+-- of records with the verdicts v and the links l: record k and the one before it are valid, and it is linked
+abbrev pub between : (ℕ → Verdict) → (ℕ → Bool) → ℕ → Bool
+between v l k = cond (eqb k 0) false (valid (v (k - 1)) && (valid (v k) && l k))

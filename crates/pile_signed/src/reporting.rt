@@ -1,0 +1,21 @@
+// The check of a report with no answers lent.
+ghost use Rattle.pile_report.specs.Report.{Reports, reportNumber, ReportNumbered};
+ghost use Rattle.pile_signed.specs.OwnAnswers.{ownAnswers};
+use super::gathering::verdicts_until;
+use pile::RECORD;
+use pile::length_bad;
+use pile_report::Report;
+use pile_report::said_of;
+
+// Whether the pile is a report, and the pair that it names. Behind a record that is refused nothing is verified.
+pub fn check_signed_report(pile: &[u8]) -> Report
+    ensures { λ r. ⌜ ReportNumbered (now (pile .entry)) (ownAnswers (now (pile .entry))) (reportNumber r) ⌝ }
+    ensures { λ r. ⌜ Reports (now (pile .entry)) (ownAnswers (now (pile .entry))) r ⌝ }
+{
+    if length_bad(pile) {
+        return Report::Bad;
+    }
+    let n = pile.len() / RECORD;
+    let verdicts = verdicts_until(pile);
+    said_of(pile, verdicts, n)
+}

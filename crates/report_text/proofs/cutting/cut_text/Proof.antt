@@ -1,0 +1,72 @@
+-- `forward::cutting::cut_text` meets its contract.
+use borrow.Author.Needs.{needs}
+use Rattle.report_text.proofs.Lengths.{few, pile-front, front-count, text-cut, text-none, text-much, text-short}
+use Rattle.report_text.proofs.cutting.cut_text.Statement.{statement}
+use Rattle.report_text.proofs.cutting.cut_text.Tie as tie
+
+mul-pile : tie.Need-mul-pile
+mul-pile c =
+    let f =
+    few (c .before .before .before .before .before .before .before .before .before .args .text .now)
+    (c .before .before .before .before .read-report .ensures .0) (c .before .n .given .1) in search needs
+
+array-share-prefix-pile : tie.Need-array-share-prefix-pile
+array-share-prefix-pile c =
+    let f =
+    few (c .before .before .before .before .before .before .before .before .before .args .text .now)
+    (c .before .before .before .before .read-report .ensures .0) (c .before .n .given .1) in search needs
+
+slice-aggregate-cut-pile : tie.Need-slice-aggregate-cut-pile
+slice-aggregate-cut-pile c =
+    let r = c .before .before .before .before .before .read-report .ensures in
+    front-count (c .before .before .before .before .before .before .before .before .before .before .args .text .now)
+    (r .0) (c .before .before .n .given .1) _ (r .1)
+
+returns : tie.Need-returns
+returns c =
+    let a =
+    c .before .before .before .before .before .before .before .before .before .before .before .before .before .before
+    .args in
+    let r = c .before .before .before .before .before .before .before .before .before .read-report .ensures in
+    text-cut (a .text .now) (r .0) (c .before .before .before .before .before .before .n .given .1) (a .answers .now)
+    (a .out .now)
+    (pile-front (a .text .now) (r .0) (c .before .before .before .before .before .before .n .given .1) _ (r .1))
+    (c .before .before .cut-pile .ensures)
+
+returns-2 : tie.Need-returns-2
+returns-2 c =
+    let a = c .before .before .before .before .before .before .before .before .args in
+    text-none (a .text .now) (a .answers .now) (a .out .now) (c .before .before .before .read-report .ensures .0)
+    (c .enum-told .given .1)
+
+returns-3 : tie.Need-returns-3
+returns-3 c =
+    let a = c .before .before .before .before .before .before .before .before .args in
+    text-much (a .text .now) (a .answers .now) (a .out .now) (c .before .before .before .read-report .ensures .0)
+    (c .enum-told2 .given .1)
+
+returns-4 : tie.Need-returns-4
+returns-4 c =
+    let a = c .before .before .before .before .before .before .before .before .args in
+    text-short (a .text .now) (a .answers .now) (a .out .now) (c .before .before .before .read-report .ensures .0)
+    (c .enum-told3 .given .1)
+
+pub cut-text-spec : {M : Type 1} → statement M
+cut-text-spec =
+    tie.close
+    (tie.spec
+    (λ c. search needs)
+    (λ c κs. search needs)
+    (λ c. search needs)
+    mul-pile
+    array-share-prefix-pile
+    slice-aggregate-cut-pile
+    (λ c κs. search needs)
+    (λ c. search needs)
+    (λ c. search needs)
+    (λ c. search needs)
+    (λ c. search needs)
+    returns
+    returns-2
+    returns-3
+    returns-4)

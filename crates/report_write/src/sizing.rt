@@ -1,0 +1,45 @@
+// How long a text will be. It is known before a byte is written, so that nothing is where the buffer is too short.
+ghost use mathlib.Core.Path.{_≡_};
+ghost use Prim.Native.Nat.{_≤_};
+ghost use lib.ListN.{length};
+ghost use Rattle.report_write.specs.Entries.{entryOf, entriesIn};
+ghost use Rattle.report_write.specs.Pieces.{objectText, Fits, Piled};
+ghost use Rattle.report_write.specs.Text.{jsonOf};
+use pile::record_at;
+use pile::request_of;
+use pile::response_of;
+
+// The length of a record's object: what is fixed in it, and its two packets in base64.
+fn object_size(r: &[u8], first: bool) -> usize
+    requires { ⌜ Fits (now r) ⌝ }
+    ensures { λ x. ⌜ (x ≡ length (objectText first (entryOf (now (r .entry))))) × (x ≤ 5477) ⌝ }
+{
+    let q = (request_of(r).len() + 2) / 3 * 4;
+    let a = (response_of(r).len() + 2) / 3 * 4;
+    if first {
+        return 87 + q + a;
+    }
+    141 + q + a
+}
+
+// The length of the text of the first n records.
+pub fn text_size(p: &[u8], n: usize) -> usize
+    requires { ⌜ Piled (now p) 0 n × (n ≤ 16) ⌝ }
+    ensures { λ r. ⌜ r ≡ length (jsonOf (entriesIn n (now (p .entry)) 0)) ⌝ }
+{
+    // {"responses":[
+    let mut size = 14;
+    let mut k = 0;
+    let mut first = true;
+    let mut left = n;
+    loop {
+        size += object_size(record_at(p, k), first);
+        if left == 1 {
+            return size + 2;
+        }
+        size += 1;
+        k += 1;
+        first = false;
+        left -= 1;
+    }
+}

@@ -1,5 +1,0 @@
--- Laws that belong to no one function.
-pub mod Answers
-pub mod Rounding
-pub mod Exactly
-pub mod Once

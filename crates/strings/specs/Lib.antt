@@ -1,2 +1,0 @@
--- What the contracts of strings cite: RFC 8259's strings, and what they hold.
-pub mod Text

@@ -1,0 +1,84 @@
+// The way up from the leaves to the root: what is wanted of a level is written, and then the level is halved.
+ghost use Prim.Native.Nat.{_≤_, _^_};
+ghost use lib.ListN.{length};
+ghost use Rattle.tree.specs.Tree.{nodesIn};
+ghost use Rattle.tree_build.specs.Level.{few, CanBuild, Fits, Ascends};
+use super::Wanted;
+use super::level::FEW;
+use super::level::Few;
+use super::level::halved_few;
+use super::level::halved_many;
+use super::level::narrowed;
+use super::part::put_part;
+use super::row::bottom;
+use super::size::MOST;
+use super::size::width;
+
+// The root of the tree of depth d whose leaves are the first nodes of a small level. What is wanted of it is written
+// from index start of out on: siblings are those of the leaf at place.
+fn ascend_few(
+    level: Few,
+    d: u32,
+    wanted: Wanted,
+    place: usize,
+    out: &mut [u8],
+    start: usize,
+) -> [u8; 32]
+    requires { ⌜ (2 ^ d ≤ few) × Fits wanted d place start (length (now out)) ⌝ }
+    ensures { λ r. ⌜ Ascends level d wanted place (now (out .entry)) start (now (out .exit)) r ⌝ }
+{
+    let mut row = level;
+    let mut n = width(d);
+    let mut left = d;
+    let mut j = place;
+    let mut at = start;
+    while 0 < left {
+        at = put_part(wanted, &row, n, j, out, at);
+        n = n / 2;
+        j = j / 2;
+        left -= 1;
+        let up = halved_few(row, n);
+        row = up;
+    }
+    row[0]
+}
+
+// The root of the tree of depth d over the leaves. What is wanted of it is written at the front of out: siblings are
+// those of the leaf at place.
+pub fn ascend(
+    leaves: &[u8],
+    count: usize,
+    d: u32,
+    wanted: Wanted,
+    place: usize,
+    out: &mut [u8],
+) -> [u8; 32]
+    requires { ⌜ CanBuild (now leaves) count d × Fits wanted d place 0 (length (now out)) ⌝ }
+    ensures { λ r. ⌜
+        Ascends (nodesIn count (now (leaves .entry))) d wanted place (now (out .entry)) 0 (now (out .exit)) r
+        ⌝ }
+{
+    let mut n = width(d);
+    if n <= FEW {
+        let mut row = [[0u8; 32]; FEW];
+        bottom(leaves, count, n, &mut row);
+        return ascend_few(row, d, wanted, place, out, 0);
+    }
+    let mut row = [[0u8; 32]; MOST];
+    bottom(leaves, count, n, &mut row);
+    let mut left = d;
+    let mut j = place;
+    let mut at: usize = 0;
+    loop {
+        at = put_part(wanted, &row, n, j, out, at);
+        n = n / 2;
+        j = j / 2;
+        left -= 1;
+        if n <= FEW {
+            let next = narrowed(row, n);
+            return ascend_few(next, left, wanted, j, out, at);
+        }
+        let up = halved_many(row, n);
+        row = up;
+    }
+}

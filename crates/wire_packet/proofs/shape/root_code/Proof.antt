@@ -1,0 +1,18 @@
+-- `wire::shape::root_code` meets its contract. The numbers that the code hands over are the rows of the table.
+use Rattle.laws.specs.Upto.{upto}
+use Rattle.wire_message.specs.Numbered.{ruleIn, rowsIn}
+use borrow.Author.Needs.{needs}
+use Rattle.wire_packet.proofs.shape.root_code.Statement.{statement}
+use Rattle.wire_packet.proofs.shape.root_code.Tie as tie
+
+returns : tie.Need-returns
+unfolding upto ruleIn rowsIn
+returns c = c .message-code .ensures
+
+pub root-code-spec : {M : Type 1} → statement M
+root-code-spec =
+    tie.close
+    (tie.spec
+    (λ c. search needs)
+    (λ c κs. search needs)
+    returns)
