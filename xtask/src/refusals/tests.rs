@@ -160,15 +160,18 @@ fn what_a_callee_requires_is_a_kind_of_its_own() {
 #[test]
 fn what_does_not_fit_is_unfit_and_what_is_new_is_other() {
     for words in [
-        "`tie` has no `Need-returns-3`",
-        "`c .before` has no field named `turn16`",
+        "`tie`: module `Tie` has no `Need-returns-3` that can be named from here",
+        "`turn16` is not a field of record `Known`",
         "this λ has 2 binders, but its type has room for only 1: at `κs` the type is `x`",
         "`close` was not admitted (it has holes or undetermined implicits, or was rejected)",
         "`miss` is not in scope: not a local variable, nor a definition admitted earlier",
     ] {
         assert_eq!(kind_of("returns", words), Kind::Unfit, "{words}");
     }
-    let unread = "/x/P.antt:1:2: error: expected a term, found `)`";
-    assert_eq!(Kind::of(unread), Kind::Unfit);
+    for unread in
+        ["expected a term, found `)`", "module `Tie` has no `x` that can be named from here"]
+    {
+        assert_eq!(Kind::of(&format!("/x/P.antt:1:2: error: {unread}")), Kind::Unfit, "{unread}");
+    }
     assert_eq!(kind_of("returns", "words that nobody has read yet"), Kind::Other);
 }
