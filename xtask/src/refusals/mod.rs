@@ -77,13 +77,12 @@ fn differences(kept: &[(usize, Row)], rows: &[Row], said: &str) -> Vec<String> {
         let name = &old.name;
         let what = match due.get(name.as_str()) {
             None => format!("there is no wrong program {name}"),
-            Some(new) if new.file != old.file => {
-                format!("{name} is refused in {} now, and not in {}: {how}", new.file, old.file)
-            }
-            Some(new) if new.kind != old.kind => format!(
-                "{name} is refused by an error of kind {} now, and not {} ({}): {how}",
-                new.kind.word(),
+            Some(new) if (&new.file, new.kind) != (&old.file, old.kind) => format!(
+                "{name} was refused in {} ({}), and is in {} ({}) now, by {}: {how}",
+                old.file,
                 old.kind.word(),
+                new.file,
+                new.kind.word(),
                 new.log
             ),
             Some(_) => continue,

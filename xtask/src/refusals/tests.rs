@@ -51,8 +51,8 @@ fn another_file_is_found() {
     let scratch = right();
     scratch.alter("said", "proofs/P.antt", "proofs/Q.antt");
     let problems = found(checked(&scratch, &[]));
-    let due =
-        "tools/refusals.txt:1: a/one is refused in proofs/Q.antt now, and not in proofs/P.antt";
+    let due = "tools/refusals.txt:1: a/one was refused in proofs/P.antt (false), and is in \
+        proofs/Q.antt (false) now, by target/must-fail/a/one/.log:1: read again";
     assert_eq!(problems.len(), 1);
     assert!(problems[0].starts_with(due), "{problems:?}");
 }
@@ -67,8 +67,8 @@ fn another_kind_is_found_with_the_place_of_its_error() {
     );
     let problems = found(checked(&scratch, &[]));
     let due =
-        "tools/refusals.txt:2: a/two is refused by an error of kind bound now, and not unsolved \
-        (target/must-fail/a/two/.log:1)";
+        "tools/refusals.txt:2: a/two was refused in src/lib.rt (unsolved), and is in src/lib.rt \
+        (bound) now, by target/must-fail/a/two/.log:1: read again";
     assert_eq!(problems.len(), 1);
     assert!(problems[0].starts_with(due), "{problems:?}");
 }
@@ -78,7 +78,10 @@ fn a_kind_that_nobody_has_read_is_found() {
     let scratch = right();
     scratch.alter(LIST, "P.antt false", "P.antt unread");
     let problems = found(checked(&scratch, &[]));
-    assert!(problems[0].contains("an error of kind false now, and not unread"), "{problems:?}");
+    assert!(
+        problems[0].contains("proofs/P.antt (unread), and is in proofs/P.antt (false) now"),
+        "{problems:?}"
+    );
 }
 
 #[test]
