@@ -34,8 +34,8 @@ pub fn check(tree: &Tree, words: &[&str]) -> Verdict {
     unless(problems, format!("{} wrong programs: {}", rows.len(), in_words(&rows)))
 }
 
-/// What a run says of every wrong program, sorted by name. One that it does not have, or that has no
-/// log, is an error, lest it be passed over.
+/// What a run says of every wrong program, sorted by name. One that it does not have, or that has
+/// no log, is an error, lest it be passed over.
 fn of_run(tree: &Tree, said: &str) -> Checked<Vec<Row>> {
     let text = fs::read(said).map_err(|why| Wrong::one(format!("{said} cannot be read: {why}")))?;
     let text = String::from_utf8_lossy(&text);

@@ -1,10 +1,12 @@
-//! A run of two wrong programs, and what can become of it. The errors are as rt's prover words them.
+//! A run of two wrong programs, and what can become of it. The errors are as rt's prover words
+//! them.
 
 use super::*;
 use crate::testing::{found, Scratch};
 
-const FALSE: &str = "/x/P.antt:26:82: error: `loop-again`: computed as far as they go, the two types \
-    differ only where one has `1` (expected) and the other has `0` (found)\n  expected type `Path`\n";
+const FALSE: &str = "/x/P.antt:26:82: error: `loop-again`: computed as far as they go, the two \
+    types differ only where one has `1` (expected) and the other has `0` (found)\n  expected type \
+    `Path`\n";
 
 const NOTED: &str =
     "note: /x/src/lib.rt:26:1: it is not proved that what the function ensures holds \
@@ -129,11 +131,11 @@ fn the_list_is_written_anew() {
 #[test]
 fn facts_that_are_false_are_of_that_kind() {
     for words in [
-        "`omega`: the goal does not follow from what it read. All of that holds, and the goal fails, \
-         at `x`\n  = 1. It read 10 hypotheses",
+        "`omega`: the goal does not follow from what it read. All of that holds, and the goal \
+         fails, at `x`\n  = 1. It read 10 hypotheses",
         "as printed, the two types first differ where one has `a` (expected), at the start",
-        "give a proof of that as the last argument, `rw L t`\n  `rw` has no last argument, so what it \
-         leaves must be a path whose two ends are equal, and `Path` is none",
+        "give a proof of that as the last argument, `rw L t`\n  `rw` has no last argument, so what \
+         it leaves must be a path whose two ends are equal, and `Path` is none",
         "`a`\n  ≟ `b`\n  does not hold (this comparison had to wait for a metavariable)",
     ] {
         assert_eq!(kind_of("returns-2", words), Kind::False, "{words}");
