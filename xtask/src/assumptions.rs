@@ -1,7 +1,7 @@
-//! Holds what rt said of each crate to the claim that no proof assumes anything: a library is proved
-//! with no axiom of its own. A program is linked with libc, whose functions' contracts the kit
-//! assumes, for it and for what is below it; rt counts them at the program, and they are told here.
-//! It reads the logs that rt check or rt ci left in target/log.
+//! Holds what rt said of each crate to the claim that no proof assumes anything: a library is
+//! proved with no axiom of its own. A program is linked with libc, whose functions' contracts the
+//! kit assumes, for it and for what is below it; rt counts them at the program, and they are told
+//! here. It reads the logs that rt check or rt ci left in target/log.
 
 use crate::report::{no_words, unless, Verdict};
 use crate::scan::digits;
@@ -28,8 +28,8 @@ pub fn check(tree: &Tree, words: &[&str]) -> Verdict {
         }
     }
     let said = format!(
-        "{libraries} libraries are proved with no axiom of their own; functions of C's are taken at \
-         their word by the programs: {}",
+        "{libraries} libraries are proved with no axiom of their own; functions of C's are taken \
+         at their word by the programs: {}",
         programs.join(", ")
     );
     unless(problems, said)

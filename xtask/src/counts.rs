@@ -1,6 +1,6 @@
 //! Holds README's table of what is compared, and how often, to what the tests said. Each of them
-//! says `counted: NUMBER WHAT` of the cases that it held; numbers of the same WHAT are added up. The
-//! table has just these, and none is missing.
+//! says `counted: NUMBER WHAT` of the cases that it held; numbers of the same WHAT are added up.
+//! The table has just these, and none is missing.
 
 use crate::report::{at, unless, Checked, Verdict, Wrong};
 use crate::scan::{digits, numbered};

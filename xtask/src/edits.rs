@@ -61,8 +61,8 @@ mod tests {
         let tree = right();
         tree.put("crates/a/src/lib.rt", "nothing\n");
         let due = [
-            "crates/a/must-fail/one.edit:3: stands 0 times in crates/a/src/lib.rt, and not once: x + 1",
-            "crates/a/must-fail/one.edit:5: stands 0 times in crates/a/src/lib.rt, and not once: y",
+            format!("{EDIT}:3: stands 0 times in crates/a/src/lib.rt, and not once: x + 1"),
+            format!("{EDIT}:5: stands 0 times in crates/a/src/lib.rt, and not once: y"),
         ];
         assert_eq!(found(check(&tree.tree(), &[])), due);
     }

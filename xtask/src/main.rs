@@ -37,34 +37,34 @@ struct Check {
 const fn check(
     name: &'static str,
     words: &'static str,
-    about: &'static str,
     run: fn(&Tree, &[&str]) -> Verdict,
+    about: &'static str,
 ) -> Check {
     Check { name, words, about, run }
 }
 
 #[rustfmt::skip] // a table
 const CHECKS: [Check; 10] = [
-    check("statements", "",
-        "docs/STATEMENTS.md has each wrong program and each theorem of uniqueness", statements::check),
-    check("codes", "[--write]",
-        "the header and the Rust host have the table of refusal codes", codes::check),
-    check("edits", "",
-        "the wrong programs fit the files that they change", edits::check),
-    check("versions", "[--write]",
-        "the version is VERSION's wherever it stands", versions::check),
-    check("links", "[FOLDER]",
-        "relative links of the documents, or of all below FOLDER, lead somewhere", links::check),
-    check("rules", "",
-        "docs/RULES.md has what is cited of the customer's papers", rules::check),
-    check("refusals", "[--write] SAID",
-        "the wrong programs are refused as tools/refusals.txt has it; SAID is what rt said", refusals::check),
-    check("assumptions", "",
-        "rt's logs in target/log have no library that assumes anything", assumptions::check),
-    check("counts", "FILE...",
-        "README's table of comparisons has what the tests counted; they said it in FILEs", counts::check),
-    check("poke", "FILE OFFSET BYTE",
-        "puts another byte into a file", poke::check),
+    check("statements", "", statements::check,
+        "docs/STATEMENTS.md has each wrong program and each theorem of uniqueness"),
+    check("codes", "[--write]", codes::check,
+        "the header and the Rust host have the table of refusal codes"),
+    check("edits", "", edits::check,
+        "the wrong programs fit the files that they change"),
+    check("versions", "[--write]", versions::check,
+        "the version is VERSION's wherever it stands"),
+    check("links", "[FOLDER]", links::check,
+        "relative links of the documents, or of all below FOLDER, lead somewhere"),
+    check("rules", "", rules::check,
+        "docs/RULES.md has what is cited of the customer's papers"),
+    check("refusals", "[--write] SAID", refusals::check,
+        "the wrong programs are refused as tools/refusals.txt has it; SAID is what rt said"),
+    check("assumptions", "", assumptions::check,
+        "rt's logs in target/log have no library that assumes anything"),
+    check("counts", "FILE...", counts::check,
+        "README's table of comparisons has what the tests counted; they said it in FILEs"),
+    check("poke", "FILE OFFSET BYTE", poke::check,
+        "puts another byte into a file"),
 ];
 
 fn usage() -> String {

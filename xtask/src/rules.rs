@@ -126,7 +126,8 @@ mod tests {
     fn right() -> Scratch {
         let mut page =
             String::from("## Windows\n\n**Links** are\n\n## P3: more\n\n## Refusal codes\n\n");
-        page += "| code | words |\n|---|---|\n| 1 | long |\n\n## Examples\n\n| n | words |\n|---|---|\n";
+        page += "| code | words |\n|---|---|\n| 1 | long |\n\n";
+        page += "## Examples\n\n| n | words |\n|---|---|\n";
         for number in 1..=EXAMPLES {
             page += &format!("| {number} | words |\n");
         }

@@ -118,7 +118,7 @@ mod tests {
         |---|---|---|---|---|\n\
         | put | a.rt | `put-once` | `too_long`, `bad` | 1 |\n\
         \n\
-        All have `..-once`, exports `tb-put-once`; `low_1/other` is told apart, as `some-law` is.\n";
+        All have `..-once`, exports `tb-put-once`; `low_1/other` is told apart, and `a-law`.\n";
 
     fn right() -> Scratch {
         Scratch::new(&[

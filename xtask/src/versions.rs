@@ -15,8 +15,9 @@ enum Part {
     Minor,
 }
 
-/// Where the version stands: a file, what its line begins with, where * is anything but a quote, and
-/// which of the numbers follow. In a lock file it is the first such line behind our package's name.
+/// Where the version stands: a file, what its line begins with, where * is anything but a quote,
+/// and which of the numbers follow. In a lock file it is the first such line behind our package's
+/// name.
 struct Place {
     file: &'static str,
     before: &'static str,
@@ -161,7 +162,8 @@ mod tests {
     use crate::testing::{found, Scratch};
 
     const LOCK: &str = "[[package]]\nname = \"other\"\nversion = \"0.1.0\"\n\n[[package]]\n\
-        name = \"trawlbeacon\"\nversion = \"1.2.3\"\n\n[[package]]\nname = \"x\"\nversion = \"9.9.9\"\n";
+        name = \"trawlbeacon\"\nversion = \"1.2.3\"\n\n\
+        [[package]]\nname = \"x\"\nversion = \"9.9.9\"\n";
 
     fn right() -> Scratch {
         let header = "#define TB_VERSION_MAJOR 1\n#define TB_VERSION_MINOR 2\n";

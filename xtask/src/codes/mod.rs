@@ -1,6 +1,7 @@
-//! The refusal codes have one table, src/codes.rt of the crate that has it: their numbers, names and
-//! words. The header and the Rust host have them between two comments of a line each, "codes: begin"
-//! and "codes: end"; this fails where either says anything else, and with --write writes both anew.
+//! The refusal codes have one table, src/codes.rt of the crate that has it: their numbers, names
+//! and words. The header and the Rust host have them between two comments of a line each, "codes:
+//! begin" and "codes: end"; this fails where either says anything else, and with --write writes
+//! both anew.
 
 mod in_c;
 mod in_rust;

@@ -15,8 +15,8 @@ pub fn file(tree: &Tree) -> Checked<String> {
     tree.one_of_crates("src/codes.rt")
 }
 
-/// The codes of a table. The words of one are the comment that ends on the line before its constant.
-/// A line that is neither is an error, lest a code be passed over.
+/// The codes of a table. The words of one are the comment that ends on the line before its
+/// constant. A line that is neither is an error, lest a code be passed over.
 pub fn read(file: &str, text: &str) -> Checked<Vec<Code>> {
     let mut codes: Vec<Code> = Vec::new();
     let mut words: Vec<&str> = Vec::new();

@@ -1,5 +1,5 @@
-//! The kept list, a line for each wrong program: its name, the file of its first error, and the kind
-//! of that error, with blanks between.
+//! The kept list, a line for each wrong program: its name, the file of its first error, and the
+//! kind of that error, with blanks between.
 
 use super::kind::Kind;
 use crate::report::{at, Checked, Wrong};
@@ -14,8 +14,8 @@ pub struct Row {
     pub log: String,
 }
 
-/// The wrong program that a line of rt's output tells of as refused, and the file of its first error,
-/// or "nowhere".
+/// The wrong program that a line of rt's output tells of as refused, and the file of its first
+/// error, or "nowhere".
 pub fn refused(line: &str) -> Option<(&str, &str)> {
     let (name, rest) = line.strip_prefix("rt: must-fail ")?.split_once(": refused")?;
     let place = rest.split_once("(first at ").and_then(|(_, place)| place.split_once(':'));

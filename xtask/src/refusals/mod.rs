@@ -34,8 +34,8 @@ pub fn check(tree: &Tree, words: &[&str]) -> Verdict {
     unless(problems, format!("{} wrong programs: {}", rows.len(), in_words(&rows)))
 }
 
-/// What a run says of every wrong program, sorted by name. One that it does not have, or that has no
-/// log, is an error, lest it be passed over.
+/// What a run says of every wrong program, sorted by name. One that it does not have, or that has
+/// no log, is an error, lest it be passed over.
 fn of_run(tree: &Tree, said: &str) -> Checked<Vec<Row>> {
     let text = fs::read(said).map_err(|why| Wrong::one(format!("{said} cannot be read: {why}")))?;
     let text = String::from_utf8_lossy(&text);
@@ -77,13 +77,12 @@ fn differences(kept: &[(usize, Row)], rows: &[Row], said: &str) -> Vec<String> {
         let name = &old.name;
         let what = match due.get(name.as_str()) {
             None => format!("there is no wrong program {name}"),
-            Some(new) if new.file != old.file => {
-                format!("{name} is refused in {} now, and not in {}: {how}", new.file, old.file)
-            }
-            Some(new) if new.kind != old.kind => format!(
-                "{name} is refused by an error of kind {} now, and not {} ({}): {how}",
-                new.kind.word(),
+            Some(new) if (&new.file, new.kind) != (&old.file, old.kind) => format!(
+                "{name} was refused in {} ({}), and is in {} ({}) now, by {}: {how}",
+                old.file,
                 old.kind.word(),
+                new.file,
+                new.kind.word(),
                 new.log
             ),
             Some(_) => continue,

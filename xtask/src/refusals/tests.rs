@@ -1,10 +1,12 @@
-//! A run of two wrong programs, and what can become of it. The errors are as rt's prover words them.
+//! A run of two wrong programs, and what can become of it. The errors are as rt's prover words
+//! them.
 
 use super::*;
 use crate::testing::{found, Scratch};
 
-const FALSE: &str = "/x/P.antt:26:82: error: `loop-again`: computed as far as they go, the two types \
-    differ only where one has `1` (expected) and the other has `0` (found)\n  expected type `Path`\n";
+const FALSE: &str = "/x/P.antt:26:82: error: `loop-again`: computed as far as they go, the two \
+    types differ only where one has `1` (expected) and the other has `0` (found)\n  expected type \
+    `Path`\n";
 
 const NOTED: &str =
     "note: /x/src/lib.rt:26:1: it is not proved that what the function ensures holds \
@@ -51,8 +53,8 @@ fn another_file_is_found() {
     let scratch = right();
     scratch.alter("said", "proofs/P.antt", "proofs/Q.antt");
     let problems = found(checked(&scratch, &[]));
-    let due =
-        "tools/refusals.txt:1: a/one is refused in proofs/Q.antt now, and not in proofs/P.antt";
+    let due = "tools/refusals.txt:1: a/one was refused in proofs/P.antt (false), and is in \
+        proofs/Q.antt (false) now, by target/must-fail/a/one/.log:1: read again";
     assert_eq!(problems.len(), 1);
     assert!(problems[0].starts_with(due), "{problems:?}");
 }
@@ -67,8 +69,8 @@ fn another_kind_is_found_with_the_place_of_its_error() {
     );
     let problems = found(checked(&scratch, &[]));
     let due =
-        "tools/refusals.txt:2: a/two is refused by an error of kind bound now, and not unsolved \
-        (target/must-fail/a/two/.log:1)";
+        "tools/refusals.txt:2: a/two was refused in src/lib.rt (unsolved), and is in src/lib.rt \
+        (bound) now, by target/must-fail/a/two/.log:1: read again";
     assert_eq!(problems.len(), 1);
     assert!(problems[0].starts_with(due), "{problems:?}");
 }
@@ -78,7 +80,10 @@ fn a_kind_that_nobody_has_read_is_found() {
     let scratch = right();
     scratch.alter(LIST, "P.antt false", "P.antt unread");
     let problems = found(checked(&scratch, &[]));
-    assert!(problems[0].contains("an error of kind false now, and not unread"), "{problems:?}");
+    assert!(
+        problems[0].contains("proofs/P.antt (unread), and is in proofs/P.antt (false) now"),
+        "{problems:?}"
+    );
 }
 
 #[test]
@@ -126,11 +131,11 @@ fn the_list_is_written_anew() {
 #[test]
 fn facts_that_are_false_are_of_that_kind() {
     for words in [
-        "`omega`: the goal does not follow from what it read. All of that holds, and the goal fails, \
-         at `x`\n  = 1. It read 10 hypotheses",
+        "`omega`: the goal does not follow from what it read. All of that holds, and the goal \
+         fails, at `x`\n  = 1. It read 10 hypotheses",
         "as printed, the two types first differ where one has `a` (expected), at the start",
-        "give a proof of that as the last argument, `rw L t`\n  `rw` has no last argument, so what it \
-         leaves must be a path whose two ends are equal, and `Path` is none",
+        "give a proof of that as the last argument, `rw L t`\n  `rw` has no last argument, so what \
+         it leaves must be a path whose two ends are equal, and `Path` is none",
         "`a`\n  ≟ `b`\n  does not hold (this comparison had to wait for a metavariable)",
     ] {
         assert_eq!(kind_of("returns-2", words), Kind::False, "{words}");
@@ -160,15 +165,18 @@ fn what_a_callee_requires_is_a_kind_of_its_own() {
 #[test]
 fn what_does_not_fit_is_unfit_and_what_is_new_is_other() {
     for words in [
-        "`tie` has no `Need-returns-3`",
-        "`c .before` has no field named `turn16`",
+        "`tie`: module `Tie` has no `Need-returns-3` that can be named from here",
+        "`turn16` is not a field of record `Known`",
         "this λ has 2 binders, but its type has room for only 1: at `κs` the type is `x`",
         "`close` was not admitted (it has holes or undetermined implicits, or was rejected)",
         "`miss` is not in scope: not a local variable, nor a definition admitted earlier",
     ] {
         assert_eq!(kind_of("returns", words), Kind::Unfit, "{words}");
     }
-    let unread = "/x/P.antt:1:2: error: expected a term, found `)`";
-    assert_eq!(Kind::of(unread), Kind::Unfit);
+    for unread in
+        ["expected a term, found `)`", "module `Tie` has no `x` that can be named from here"]
+    {
+        assert_eq!(Kind::of(&format!("/x/P.antt:1:2: error: {unread}")), Kind::Unfit, "{unread}");
+    }
     assert_eq!(kind_of("returns", "words that nobody has read yet"), Kind::Other);
 }
