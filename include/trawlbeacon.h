@@ -58,7 +58,7 @@ extern "C" {
 
 /* ---- Codes ---- */
 
-/* Between the two marks stands what tools/codes makes of the library's own table. */
+/* Between the two marks stands what cargo xtask codes makes of the library's own table. */
 /* codes: begin */
 enum tb_code {
     /* passed */

@@ -2015,7 +2015,7 @@ int main(void) {
         printf("the C host: %d of %d comparisons differ\n", differing, compared);
         return 1;
     }
-    /* tools/counts holds README's table to this line. */
+    /* xtask counts holds README's table to this line. */
     printf("counted: %d comparisons from C with what the header says\n", compared);
     return fflush(stdout) == 0 ? 0 : 1;
 }
