@@ -32,12 +32,10 @@ const GROUPS: [(&str, &[&str]); 6] = [
         &[
             "digits",
             "ed25519_field",
-            "ed25519_residue",
-            "ed25519_power",
+            "ed25519_scalar",
             "ed25519_curve",
             "ed25519_doubles",
             "ed25519_base",
-            "ed25519_scalar",
             "ed25519_point",
             "ed25519",
         ],
