@@ -2,7 +2,7 @@
 ghost use Prim.Native.Nat.{_+_, _≤_};
 ghost use lib.ListN.{length};
 ghost use Rattle.laws.specs.Written.{Puts};
-ghost use Rattle.lines.specs.Line.{decimal, spaced, twoSpaced};
+ghost use Rattle.console_lines.specs.Line.{decimal, spaced, twoSpaced};
 use octets::put;
 
 // A word.

@@ -2,11 +2,11 @@
 use mathlib.Core.Path.{sym, ap}
 use native.Mathlib.Omega.{arith}
 use Rattle.check_response.specs.declared.Verdict.{Verdict}
-use Rattle.lines.specs.Line.{recordLine}
+use Rattle.console_lines.specs.Line.{recordLine}
 use Rattle.laws.proofs.Written.{puts-as}
 use borrow.Author.Needs.{needs}
-use Rattle.lines.proofs.lines.put_record.Statement.{statement}
-use Rattle.lines.proofs.lines.put_record.Tie as tie
+use Rattle.console_lines.proofs.lines.put_record.Statement.{statement}
+use Rattle.console_lines.proofs.lines.put_record.Tie as tie
 
 returns : tie.Need-returns
 returns c =

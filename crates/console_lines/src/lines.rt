@@ -2,7 +2,7 @@
 ghost use Prim.Native.Nat.{_+_, _≤_};
 ghost use lib.ListN.{length};
 ghost use Rattle.laws.specs.Written.{Puts};
-ghost use Rattle.lines.specs.Line.{labelled, windowLine, placeText, refusalLine, recordLine, runLine};
+ghost use Rattle.console_lines.specs.Line.{labelled, windowLine, placeText, refusalLine, recordLine, runLine};
 use super::pieces::put_number;
 use super::pieces::put_spaced;
 use super::pieces::put_two;

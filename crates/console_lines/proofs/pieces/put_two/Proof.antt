@@ -1,10 +1,10 @@
 -- `lines::pieces::put_two` meets its contract. The one number follows the other.
 use native.Mathlib.Omega.{arith}
-use Rattle.lines.specs.Line.{twoSpaced}
+use Rattle.console_lines.specs.Line.{twoSpaced}
 use Rattle.laws.proofs.Written.{puts-more}
 use borrow.Author.Needs.{needs}
-use Rattle.lines.proofs.pieces.put_two.Statement.{statement}
-use Rattle.lines.proofs.pieces.put_two.Tie as tie
+use Rattle.console_lines.proofs.pieces.put_two.Statement.{statement}
+use Rattle.console_lines.proofs.pieces.put_two.Tie as tie
 
 returns : tie.Need-returns
 unfolding twoSpaced

@@ -2,10 +2,10 @@
 use mathlib.Core.Path.{_∙_}
 use native.Mathlib.Omega.{arith}
 use Rattle.laws.proofs.Written.{puts-as}
-use Rattle.lines.proofs.Decimals.{decimal-short, decimal-is}
+use Rattle.console_lines.proofs.Decimals.{decimal-short, decimal-is}
 use borrow.Author.Needs.{needs}
-use Rattle.lines.proofs.pieces.put_number.Statement.{statement}
-use Rattle.lines.proofs.pieces.put_number.Tie as tie
+use Rattle.console_lines.proofs.pieces.put_number.Statement.{statement}
+use Rattle.console_lines.proofs.pieces.put_number.Tie as tie
 
 put-word-requires : tie.Need-put-word-requires
 put-word-requires c κs =

@@ -7,7 +7,7 @@ use borrow.Author.Tests.{lt-ltb, le-ltb}
 use native.Mathlib.Nat.{one-le-pow, pow-le-pow-right, zero-lt-suc}
 use Rattle.io.specs.Digits.{glyph, digits, Fewest}
 use Rattle.laws.proofs.Split.{split}
-use Rattle.lines.specs.Line.{decimalIn}
+use Rattle.console_lines.specs.Line.{decimalIn}
 
 -- a number of 64 bits has 20 digits at most
 pub decimal-short : (n r : ℕ) → n < 2 ^ 64 → Fewest 10 1 n r → r ≤ 20

@@ -2,10 +2,10 @@
 use native.Mathlib.Omega.{arith}
 use borrow.Author.Needs.{needs}
 use borrow.Author.Tests.{le-leb, lt-leb}
-use Rattle.lines.specs.Line.{placeText}
+use Rattle.console_lines.specs.Line.{placeText}
 use Rattle.laws.proofs.Written.{puts-none}
-use Rattle.lines.proofs.lines.put_place.Statement.{statement}
-use Rattle.lines.proofs.lines.put_place.Tie as tie
+use Rattle.console_lines.proofs.lines.put_place.Statement.{statement}
+use Rattle.console_lines.proofs.lines.put_place.Tie as tie
 
 returns : tie.Need-returns
 unfolding placeText

@@ -1,10 +1,10 @@
 -- `lines::pieces::put_spaced` meets its contract. The number follows the space.
 use native.Mathlib.Omega.{arith}
-use Rattle.lines.specs.Line.{spaced}
+use Rattle.console_lines.specs.Line.{spaced}
 use Rattle.laws.proofs.Written.{puts-more}
 use borrow.Author.Needs.{needs}
-use Rattle.lines.proofs.pieces.put_spaced.Statement.{statement}
-use Rattle.lines.proofs.pieces.put_spaced.Tie as tie
+use Rattle.console_lines.proofs.pieces.put_spaced.Statement.{statement}
+use Rattle.console_lines.proofs.pieces.put_spaced.Tie as tie
 
 returns : tie.Need-returns
 unfolding spaced
