@@ -317,11 +317,14 @@ fn a_pipe_is_read_once() {
         .expect("it is kept");
     let mut cat = Command::new("cat").stdin(pile).stdout(Stdio::piped()).spawn().expect("cat runs");
     let mut command = room.command(&["/dev/stdin"]);
-    let ran = command.stdin(cat.stdout.take().expect("it is piped")).output().expect("it runs");
+    let ran = command.stdin(cat.stdout.take().expect("it is piped")).output().map(Ran::of);
+    let ran = ran.expect("it runs");
     cat.wait().expect("cat ends");
     let due: String = due("trawl_alone").lines().take(5).map(|line| format!("{line}\n")).collect();
-    assert_eq!(String::from_utf8(ran.stdout), Ok(due));
-    assert_eq!((ran.stderr, ran.status.code()), (vec![], Some(0)));
+    assert_eq!((ran.out, ran.status), (due, Some(0)));
+    // Of what cannot be read again nothing is said but this.
+    assert!(ran.said.starts_with("trawl: whose keys these are nobody"), "{}", ran.said);
+    assert_eq!(ran.said.lines().count(), 1, "{}", ran.said);
 }
 
 /// A pipe that has a name, and one that has none, for each action.
