@@ -24,6 +24,9 @@ c_host() {
     c_program example && console_says build/c/example || return
     c_program walk && says build/c/walk "consistent" 7 || return
     says build/c/walk "malfeasance: records 1 and 2 contradict each other" 8 || return
+    # With one liar among three there is a time all the same.
+    says build/c/walk "$(printf '%s\n%s' "malfeasance: records 1 and 2 contradict each other" \
+        "the time is from 1773685573999900 to 1773685581000200")" 8 1 || return
     command -v c++ >/dev/null || return 0
     c++ -std=c++11 -Wall -Wextra -Werror -fsyntax-only -x c++ include/trawlbeacon.h
 }
