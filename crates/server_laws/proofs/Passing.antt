@@ -284,7 +284,7 @@ module _ (a : Reply) (t : Typed a) (g : Granted a) where
   -- reading it gives the request's NONC and these INDX, MIDP, RADI and ROOT;
   pub reply-reads : responseOf p
       ≡ record {
-        answer = passed;
+        refusal = passed;
         nonc = nonceOf a;
         indx = a .indx;
         midp = a .midp;
@@ -298,7 +298,7 @@ module _ (a : Reply) (t : Typed a) (g : Granted a) where
   -- what a client verifies is this signature and, of the CERT, its signature and its key,
   pub reply-parts : partsOf p
       ≡ record {
-        answer = passed;
+        refusal = passed;
         signature = a .signature;
         delegation = valueOf (a .cert) SIG;
         pubk = valueOf (deleOf (a .cert)) PUBK;

@@ -33,7 +33,7 @@ use Rattle.wire_request.proofs.RequestPieces.{length-message}
 
 -- what reading a request to the server with this key, with this nonce, is to answer
 abbrev pub asked : List ℕ → List ℕ → Request
-asked key nonce = record { answer = passed; nonc = nonce; «with_srv» = true; srv = srvOf key }
+asked key nonce = record { refusal = passed; nonc = nonce; «with_srv» = true; srv = srvOf key }
 
 module _ (key nonce : List ℕ) (n32 : length nonce ≡ 32) where
   abbrev fs : List Field
