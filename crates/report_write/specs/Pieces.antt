@@ -1,4 +1,5 @@
 -- For the private functions: the pieces that are put one behind the other, and the records that can be written.
+use Prim.Native.Char.{code}
 use Prim.Native.Nat.{ℕ, zero, suc, _+_, _*_, _≤_, _<_}
 use mathlib.Core.Bool.{Bool, true, false}
 use mathlib.Core.List.{List, [], _∷_, _++_}
@@ -46,7 +47,7 @@ objectText first e = headOf first e ++ packetsOf e ++ ascii "\"}"
 -- the objects of n records from record k on, with commas between them, the closing bracket and brace
 unfoldable pub listText : List ℕ → Bool → ℕ → ℕ → List ℕ
 listText p first zero k = []
-listText p first (suc m) k = entriesText first (entryOf (recordAt p k)) (entriesIn m p (k + 1)) (ascii "}")
+listText p first (suc m) k = entriesText first (entryOf (recordAt p k)) (entriesIn m p (k + 1)) (code "}" ∷ [])
 
 -- a record whose packets lie within their areas
 pub record Fits (r : List ℕ) : Type 0 where
