@@ -7,7 +7,6 @@ use mathlib.Core.List.{List, [], _∷_}
 use lib.Dec.{leb, ltb}
 use lib.ListN.{drop}
 use Rattle.laws.specs.Any.{any}
-use Rattle.laws.specs.Pasted.{part}
 use Rattle.laws.specs.Zeros.{zeros}
 use Rattle.refusal.specs.Refusal.{first, when}
 use Rattle.refusal.specs.declared.Refusal.{Refusal}
@@ -16,13 +15,14 @@ use Rattle.check_response.specs.declared.Checked.{Checked}
 use Rattle.check_response.specs.declared.Verdict.{Verdict}
 use Rattle.check_response.specs.declared.Window.{Window}
 use Rattle.wire_packet.specs.Packet.{body}
-use Rattle.pile.specs.Pile.{recordsIn, recordAt, requestLength, responseLength, requestArea, responseArea}
+use Rattle.pile.specs.Layout.{AREA}
+use Rattle.pile.specs.Pile.{recordsIn, recordAt, requestLength, responseLength, zerosIn, requestArea, responseArea}
 use Rattle.pile.specs.Pile.{requestPacket, responsePacket, saidYes, pileBad}
 use Rattle.pile.specs.declared.Judgement.{Judgement}
 
 -- of an area whose packet has n bytes: n is above 2,000, or a byte past the packet is not zero
 unfoldable pub areaBad : List ℕ → ℕ → Bool
-areaBad area n = any (ltb 2000 n ∷ not (zeros (drop n area)) ∷ [])
+areaBad area n = any (ltb AREA n ∷ not (zeros (drop n area)) ∷ [])
 
 -- 16: record lengths above 2,000 or a must-be-zero byte; bytes 72 to 95 are zeros
 unfoldable pub recordBad : List ℕ → Bool
@@ -30,7 +30,7 @@ recordBad r =
     any
     (areaBad (requestArea r) (requestLength r)
     ∷ areaBad (responseArea r) (responseLength r)
-    ∷ not (zeros (part 72 96 r))
+    ∷ not (zeros (zerosIn r))
     ∷ [])
 
 -- 16 first, and then 14 and 1 to 13 of its response; d and s are the two answers

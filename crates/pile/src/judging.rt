@@ -2,13 +2,14 @@
 ghost use mathlib.Core.Path.{_≡_};
 ghost use Prim.Native.Nat.{_+_, _*_, _≤_, _<_};
 ghost use lib.ListN.{length};
+ghost use Rattle.pile.specs.Layout.{RECORD};
 ghost use Rattle.pile.specs.Pile.{saidYes};
 ghost use Rattle.pile.specs.Valid.{recordChecked, verdictAt, checkedAt, nothingAt, judgeCode, judgementOf};
 ghost use Rattle.check_response.specs.Check.{verdictNumber};
 use super::Judgement;
 use super::damage::record_bad;
+use super::layout::RECORD;
 use super::piles::pile_bad;
-use super::records::RECORD;
 use super::records::record_at;
 use super::records::request_of;
 use super::records::response_of;
@@ -53,7 +54,7 @@ fn nothing_at<'a>(pile: &'a [u8], answers: &'a [u8], k: usize) -> bool
 
 // The verdict on record k, which is there with its two answers.
 pub fn verdict_at<'a>(pile: &'a [u8], answers: &'a [u8], k: usize) -> Verdict
-    requires { ⌜ (4096 * k + 4096 ≤ length (now pile)) × (2 * k + 2 ≤ length (now answers)) ⌝ }
+    requires { ⌜ (RECORD * k + RECORD ≤ length (now pile)) × (2 * k + 2 ≤ length (now answers)) ⌝ }
     ensures { λ r. ⌜ r ≡ verdictAt (now (pile .entry)) (now (answers .entry)) k ⌝ }
 {
     let c = checked_at(pile, answers, k);
@@ -62,7 +63,7 @@ pub fn verdict_at<'a>(pile: &'a [u8], answers: &'a [u8], k: usize) -> Verdict
 
 // The same with the key beside it.
 fn checked_at<'a>(pile: &'a [u8], answers: &'a [u8], k: usize) -> Checked
-    requires { ⌜ (4096 * k + 4096 ≤ length (now pile)) × (2 * k + 2 ≤ length (now answers)) ⌝ }
+    requires { ⌜ (RECORD * k + RECORD ≤ length (now pile)) × (2 * k + 2 ≤ length (now answers)) ⌝ }
     ensures { λ r. ⌜ r ≡ checkedAt (now (pile .entry)) (now (answers .entry)) k ⌝ }
 {
     let delegation = said_yes(answers, 2 * k);
@@ -72,7 +73,7 @@ fn checked_at<'a>(pile: &'a [u8], answers: &'a [u8], k: usize) -> Checked
 
 // What is said of a record: 16 before the response is looked at.
 fn checked_on(r: &[u8], delegation: bool, signature: bool) -> Checked
-    requires { ⌜ length (now r) ≡ 4096 ⌝ }
+    requires { ⌜ length (now r) ≡ RECORD ⌝ }
     ensures { λ x. ⌜ x ≡ recordChecked (now (r .entry)) delegation signature ⌝ }
 {
     if record_bad(r) {

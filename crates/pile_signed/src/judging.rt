@@ -2,6 +2,7 @@
 ghost use mathlib.Core.Path.{_≡_};
 ghost use Prim.Native.Nat.{_+_, _*_, _≤_};
 ghost use lib.ListN.{length};
+ghost use Rattle.pile.specs.Layout.{RECORD};
 ghost use Rattle.pile.specs.Pile.{keyIn, responsePacket};
 ghost use Rattle.pile.specs.Valid.{recordChecked, checkedAt, nothingAt, judgeCode, judgementOf};
 ghost use Rattle.check_response.specs.Check.{verdictNumber};
@@ -13,6 +14,7 @@ use check_signatures::check_signed;
 use octets::copy32;
 use pile::Judgement;
 use pile::RECORD;
+use pile::layout::KEY;
 use pile::length_bad;
 use pile::record_at;
 use pile::record_bad;
@@ -57,7 +59,7 @@ fn nothing_at(pile: &[u8], k: usize) -> bool
 
 // What is said of record k, which is there, with the key beside it.
 pub fn checked_at(pile: &[u8], k: usize) -> Checked
-    requires { ⌜ 4096 * k + 4096 ≤ length (now pile) ⌝ }
+    requires { ⌜ RECORD * k + RECORD ≤ length (now pile) ⌝ }
     ensures { λ r. ⌜ r ≡ checkedAt (now (pile .entry)) (ownAnswers (now (pile .entry))) k ⌝ }
 {
     checked_on(record_at(pile, k))
@@ -65,7 +67,7 @@ pub fn checked_at(pile: &[u8], k: usize) -> Checked
 
 // What is said of a record: 16 before the response is looked at.
 fn checked_on(r: &[u8]) -> Checked
-    requires { ⌜ length (now r) ≡ 4096 ⌝ }
+    requires { ⌜ length (now r) ≡ RECORD ⌝ }
     ensures { λ x. ⌜ x
         ≡ recordChecked (now (r .entry)) (delegated (keyIn (now (r .entry))) (responsePacket (now (r .entry))))
         (responded (responsePacket (now (r .entry)))) ⌝ }
@@ -77,5 +79,5 @@ fn checked_on(r: &[u8]) -> Checked
             pubk: [0u8; 32],
         };
     }
-    check_signed(copy32(r, 0), request_of(r), response_of(r))
+    check_signed(copy32(r, KEY), request_of(r), response_of(r))
 }

@@ -5,6 +5,7 @@ use mathlib.Core.List.{List, [], _∷_, _++_}
 use lib.Dec.{eqb, ltb}
 use lib.ListN.{length}
 use Rattle.laws.specs.Pick.{pick, either}
+use Rattle.pile.specs.Layout.{RECORD, AREA}
 use Rattle.report_read.specs.declared.Read.{Read}
 use Rattle.report_read.specs.declared.Read.the-variants.{Records, NoReport, Amount, Short}
 use Rattle.report_read.specs.Entry.{Entry, Entries, these, unread}
@@ -19,7 +20,7 @@ readNumber Short = 19
 
 -- a packet above 2,000 bytes
 unfoldable pub isBig : Entry → Bool
-isBig e = either (ltb 2000 (length (e .request))) (ltb 2000 (length (e .response)))
+isBig e = either (ltb AREA (length (e .request))) (ltb AREA (length (e .response)))
 
 unfoldable pub anyBig : List Entry → Bool
 anyBig [] = false
@@ -30,7 +31,7 @@ anyBig (e ∷ es) = either (isBig e) (anyBig es)
 unfoldable pub readOf : Entries → ℕ → Read
 readOf (these es) room =
     pick (eqb (length es) 0) Amount (pick (ltb 16 (length es)) Amount (pick (anyBig es) Amount
-    (pick (ltb room (length es * 4096)) Short (Records (length es)))))
+    (pick (ltb room (length es * RECORD)) Short (Records (length es)))))
 readOf unread room = NoReport
 
 -- what is written where nothing is refused

@@ -6,7 +6,23 @@ mod members;
 mod reading;
 mod records;
 
+use json::DEPTH;
 pub use reading::read_report;
+
+// How deep values may nest in the outermost object,
+const IN_REPORT: usize = DEPTH - 1;
+
+// in the list of response objects there,
+const IN_LIST: usize = DEPTH - 2;
+
+// and in a response object.
+const IN_ENTRY: usize = DEPTH - 3;
+
+// An element of a list by its place, or that there is none left.
+enum Element {
+    At(usize),
+    Done,
+}
 
 // How many records stand at the front of the buffer; or that the text is no report, that it has too much or nothing for
 // a pile, or that the buffer is too short.

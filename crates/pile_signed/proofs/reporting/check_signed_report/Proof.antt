@@ -28,20 +28,20 @@ returns c =
     let b = sym (c .before .length-bad .ensures) ∙ c .if1 .taken in
     both-clauses p (ownAnswers p) Bad (λ g. true≢false (sym b ∙ whole-exactly p .1 (g .pile-whole)))
 
-verdicts-until-requires : tie.Need-verdicts-until-requires
-verdicts-until-requires c κs = whole-of c
+signed-verdicts-requires : tie.Need-signed-verdicts-requires
+signed-verdicts-requires c κs = whole-of c
 
 said-of-requires : tie.Need-said-of-requires
 said-of-requires c κs = omega (arith, whole-of (c .before) .to)
 
 returns-2 : tie.Need-returns-2
 returns-2 c =
-    let verdicts = c .before .verdicts-until in
+    let verdicts = c .before .signed-verdicts in
     let passed = c .before .before in
     let p = passed .before .before .before .args .pile .now in
     let a = ownAnswers p in
     both-clauses p a (c .said-of .result) (good-says p a (own-good p (whole-of passed)) (c .said-of .result)
-    (says-until (verdictIn (verdicts .result)) (judged p a) (joined p) (recordsIn p) (verdicts .ensures)
+    (says-until (verdictIn (verdicts .result)) (judged p a) (joined p) (recordsIn p) (verdicts .ensures .early)
     (c .said-of .result) (c .said-of .ensures)))
 
 pub check-signed-report-spec : {M : Type 1} → statement M
@@ -50,6 +50,6 @@ check-signed-report-spec =
     (tie.spec
     (λ c κs. search needs)
     returns
-    verdicts-until-requires
+    signed-verdicts-requires
     said-of-requires
     returns-2)
