@@ -8,7 +8,7 @@ use Rattle.pile_report.specs.Report.{judged}
 use Rattle.pile_report.specs.Taking.{takenNumber}
 use Rattle.pile_report.specs.declared.Taken.{Taken}
 use Rattle.pile_report.specs.declared.Taken.the-variants.{Run, Bad, Short, NoRun}
-use Rattle.lines.specs.Line.{countLine, refusedLine, recordLine, runLine}
+use Rattle.console_lines.specs.Line.{countLine, refusedLine, recordLine, runLine}
 
 -- the first n records, which have the verdicts v
 unfoldable pub recordLines : (ℕ → Verdict) → ℕ → List ℕ
