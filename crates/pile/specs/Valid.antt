@@ -8,12 +8,14 @@ use lib.Dec.{leb, ltb}
 use lib.ListN.{drop}
 use Rattle.laws.specs.Any.{any}
 use Rattle.laws.specs.Zeros.{zeros}
-use Rattle.refusal.specs.Refusal.{first, when}
+use Rattle.refusal.specs.Refusal.{refusal, first, when}
 use Rattle.refusal.specs.declared.Refusal.{Refusal}
 use Rattle.check_response.specs.Check.{checkCode, windowIn, pubkIn, verdictBy, keyBy}
 use Rattle.check_response.specs.declared.Checked.{Checked}
 use Rattle.check_response.specs.declared.Verdict.{Verdict}
+use Rattle.check_response.specs.declared.Verdict.the-variants.{Refused}
 use Rattle.check_response.specs.declared.Window.{Window}
+use Rattle.wire_packet.specs.Blank.{zeros32}
 use Rattle.wire_packet.specs.Packet.{body}
 use Rattle.pile.specs.Layout.{AREA}
 use Rattle.pile.specs.Pile.{recordsIn, recordAt, requestLength, responseLength, zerosIn, requestArea, responseArea}
@@ -32,6 +34,10 @@ recordBad r =
     ∷ areaBad (responseArea r) (responseLength r)
     ∷ not (zeros (zerosIn r))
     ∷ [])
+
+-- what is said where a code refuses before the response is looked at
+abbrev pub refusedBy : ℕ → Checked
+refusedBy code = record { verdict = Refused (refusal code); pubk = zeros32 }
 
 -- 16 first, and then 14 and 1 to 13 of its response; d and s are the two answers
 unfoldable pub recordCode : List ℕ → Bool → Bool → Refusal
@@ -70,6 +76,10 @@ judgeCode pile answers k =
     (when (nothingAt pile answers k) 15
     ∷ recordCode (recordAt pile k) (saidYes answers (2 * k)) (saidYes answers (2 * k + 1))
     ∷ [])
+
+-- the judgement on record k, of which c is said
+abbrev pub judgedBy : ℕ → Checked → Judgement
+judgedBy k c = record { place = k; verdict = c .verdict; pubk = c .pubk }
 
 -- what the judge answers: the place that it was asked for, the verdict, and the key beside it
 unfoldable pub judgementOf : List ℕ → List ℕ → ℕ → Judgement

@@ -12,6 +12,8 @@ mod records;
 use check_response::Verdict;
 pub use damage::record_bad;
 pub use judging::judge;
+pub use judging::judged;
+pub use judging::refused;
 pub use judging::verdict_at;
 pub use layout::RECORD;
 pub use linking::first_rand_zero;
