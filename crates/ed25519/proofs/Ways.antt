@@ -23,10 +23,10 @@ L-p : L < p
 unfolding L p
 L-p = lit< tt
 
-pub scalar-each : (l : List ℕ) (x : ℕ) → Low l → value radix l ≡ x % L → Each 67108863 l
+pub scalar-each : (l : List ℕ) (x : ℕ) → Low l → value radix l ≡ x % L → Each 2251799813685247 l
 scalar-each l x h e = each-below l h (rw e (lt-trans (mod-lt x L-pos) L-p))
 
-pub hash-each : (l r a m : List ℕ) → Low l → value radix l ≡ kOf r a m → Each 67108863 l
+pub hash-each : (l r a m : List ℕ) → Low l → value radix l ≡ kOf r a m → Each 2251799813685247 l
 unfolding kOf
 hash-each l r a m h e = scalar-each l _ h e
 

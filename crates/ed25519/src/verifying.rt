@@ -3,8 +3,8 @@ ghost use mathlib.Core.Path.{_≡_};
 ghost use mathlib.Core.List.{_++_};
 ghost use Prim.Native.Nat.{_+_, _^_, _<_};
 ghost use lib.ListN.{length};
-ghost use Rattle.digits.specs.Digits.{value, Each};
-ghost use Rattle.ed25519_field.specs.Limbs.{radix};
+ghost use Rattle.digits.specs.Digits.{value};
+ghost use Rattle.ed25519_field.specs.Limbs.{radix, Digits};
 ghost use Rattle.ed25519_curve.specs.Coords.{ptOf, Good};
 ghost use Rattle.ed25519.specs.Verification.{groupEquation, accepts, verifies, verifiesParts};
 use super::hashing::hash;
@@ -23,7 +23,7 @@ const MOST: usize = 0xffff_ffff_ffff_ffbf;
 
 // Whether [S]B = R + [k]A.
 fn group_equation(a: Point, r: Point, s: Scalar, k: Scalar) -> bool
-    requires { ⌜ Good a × Good r × Each 67108863 s × Each 67108863 k ⌝ }
+    requires { ⌜ Good a × Good r × Digits s × Digits k ⌝ }
     ensures { λ b. ⌜ b ≡ groupEquation (ptOf a) (ptOf r) (value radix s) (value radix k) ⌝ }
 {
     point_equal(times_base(s), point_add(r, times(k, a)))

@@ -34,9 +34,9 @@ joined-is P Q m a t s hm ha ht hs =
     rw (hm, ha, c, e)
 
 -- a row that was read from a list that is the table
-pub taken : (l t : List ℕ) (k : ℕ) (P : Pt) (a b c d : List ℕ) → l ≡ t → a ≡ ten l k → b ≡ ten l (k + 10)
-    → c ≡ ten l (k + 20) → d ≡ ten l (k + 30)
-    → Cached P (ten t k) (ten t (k + 10)) (ten t (k + 20)) (ten t (k + 30)) → Cached P a b c d
+pub taken : (l t : List ℕ) (k : ℕ) (P : Pt) (a b c d : List ℕ) → l ≡ t → a ≡ ten l k → b ≡ ten l (k + 5)
+    → c ≡ ten l (k + 10) → d ≡ ten l (k + 15)
+    → Cached P (ten t k) (ten t (k + 5)) (ten t (k + 10)) (ten t (k + 15)) → Cached P a b c d
 taken l t k P a b c d e ha hb hc hd w = rw (ha, hb, hc, hd, e) w
 
 table-same : (n : ℕ) (f g : ℕ → ℕ) → ((i : ℕ) → i < n → f i ≡ g i) → table n f ≡ table n g
@@ -45,13 +45,13 @@ table-same (suc n) f g h =
     ap₂ (λ x xs. x ∷ xs) (h 0 (omega arith))
     (table-same n (λ i. f (suc i)) (λ i. g (suc i)) (λ i k. h (suc i) (omega arith)))
 
-pub limbs-are : (t r : List ℕ) (k : ℕ) → k + 10 ≤ length t → length r ≡ 10
-    → ((j : ℕ) → j < 10 → getD r j 0 ≡ getD t (k + j) 0) → r ≡ ten t k
+pub limbs-are : (t r : List ℕ) (k : ℕ) → k + 5 ≤ length t → length r ≡ 5
+    → ((j : ℕ) → j < 5 → getD r j 0 ≡ getD t (k + j) 0) → r ≡ ten t k
 limbs-are t r k h l f =
-    let m : length (ten t k) ≡ 10 = length-take-le 10 (drop k t) (omega (arith, length-drop k t)) in
-    spelled 10 r l
-    ∙ table-same 10 (λ i. getD r i 0) (λ i. getD (ten t k) i 0) (λ i g. f i g
-    ∙ sym (getD-take 10 (drop k t) i 0 g ∙ getD-drop k t i 0)) ∙ sym (spelled 10 (ten t k) m)
+    let m : length (ten t k) ≡ 5 = length-take-le 5 (drop k t) (omega (arith, length-drop k t)) in
+    spelled 5 r l
+    ∙ table-same 5 (λ i. getD r i 0) (λ i. getD (ten t k) i 0) (λ i g. f i g
+    ∙ sym (getD-take 5 (drop k t) i 0 g ∙ getD-drop k t i 0)) ∙ sym (spelled 5 (ten t k) m)
 
 pub doubled-zero : (P : Pt) → doubled 0 P ≡ P
 unfolding doubled

@@ -41,7 +41,7 @@ fn joined(p: Point, r: Entry) -> Point
 }
 
 // q with 2^i B added.
-fn with_row<'a>(q: Point, low: &'a [u32], high: &'a [u32], i: usize) -> Point
+fn with_row<'a>(q: Point, low: &'a [u64], high: &'a [u64], i: usize) -> Point
     requires { ⌜ Good q × (i < 256) × (now low ≡ lowTable) × (now high ≡ highTable) ⌝ }
     ensures { λ r. ⌜ (ptOf r ≡ pointAdd (ptOf q) (doubled i base)) × Good r ⌝ }
 {
@@ -52,7 +52,7 @@ fn with_row<'a>(q: Point, low: &'a [u32], high: &'a [u32], i: usize) -> Point
 }
 
 // q with 2^i B added where the bit is 1.
-pub fn picked<'a>(q: Point, low: &'a [u32], high: &'a [u32], i: usize, bit: u64) -> Point
+pub fn picked<'a>(q: Point, low: &'a [u64], high: &'a [u64], i: usize, bit: u64) -> Point
     requires { ⌜ Good q × (i < 256) × (now low ≡ lowTable) × (now high ≡ highTable) ⌝ }
     ensures { λ r. ⌜ (ptOf r ≡ cond (eqb bit 1) (pointAdd (ptOf q) (doubled i base)) (ptOf q)) × Good r ⌝ }
 {

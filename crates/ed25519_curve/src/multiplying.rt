@@ -2,8 +2,8 @@
 ghost use mathlib.Core.Path.{_≡_};
 ghost use mathlib.Core.Bool.{cond};
 ghost use lib.Dec.{eqb};
-ghost use Rattle.digits.specs.Digits.{value, Each};
-ghost use Rattle.ed25519_field.specs.Limbs.{radix};
+ghost use Rattle.digits.specs.Digits.{value};
+ghost use Rattle.ed25519_field.specs.Limbs.{radix, Digits};
 ghost use Rattle.ed25519_curve.specs.Coords.{ptOf, Good};
 ghost use Rattle.ed25519_curve.specs.Points.{pointAdd, pointMul};
 use super::Point;
@@ -26,7 +26,7 @@ fn picked(q: Point, p: Point, bit: u64) -> Point
 
 // The multiple of b by the number whose limbs are s.
 pub fn times(s: Scalar, b: Point) -> Point
-    requires { ⌜ Each 67108863 s × Good b ⌝ }
+    requires { ⌜ Digits s × Good b ⌝ }
     ensures { λ r. ⌜ (ptOf r ≡ pointMul (value radix s) (ptOf b)) × Good r ⌝ }
 {
     let mut p = b;

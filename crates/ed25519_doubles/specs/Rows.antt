@@ -13,9 +13,9 @@ unfoldable pub doubled : ℕ → Pt → Pt
 doubled zero P = P
 doubled (suc n) P = pointDouble (doubled n P)
 
--- ten limbs from place k on
+-- five limbs from place k on
 abbrev pub ten : List ℕ → ℕ → List ℕ
-ten l k = take 10 (drop k l)
+ten l k = take 5 (drop k l)
 
 -- what an addition takes of its second point
 pub record Cached (P : Pt) (minus plus twice scaled : List ℕ) : Type 0 where

@@ -20,7 +20,7 @@ low-row : (c : tie.After-row)
 low-row c =
     let s = c .before .before .before .before in
     let r = c .row .ensures in
-    taken _ _ (40 * (s .args .i)) _ _ _ _ _ (s .pre .2) (r .0) (r .1) (r .2) (r .3)
+    taken _ _ (20 * (s .args .i)) _ _ _ _ _ (s .pre .2) (r .0) (r .1) (r .2) (r .3)
     (low-rows (s .args .i) (omega arith))
 
 joined-requires : tie.Need-joined-requires
@@ -49,7 +49,7 @@ high-row-2 c =
     let r = c .row2 .ensures in
     let e : s .args .i - 128 + 128 ≡ s .args .i = omega arith in
     let w = rw e at (high-rows (s .args .i - 128) (omega arith)) in
-    taken _ _ (40 * (s .args .i - 128)) _ _ _ _ _ (s .pre .3) (r .0) (r .1) (r .2) (r .3) w
+    taken _ _ (20 * (s .args .i - 128)) _ _ _ _ _ (s .pre .3) (r .0) (r .1) (r .2) (r .3) w
 
 joined-requires-2 : tie.Need-joined-requires-2
 joined-requires-2 c κs =

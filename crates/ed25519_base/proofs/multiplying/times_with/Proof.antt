@@ -17,7 +17,7 @@ use Rattle.ed25519_base.proofs.multiplying.times_with.Tie as tie
 
 abbrev Inv-loop : tie.InvT-loop
 Inv-loop s low high q₀ i₀ q i =
-    (i ≤ 256) × Each 67108863 s × Good q
+    (i ≤ 256) × Each 2251799813685247 s × Good q
     × (mulFrom (256 - i) (value radix s / 2 ^ i) (doubled i base) (ptOf q) ≡ pointMul (value radix s) base)
 
 abbrev μ-loop : tie.MeasureT-loop

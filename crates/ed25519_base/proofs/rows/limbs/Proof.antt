@@ -10,10 +10,10 @@ use Rattle.ed25519_base.proofs.rows.limbs.Statement.{statement}
 use Rattle.ed25519_base.proofs.rows.limbs.Tie as tie
 
 abbrev Inv-loop : tie.InvT-loop
-Inv-loop t k out₀ j₀ out j = (j ≤ 10) × (length out ≡ 10) × ((i : ℕ) → i < j → getD out i 0 ≡ getD t (k + i) 0)
+Inv-loop t k out₀ j₀ out j = (j ≤ 5) × (length out ≡ 5) × ((i : ℕ) → i < j → getD out i 0 ≡ getD t (k + i) 0)
 
 abbrev μ-loop : tie.MeasureT-loop
-μ-loop t k out₀ j₀ out j = 10 - j
+μ-loop t k out₀ j₀ out j = 5 - j
 
 loop-holds : tie.Need-loop-holds Inv-loop μ-loop
 loop-holds c = (omega arith, refl, λ j g. absurd (omega arith))

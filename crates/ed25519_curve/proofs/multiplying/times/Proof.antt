@@ -16,7 +16,7 @@ use Rattle.ed25519_curve.proofs.multiplying.times.Tie as tie
 
 abbrev Inv-loop : tie.InvT-loop
 Inv-loop s p₀ q₀ i₀ p q i =
-    (i ≤ 256) × Each 67108863 s × Good p × Good q
+    (i ≤ 256) × Each 2251799813685247 s × Good p × Good q
     × (mulFrom (256 - i) (value radix s / 2 ^ i) (ptOf p) (ptOf q) ≡ pointMul (value radix s) (ptOf p₀))
 
 abbrev μ-loop : tie.MeasureT-loop
