@@ -1,5 +1,5 @@
 //! Prints the numbers of the tables in crates/ed25519_doubles, one a line: for each of the points B, 2B, 4B,
-//! .. 2^255 B, in the coordinates that RFC 8032's doubling gives from those of B, ten limbs of 26 bits
+//! .. 2^255 B, in the coordinates that RFC 8032's doubling gives from those of B, five limbs of 51 bits
 //! of each of Y - X, Y + X, 2 Z and 2 d T.
 //!
 //! The tables are proved, so that nobody has to believe this program: it is what they were made by.
@@ -54,14 +54,14 @@ fn d() -> Element {
     Element::ZERO.minus(Element::small(121_665)).times(Element::small(121_666).inverse())
 }
 
-/// The ten limbs of a number.
-fn limbs(n: Element) -> impl Iterator<Item = u32> {
+/// The five limbs of a number.
+fn limbs(n: Element) -> impl Iterator<Item = u64> {
     let n = n.number();
-    (0..10).map(move |limb| (0..26).map(|bit| bit_at(n, 26 * limb + bit) << bit).sum())
+    (0..5).map(move |limb| (0..51).map(|bit| bit_at(n, 51 * limb + bit) << bit).sum())
 }
 
-fn bit_at(n: Number, at: usize) -> u32 {
-    u32::from(at < 256 && n.bit(at))
+fn bit_at(n: Number, at: usize) -> u64 {
+    u64::from(at < 256 && n.bit(at))
 }
 
 fn main() -> io::Result<()> {
