@@ -2,9 +2,9 @@
 use Prim.Native.Nat.{ℕ, zero, suc, _+_, _*_}
 use mathlib.Core.Path.{_≡_, refl, sym, ap, _∙_}
 use native.Mathlib.Omega.{arith}
-use Rattle.ed25519_laws.specs.Affine.{Affine, sumOf, zeroPoint, timesOf}
-use Rattle.ed25519_laws.specs.Group.{Point}
-use Rattle.ed25519_laws.proofs.Group.{zero-point, sum-point, sum-zero, zero-sum, sum-commutes, sum-associates}
+use Rattle.ed25519_group_laws.specs.Affine.{Affine, sumOf, zeroPoint, timesOf}
+use Rattle.ed25519_group_laws.specs.Group.{Point}
+use Rattle.ed25519_group_laws.proofs.Group.{zero-point, sum-point, sum-zero, zero-sum, sum-commutes, sum-associates}
 
 pub times-zero : (a : Affine) → timesOf 0 a ≡ zeroPoint
 unfolding timesOf

@@ -6,12 +6,12 @@ use Rattle.ed25519_field.proofs.Elements.{mul-most}
 use Rattle.ed25519_curve.specs.Points.{Pt, d, pointDouble}
 use Rattle.ed25519_curve.proofs.Affine.{double-is-sum}
 use Rattle.ed25519_prime_laws.proofs.Squares.{times-other}
-use Rattle.ed25519_laws.specs.Affine.{Affine, sumOf}
-use Rattle.ed25519_laws.specs.Standing.{StandsFor}
-use Rattle.ed25519_laws.proofs.Modulo.{Same, equal, back, _⨾_, _⊕_, _⊙_, _⊗_, modulo, by}
-use Rattle.ed25519_laws.proofs.Division.{add-same, mul-same, sub-same}
-use Rattle.ed25519_laws.proofs.Sums.{k}
-use Rattle.ed25519_laws.proofs.Standing.{x-is, y-is, on, stands, product-other}
+use Rattle.ed25519_group_laws.specs.Affine.{Affine, sumOf}
+use Rattle.ed25519_group_laws.specs.Standing.{StandsFor}
+use Rattle.ed25519_group_laws.proofs.Modulo.{Same, equal, back, _⨾_, _⊕_, _⊙_, _⊗_, modulo, by}
+use Rattle.ed25519_group_laws.proofs.Division.{add-same, mul-same, sub-same}
+use Rattle.ed25519_group_laws.proofs.Sums.{k}
+use Rattle.ed25519_group_laws.proofs.Standing.{x-is, y-is, on, stands, product-other}
 
 module _ (P : Pt) (a : Affine) (s : StandsFor P a) where
   abbrev ZZ : ℕ

@@ -9,15 +9,15 @@ use lib.Dec.{eqb, lit<}
 use Rattle.ed25519_field.specs.Field.{p, mulF}
 use Rattle.ed25519_curve.specs.Points.{Pt, affine, base, neutral, pointAdd, pointDouble, mulFrom, pointMul}
 use Rattle.ed25519_curve.proofs.Affine.{base-on-curve}
-use Rattle.ed25519_laws.specs.Affine.{Affine, sumOf, zeroPoint, timesOf, pointOf}
-use Rattle.ed25519_laws.specs.Group.{Point}
-use Rattle.ed25519_laws.specs.Standing.{StandsFor}
-use Rattle.ed25519_laws.proofs.Modulo.{Same, equal, same, _⨾_, small-other}
-use Rattle.ed25519_laws.proofs.Division.{mul-same}
-use Rattle.ed25519_laws.proofs.Group.{zero-point, sum-zero, zero-sum, sum-associates}
-use Rattle.ed25519_laws.proofs.Times.{times-point, times-double}
-use Rattle.ed25519_laws.proofs.Adding.{sum-stands}
-use Rattle.ed25519_laws.proofs.Doubling.{double-stands}
+use Rattle.ed25519_group_laws.specs.Affine.{Affine, sumOf, zeroPoint, timesOf, pointOf}
+use Rattle.ed25519_group_laws.specs.Group.{Point}
+use Rattle.ed25519_group_laws.specs.Standing.{StandsFor}
+use Rattle.ed25519_group_laws.proofs.Modulo.{Same, equal, same, _⨾_, small-other}
+use Rattle.ed25519_group_laws.proofs.Division.{mul-same}
+use Rattle.ed25519_group_laws.proofs.Group.{zero-point, sum-zero, zero-sum, sum-associates}
+use Rattle.ed25519_group_laws.proofs.Times.{times-point, times-double}
+use Rattle.ed25519_group_laws.proofs.Adding.{sum-stands}
+use Rattle.ed25519_group_laws.proofs.Doubling.{double-stands}
 
 -- a point (x, y) of the curve, with Z = 1
 pub affine-stands : (a : Affine) → Point a → StandsFor (affine (a .x) (a .y)) a

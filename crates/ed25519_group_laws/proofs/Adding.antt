@@ -8,12 +8,12 @@ use Rattle.ed25519_field.proofs.Elements.{mul-most}
 use Rattle.ed25519_curve.specs.Points.{Pt, d, twoD, pointAdd}
 use Rattle.ed25519_curve.proofs.Affine.{add-is-sum}
 use Rattle.ed25519_prime_laws.proofs.Squares.{times-other}
-use Rattle.ed25519_laws.specs.Affine.{Affine, sumOf}
-use Rattle.ed25519_laws.specs.Standing.{StandsFor}
-use Rattle.ed25519_laws.proofs.Modulo.{Same, known, equal, same, back, _⊕_, modulo, by, not-zero, small-other}
-use Rattle.ed25519_laws.proofs.Division.{add-same, mul-same, sub-same}
-use Rattle.ed25519_laws.proofs.Sums.{k}
-use Rattle.ed25519_laws.proofs.Standing.{t-is, on, extended, stands, product-other}
+use Rattle.ed25519_group_laws.specs.Affine.{Affine, sumOf}
+use Rattle.ed25519_group_laws.specs.Standing.{StandsFor}
+use Rattle.ed25519_group_laws.proofs.Modulo.{Same, known, equal, same, back, _⊕_, modulo, by, not-zero, small-other}
+use Rattle.ed25519_group_laws.proofs.Division.{add-same, mul-same, sub-same}
+use Rattle.ed25519_group_laws.proofs.Sums.{k}
+use Rattle.ed25519_group_laws.proofs.Standing.{t-is, on, extended, stands, product-other}
 
 two-d-is : Same twoD (2 * d)
 unfolding twoD

@@ -11,12 +11,12 @@ use Rattle.ed25519_field.specs.Field.{p, mulF}
 use Rattle.ed25519_field.proofs.Elements.{mul-below}
 use Rattle.ed25519_curve.specs.Points.{Pt, pointEqual}
 use Rattle.ed25519_prime_laws.proofs.Squares.{times-other}
-use Rattle.ed25519_laws.specs.Affine.{Affine, sameOf}
-use Rattle.ed25519_laws.specs.Group.{Point}
-use Rattle.ed25519_laws.specs.Standing.{StandsFor}
-use Rattle.ed25519_laws.proofs.Modulo.{Same, known, same, back, _⨾_, modulo, below}
-use Rattle.ed25519_laws.proofs.Division.{mul-same, divide}
-use Rattle.ed25519_laws.proofs.Group.{same-point}
+use Rattle.ed25519_group_laws.specs.Affine.{Affine, sameOf}
+use Rattle.ed25519_group_laws.specs.Group.{Point}
+use Rattle.ed25519_group_laws.specs.Standing.{StandsFor}
+use Rattle.ed25519_group_laws.proofs.Modulo.{Same, known, same, back, _⨾_, modulo, below}
+use Rattle.ed25519_group_laws.proofs.Division.{mul-same, divide}
+use Rattle.ed25519_group_laws.proofs.Group.{same-point}
 
 -- one coordinate: u = U/Y and v = W/Z
 module _ (U W u v Y Z : ℕ) (u-below : u < p) (v-below : v < p) (Y-other : Y % p ≡ 0 → ⊥) (Z-other : Z % p ≡ 0 → ⊥)

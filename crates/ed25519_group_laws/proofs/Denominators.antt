@@ -14,9 +14,9 @@ use Rattle.ed25519_curve.specs.Points.{d}
 use Rattle.ed25519_point.specs.Decoding.{sqrtM1}
 use Rattle.ed25519_point.proofs.MinusOne.{sqrt-m1-squared}
 use Rattle.ed25519_prime_laws.proofs.Squares.{times-other}
-use Rattle.ed25519_laws.proofs.Modulo.{Same, known, equal, back, _⊕_, _⊙_, by, is-zero, gone, small-other}
-use Rattle.ed25519_laws.proofs.Curve.{On, cross}
-use Rattle.ed25519_laws.proofs.NoSquare.{d-no-square}
+use Rattle.ed25519_group_laws.proofs.Modulo.{Same, known, equal, back, _⊕_, _⊙_, by, is-zero, gone, small-other}
+use Rattle.ed25519_group_laws.proofs.Curve.{On, cross}
+use Rattle.ed25519_group_laws.proofs.NoSquare.{d-no-square}
 
 -- i^2 = -1, and the same of i^3, which is -i
 pub minus-one : Same (sqrtM1 * sqrtM1 + 1) 0

@@ -7,12 +7,12 @@ use Rattle.ed25519_field.specs.Field.{p, addF, subF}
 use Rattle.ed25519_field.proofs.Elements.{mul-most}
 use Rattle.ed25519_curve.specs.Points.{d}
 use Rattle.ed25519_curve.specs.Equation.{OnCurve}
-use Rattle.ed25519_laws.specs.Affine.{Affine, crossF, sumOf}
-use Rattle.ed25519_laws.proofs.Modulo.{Same, same, back, _⨾_, _⊕_, _⊙_, modulo, by, gone, not-zero}
-use Rattle.ed25519_laws.proofs.Division.{add-same, mul-same, sub-same, over}
-use Rattle.ed25519_laws.proofs.Curve.{On, cross, on-plain, on-field}
-use Rattle.ed25519_laws.proofs.Denominators.{plus-other, less-other}
-use Rattle.ed25519_laws.proofs.Closed.{closed}
+use Rattle.ed25519_group_laws.specs.Affine.{Affine, crossF, sumOf}
+use Rattle.ed25519_group_laws.proofs.Modulo.{Same, same, back, _⨾_, _⊕_, _⊙_, modulo, by, gone, not-zero}
+use Rattle.ed25519_group_laws.proofs.Division.{add-same, mul-same, sub-same, over}
+use Rattle.ed25519_group_laws.proofs.Curve.{On, cross, on-plain, on-field}
+use Rattle.ed25519_group_laws.proofs.Denominators.{plus-other, less-other}
+use Rattle.ed25519_group_laws.proofs.Closed.{closed}
 
 -- d x1 x2 y1 y2 as a number
 abbrev pub k : Affine → Affine → ℕ

@@ -2,7 +2,7 @@
 use Prim.Native.Nat.{_<_}
 use Rattle.ed25519_field.specs.Field.{p, subF}
 use Rattle.ed25519_curve.specs.Equation.{OnCurve}
-use Rattle.ed25519_laws.specs.Affine.{Affine}
+use Rattle.ed25519_group_laws.specs.Affine.{Affine}
 
 -- a is a point of the curve, with coordinates below p
 pub record Point (a : Affine) : Type 0 where

@@ -5,8 +5,8 @@ use mathlib.Core.Path.{_≡_}
 use Rattle.ed25519_field.specs.Field.{p}
 use Rattle.ed25519_curve.specs.Points.{Pt}
 use Rattle.ed25519_curve.specs.Equation.{Equal}
-use Rattle.ed25519_laws.specs.Affine.{Affine}
-use Rattle.ed25519_laws.specs.Group.{Point}
+use Rattle.ed25519_group_laws.specs.Affine.{Affine}
+use Rattle.ed25519_group_laws.specs.Group.{Point}
 
 -- P stands for the point a of the curve: Z is not 0, and nothing is divided here
 pub record StandsFor (P : Pt) (a : Affine) : Type 0 where

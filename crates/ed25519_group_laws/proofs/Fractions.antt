@@ -3,9 +3,9 @@ use Prim.Native.Nat.{ℕ, _+_, _*_}
 use mathlib.Core.Path.{_≡_}
 use native.Mathlib.Omega.{arith}
 use Rattle.ed25519_curve.specs.Points.{d}
-use Rattle.ed25519_laws.proofs.Modulo.{Same, back, _⊕_, _⊙_, _⊗_, by}
-use Rattle.ed25519_laws.proofs.Curve.{On}
-use Rattle.ed25519_laws.proofs.Closed.{c}
+use Rattle.ed25519_group_laws.proofs.Modulo.{Same, back, _⊕_, _⊙_, _⊗_, by}
+use Rattle.ed25519_group_laws.proofs.Curve.{On}
+use Rattle.ed25519_group_laws.proofs.Closed.{c}
 
 -- q (x B + y A) = 2 s (y B + x A) - c (x B - y A), times k: A' is -A, e is k c, and t is 2 k s
 pub turned : (x y A A' B k e t : ℕ) → On x y → Same (A + A') 0 → k * c (x * y) ≡ e → k * (2 * (x * y)) ≡ t

@@ -13,9 +13,9 @@ use Rattle.ed25519_field.proofs.Modulus.{p-large}
 use Rattle.ed25519_curve.specs.Points.{d}
 use Rattle.ed25519_prime_laws.proofs.Small.{pow-one}
 use Rattle.ed25519_prime_laws.proofs.Squares.{one-power, times-other}
-use Rattle.ed25519_laws.specs.Affine.{divF}
-use Rattle.ed25519_laws.proofs.Modulo.{Same, known, equal, back, _⊕_, _⊙_, _⊗_, by, is-zero, gone}
-use Rattle.ed25519_laws.proofs.Division.{over, divide}
+use Rattle.ed25519_group_laws.specs.Affine.{divF}
+use Rattle.ed25519_group_laws.proofs.Modulo.{Same, known, equal, back, _⊕_, _⊙_, _⊗_, by, is-zero, gone}
+use Rattle.ed25519_group_laws.proofs.Division.{over, divide}
 
 unfoldable half : ℕ
 half = (p - 1) / 2

@@ -7,15 +7,15 @@ use Rattle.ed25519_field.specs.Field.{p, mulF}
 use Rattle.ed25519_curve.specs.Points.{Pt, d}
 use Rattle.ed25519_curve.specs.Equation.{IsSum}
 use Rattle.ed25519_prime_laws.proofs.Squares.{times-other}
-use Rattle.ed25519_laws.specs.Affine.{Affine, sumOf}
-use Rattle.ed25519_laws.specs.Standing.{StandsFor}
-use Rattle.ed25519_laws.proofs.Modulo.{Same, known, equal, back, _⊕_, _⊙_, _⊗_, by, is-zero, gone, not-zero}
-use Rattle.ed25519_laws.proofs.Division.{mul-same, divide}
-use Rattle.ed25519_laws.proofs.Curve.{On, on-plain}
-use Rattle.ed25519_laws.proofs.Denominators.{plus-other, minus-other}
-use Rattle.ed25519_laws.proofs.Sums.{k, below-x, below-y, below-x-is, below-y-is, below-x-other, below-y-other}
-use Rattle.ed25519_laws.proofs.Sums.{sum-x, sum-y}
-use Rattle.ed25519_laws.proofs.Group.{sum-point}
+use Rattle.ed25519_group_laws.specs.Affine.{Affine, sumOf}
+use Rattle.ed25519_group_laws.specs.Standing.{StandsFor}
+use Rattle.ed25519_group_laws.proofs.Modulo.{Same, known, equal, back, _⊕_, _⊙_, _⊗_, by, is-zero, gone, not-zero}
+use Rattle.ed25519_group_laws.proofs.Division.{mul-same, divide}
+use Rattle.ed25519_group_laws.proofs.Curve.{On, on-plain}
+use Rattle.ed25519_group_laws.proofs.Denominators.{plus-other, minus-other}
+use Rattle.ed25519_group_laws.proofs.Sums.{k, below-x, below-y, below-x-is, below-y-is, below-x-other, below-y-other}
+use Rattle.ed25519_group_laws.proofs.Sums.{sum-x, sum-y}
+use Rattle.ed25519_group_laws.proofs.Group.{sum-point}
 
 module _ (P : Pt) (a : Affine) (s : StandsFor P a) where
   pub x-is : Same (P .X) (a .x * P .Z)

@@ -6,8 +6,8 @@ use Rattle.ed25519_field.proofs.Elements.{mul-most, difference}
 use Rattle.ed25519_curve.specs.Points.{d}
 use Rattle.ed25519_curve.specs.Equation.{OnCurve}
 use Rattle.ed25519_curve.proofs.Affine.{affine-on-curve}
-use Rattle.ed25519_laws.proofs.Modulo.{Same, known, equal, back, _⊕_, modulo, by}
-use Rattle.ed25519_laws.proofs.Division.{mul-same}
+use Rattle.ed25519_group_laws.proofs.Modulo.{Same, known, equal, back, _⊕_, modulo, by}
+use Rattle.ed25519_group_laws.proofs.Division.{mul-same}
 
 abbrev pub On : ℕ → ℕ → Type 0
 On x y = Same (y * y) (x * x + (1 + d * (x * x * (y * y))))

@@ -8,10 +8,10 @@ use native.Mathlib.Omega.{arith}
 use Rattle.ed25519_field.specs.Field.{p}
 use Rattle.ed25519_curve.specs.Points.{d}
 use Rattle.ed25519_prime_laws.proofs.Squares.{times-other}
-use Rattle.ed25519_laws.proofs.Modulo.{Same, back, _⊕_, _⊙_, _⊗_, by}
-use Rattle.ed25519_laws.proofs.Division.{divide}
-use Rattle.ed25519_laws.proofs.Curve.{On, cross}
-use Rattle.ed25519_laws.proofs.Denominators.{plus-other, less-other}
+use Rattle.ed25519_group_laws.proofs.Modulo.{Same, back, _⊕_, _⊙_, _⊗_, by}
+use Rattle.ed25519_group_laws.proofs.Division.{divide}
+use Rattle.ed25519_group_laws.proofs.Curve.{On, cross}
+use Rattle.ed25519_group_laws.proofs.Denominators.{plus-other, less-other}
 
 -- 1 + d s^2
 abbrev pub c : ℕ → ℕ

@@ -7,8 +7,8 @@ use Rattle.ed25519_field.specs.Field.{p, addF, subF, mulF, powF}
 use Rattle.ed25519_field.proofs.Modulus.{p-large}
 use Rattle.ed25519_field.proofs.Elements.{mul-rest, add-rest, minus-plus}
 use Rattle.ed25519_prime_laws.proofs.Squares.{one-power}
-use Rattle.ed25519_laws.specs.Affine.{divF}
-use Rattle.ed25519_laws.proofs.Modulo.{Same, known, back, _⊕_, _⊙_, modulo, by}
+use Rattle.ed25519_group_laws.specs.Affine.{divF}
+use Rattle.ed25519_group_laws.proofs.Modulo.{Same, known, back, _⊕_, _⊙_, modulo, by}
 
 pub add-same : (x y : ℕ) → Same (addF x y) (x + y)
 add-same x y = known (add-rest x y)

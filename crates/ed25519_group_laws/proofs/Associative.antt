@@ -12,14 +12,14 @@ use Rattle.ed25519_field.specs.Field.{p}
 use Rattle.ed25519_curve.specs.Points.{d}
 use Rattle.ed25519_point.specs.Decoding.{sqrtM1}
 use Rattle.ed25519_prime_laws.proofs.Squares.{times-other}
-use Rattle.ed25519_laws.specs.Affine.{Affine}
-use Rattle.ed25519_laws.proofs.Modulo.{Same, same, back, _⨾_, _⊕_, _⊙_, by}
-use Rattle.ed25519_laws.proofs.Division.{divide}
-use Rattle.ed25519_laws.proofs.Curve.{On}
-use Rattle.ed25519_laws.proofs.Denominators.{minus-one, plus-other, less-other}
-use Rattle.ed25519_laws.proofs.Closed.{c, closed}
-use Rattle.ed25519_laws.proofs.Sums.{k}
-use Rattle.ed25519_laws.proofs.Fractions.{turned, below-law, above-law, u-crossed, v-crossed, crossed, quotients}
+use Rattle.ed25519_group_laws.specs.Affine.{Affine}
+use Rattle.ed25519_group_laws.proofs.Modulo.{Same, same, back, _⨾_, _⊕_, _⊙_, by}
+use Rattle.ed25519_group_laws.proofs.Division.{divide}
+use Rattle.ed25519_group_laws.proofs.Curve.{On}
+use Rattle.ed25519_group_laws.proofs.Denominators.{minus-one, plus-other, less-other}
+use Rattle.ed25519_group_laws.proofs.Closed.{c, closed}
+use Rattle.ed25519_group_laws.proofs.Sums.{k}
+use Rattle.ed25519_group_laws.proofs.Fractions.{turned, below-law, above-law, u-crossed, v-crossed, crossed, quotients}
 
 abbrev pub Lies : Affine → Type 0
 Lies a = On (a .x) (a .y)

@@ -6,13 +6,13 @@ use lib.Dec.{lit<}
 use Rattle.ed25519_field.specs.Field.{p, addF, subF, mulF}
 use Rattle.ed25519_field.proofs.Elements.{mul-below, sub-below}
 use Rattle.ed25519_curve.specs.Points.{d}
-use Rattle.ed25519_laws.specs.Affine.{Affine, divF, sumOf, zeroPoint}
-use Rattle.ed25519_laws.specs.Group.{Point, minusOf}
-use Rattle.ed25519_laws.proofs.Modulo.{Same, same, back, _⊕_, _⊙_, by, below}
-use Rattle.ed25519_laws.proofs.Division.{sub-same, divide}
-use Rattle.ed25519_laws.proofs.Curve.{on-plain, on-field}
-use Rattle.ed25519_laws.proofs.Sums.{below-x-is, below-y-is, below-x-other, below-y-other, sum-x, sum-y, sum-on-curve}
-use Rattle.ed25519_laws.proofs.Associative.{Lies, Adds, other-way, associative}
+use Rattle.ed25519_group_laws.specs.Affine.{Affine, divF, sumOf, zeroPoint}
+use Rattle.ed25519_group_laws.specs.Group.{Point, minusOf}
+use Rattle.ed25519_group_laws.proofs.Modulo.{Same, same, back, _⊕_, _⊙_, by, below}
+use Rattle.ed25519_group_laws.proofs.Division.{sub-same, divide}
+use Rattle.ed25519_group_laws.proofs.Curve.{on-plain, on-field}
+use Rattle.ed25519_group_laws.proofs.Sums.{below-x-is, below-y-is, below-x-other, below-y-other, sum-x, sum-y, sum-on-curve}
+use Rattle.ed25519_group_laws.proofs.Associative.{Lies, Adds, other-way, associative}
 
 pub same-point : (a b : Affine) → Point a → Point b → Same (a .x) (b .x) → Same (a .y) (b .y) → a ≡ b
 same-point a b pa pb xs ys =
