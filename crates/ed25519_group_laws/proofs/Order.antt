@@ -1,5 +1,5 @@
 -- B has the order L and no lesser: since L is prime, the least positive n of which [n]B is (0, 1) is 1 or L.
-use Prim.Native.Nat.{ℕ, zero, suc, _+_, _-_, _*_, _/_, _%_, _≤_, _<_}
+use Prim.Native.Nat.{ℕ, _+_, _-_, _*_, _/_, _%_, _≤_, _<_}
 use mathlib.Core.Path.{_≡_, sym, ap, _∙_}
 use mathlib.Core.Bool.{Bool}
 use mathlib.Core.Logic.{_↔_}
@@ -16,16 +16,11 @@ use Rattle.ed25519_prime_laws.proofs.Firsts.{First, first-of, divides}
 use Rattle.ed25519_group_laws.specs.Affine.{Affine, sumOf, zeroPoint, timesOf, sameOf, pointOf}
 use Rattle.ed25519_group_laws.specs.Group.{Point}
 use Rattle.ed25519_group_laws.proofs.Group.{zero-point, sum-zero, zero-sum}
-use Rattle.ed25519_group_laws.proofs.Times.{times-zero, times-next, times-point, times-add, times-times}
+use Rattle.ed25519_group_laws.proofs.Times.{times-zero, times-next, times-point, times-add, times-times, times-neutral}
 use Rattle.ed25519_group_laws.proofs.Multiples.{base-stands}
 use Rattle.ed25519_group_laws.proofs.Equality.{same-exactly}
 use Rattle.ed25519_group_laws.proofs.TimesL.{order-affine}
 use Rattle.ed25519_group_laws.proofs.PrimeOrder.{L-prime}
-
--- [n](0, 1) = (0, 1)
-times-neutral : (n : ℕ) → timesOf n zeroPoint ≡ zeroPoint
-times-neutral zero = times-zero zeroPoint
-times-neutral (suc n) = times-next n zeroPoint ∙ ap (sumOf zeroPoint) (times-neutral n) ∙ zero-sum zeroPoint zero-point
 
 -- where [k]P is (0, 1), multiples of k count nothing
 module _ (a : Affine) (pa : Point a) (k : ℕ) (none : timesOf k a ≡ zeroPoint) where

@@ -59,3 +59,13 @@ times-sum zero a b pa pb = sym (sum-zero zeroPoint zero-point)
 times-sum (suc n) a b pa pb =
     ap (sumOf (sumOf a b)) (times-sum n a b pa pb)
     ∙ crossed a b (timesOf n a) (timesOf n b) pa pb (times-point n a pa) (times-point n b pb)
+
+-- [n](0, 1) = (0, 1)
+pub times-neutral : (n : ℕ) → timesOf n zeroPoint ≡ zeroPoint
+times-neutral zero = times-zero zeroPoint
+times-neutral (suc n) = times-next n zeroPoint ∙ ap (sumOf zeroPoint) (times-neutral n) ∙ zero-sum zeroPoint zero-point
+
+-- [1]P = P
+pub times-one : (a : Affine) → Point a → timesOf 1 a ≡ a
+unfolding timesOf
+times-one a pa = sum-zero a pa
