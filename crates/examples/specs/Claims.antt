@@ -17,8 +17,8 @@ use Rattle.wire_packet.specs.Request.{requestOf, requestBad}
 use Rattle.wire_packet.specs.Response.{indxIn, midpIn, mintIn, maxtIn, responseCode, responseOf}
 use Rattle.tree.specs.PathCheck.{leadsOf}
 use Rattle.tree_build.specs.Leaves.{countOf}
-use Rattle.tree_build.specs.Building.{rootedOf, PlacesLeaf, pathBytes}
-use Rattle.tree_build.specs.declared.Placed.the-variants.{Written}
+use Rattle.tree_build.specs.Building.{rootedOf, pathAnswer, pathBytes}
+use Rattle.tree_build.specs.declared.PathAnswer.the-variants.{Written}
 use Rattle.check_response.specs.Window.{windowOf}
 use Rattle.check_response.specs.Check.{versionUnasked, versionDowngraded, nonceDiffers, pathMisses, windowIn, verdictOf}
 use Rattle.check_response.specs.Check.{verdictNumber}
@@ -147,7 +147,8 @@ Claim (depth leaves d) =
     (s : List ℕ) → length s ≡ 32 * leaves → (rootedOf s .refusal .code ≡ 0) × (rootedOf s .depth ≡ d)
 Claim (path leaves place i siblings) =
     (s : List ℕ) (room : ℕ) → length s ≡ 32 * leaves → 32 * siblings ≤ room
-    → PlacesLeaf (countOf (length s)) place room (Written i siblings) × (length (pathBytes s place) ≡ 32 * siblings)
+    → (Written i siblings ≡ pathAnswer (countOf (length s)) place room)
+    × (length (pathBytes s place) ≡ 32 * siblings)
 Claim (indx i siblings code) =
     Misses i siblings × ((q p : List ℕ) (d s : Bool) → Climbs i siblings q p → verdictNumber (verdictOf q p d s) ≡ code)
 Claim at-maxt = (q p : List ℕ) → Late 0 q p → verdictOf q p true true ≡ Valid (windowIn (body p))

@@ -10,24 +10,22 @@ use Rattle.capi.proofs.finding.tb_find_server.Tie as tie
 
 mul-t9 : tie.Need-mul-t9
 mul-t9 c =
-    omega (arith, within-owner _ _ _ (c .before .found .given .1) (c .before .before .before .search .ensures .1))
+    omega (arith, within-owner _ _ _ (c .before .found .given .1) (c .before .before .before .search .ensures))
 
 mul-t11 : tie.Need-mul-t11
 mul-t11 c =
-    omega (arith, within-shipped _ _ _ (c .before .found2 .given .1) (c .before .before .before .search .ensures .1))
+    omega (arith, within-shipped _ _ _ (c .before .found2 .given .1) (c .before .before .before .search .ensures))
 
 returns : tie.Need-returns
-returns c = sought-at _ _ _ tbFound _ (c .before .found .given .1) (c .before .before .before .search .ensures .1) refl
+returns c = sought-at _ _ _ tbFound _ (c .before .found .given .1) (c .before .before .before .search .ensures) refl
 
 returns-2 : tie.Need-returns-2
 returns-2 c =
-    sought-at _ _ _ tbFound _ (c .before .found2 .given .1) (c .before .before .before .search .ensures .1) refl
+    sought-at _ _ _ tbFound _ (c .before .found2 .given .1) (c .before .before .before .search .ensures) refl
 
 returns-3 : tie.Need-returns-3
-returns-3 c = sought-at _ _ _ tbFound _ (c .enum-told .given .1) (c .before .before .search .ensures .1) refl
-
-returns-4 : tie.Need-returns-4
-returns-4 c = sought-at _ _ _ tbFound _ (c .enum-told2 .given .1) (c .before .before .search .ensures .1) refl
+returns-3 c =
+    sought-at _ _ _ tbFound _ (c .before .before .why .given .1) (c .before .before .before .before .search .ensures) refl
 
 pub tb-find-server-spec : {M : Type 1} → statement M
 tb-find-server-spec =
@@ -42,5 +40,4 @@ tb-find-server-spec =
     (λ c. search needs)
     returns
     returns-2
-    returns-3
-    returns-4)
+    returns-3)
