@@ -9,7 +9,7 @@ use Rattle.laws.proofs.First.{says-0, says-more, is-last, none-quiet}
 use Rattle.refusal.specs.Refusal.{refusals, first, shifted}
 use Rattle.refusal.specs.declared.Refusal.{Refusal}
 use Rattle.wire_message.specs.Frame.{count, tagAt, frameCode}
-use Rattle.wire_message.specs.Rules.{Row, messageCode}
+use Rattle.wire_message.specs.Rules.{TagRule, messageCode}
 use Rattle.wire_message.specs.Sentences.{TagsRise}
 use Rattle.wire_message.proofs.Codes.{code-5}
 use Rattle.wire_packet.specs.Packet.{packetCode, packetOf, body, bodyStart}
@@ -33,8 +33,8 @@ message-next f m h =
     says-0 refusals _ _ refl (none-quiet refusals (sym (packet-packed m short)))
     (is-last refusals (ap f (sym (body-packed m))))
 
-module _ (m : List ℕ) (code : ℕ) (some : 0 < code) (tabled : (rows : List Row) → messageCode m rows .code ≡ code) where
-  refused : (rows : List Row) → messageCode m rows .code ≡ 0 → ⊥
+module _ (m : List ℕ) (code : ℕ) (some : 0 < code) (tabled : (rows : List TagRule) → messageCode m rows .code ≡ code) where
+  refused : (rows : List TagRule) → messageCode m rows .code ≡ 0 → ⊥
   refused rows z = omega (arith, tabled rows)
 
   request-refused : length (packetOf m) ≤ 2000 → requestCode (packetOf m) .code ≡ code

@@ -130,7 +130,7 @@ pub record EqualTags (m : List ℕ) : Type 0 where
 -- every reader gives this code to the message m: by any table, and, where its packet has at most 2,000 bytes, as the
 -- message of a request and of a response
 pub record Refuses (m : List ℕ) (code : ℕ) : Type 0 where
-  pub by-table : (rows : List rules.Row) → messageCode m rows .code ≡ code
+  pub by-table : (rows : List rules.TagRule) → messageCode m rows .code ≡ code
   pub in-request : length (packetOf m) ≤ 2000 → requestOf (packetOf m) .refusal .code ≡ code
   pub in-response : length (packetOf m) ≤ 2000 → responseOf (packetOf m) .refusal .code ≡ code
 

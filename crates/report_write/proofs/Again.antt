@@ -16,7 +16,7 @@ use Rattle.base64.specs.declared.Group.{Group}
 use Rattle.base64.specs.declared.Group.the-variants.{Three, Two, One}
 use Rattle.base64.specs.declared.Group.the-variants.{Bad as BadGroup}
 use Rattle.base64.specs.Alphabet.{sextetOf}
-use Rattle.base64.specs.Decode.{Decoded, bytes, none, joined, oneOf, twoOf, threeOf, groupOf, decode64}
+use Rattle.base64.specs.Decode.{Decoded, bytes, none, withGroup, oneOf, twoOf, threeOf, groupOf, decode64}
 use Rattle.base64.proofs.Tables.{back-letter}
 use Rattle.report_read.specs.Entry.{Entry, randName, keyName, requestName, responseName, textPlace, decodedAt, memberOf}
 use Rattle.report_read.specs.Entry.{is32, held, randGood, hasAll, entryAt, elementsOf, allOf, entriesAt, listPlace, these}
@@ -64,7 +64,7 @@ abbrev All : Decoded → Type 0
 All (bytes x) = Bytes x
 All none = T true
 
-joined-bytes : (g : Group) (l : List ℕ) (d : Decoded) → Of256 g → All d → All (joined g l d)
+joined-bytes : (g : Group) (l : List ℕ) (d : Decoded) → Of256 g → All d → All (withGroup g l d)
 joined-bytes (Three x y z) l (bytes m) h a =
     more-bytes (y ∷ z ∷ m) (h .0) (more-bytes (z ∷ m) (h .1 .0) (more-bytes m (h .1 .1) a))
 joined-bytes (Three x y z) l none h a = tt
