@@ -22,6 +22,4 @@ rows-code (rows-answer.Refused why) length = refl
 
 pub read-code : (a : Read) → tbRecords a .code ≡ readNumber a
 read-code (read.Records n) = refl
-read-code read.NoReport = refl
-read-code read.Amount = refl
-read-code read.Short = refl
+read-code (read.Refused why) = refl

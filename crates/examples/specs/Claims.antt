@@ -34,10 +34,11 @@ use Rattle.pile_runs.specs.Spans.{Answers}
 use Rattle.pile_runs.specs.Convict.{Convicts, verdictIn}
 use Rattle.pile_runs.specs.declared.Span.{Span}
 use Rattle.pile_runs.specs.declared.Span.the-variants.{Places, Nothing}
+use Rattle.refusal.specs.Refusal.{refusal}
 use Rattle.pile_report.specs.Report.{judged}
-use Rattle.pile_report.specs.Taking.{Takes, takenNumber}
+use Rattle.pile_report.specs.Taking.{Takes}
 use Rattle.pile_report.specs.declared.Taken.{Taken}
-use Rattle.pile_report.specs.declared.Taken.the-variants.{Run, NoRun}
+use Rattle.pile_report.specs.declared.Taken.the-variants.{Run, Refused}
 
 -- the window of a response that says MIDP and RADI; MINT and MAXT, of which no example speaks, are as wide as can be
 infix 80 _±_
@@ -142,7 +143,7 @@ Claim (low-end w n) = w .low ≡ n
 Claim (high-end w n) = w .high ≡ n
 Claim (contradicts a b answer) = windowsClash a b ≡ answer
 Claim (run verdicts i j) = Finds verdicts (Places i j) × CutterSays verdicts (Run i j)
-Claim (no-run verdicts code) = Finds verdicts Nothing × CutterSays verdicts NoRun × (takenNumber NoRun ≡ code)
+Claim (no-run verdicts code) = Finds verdicts Nothing × CutterSays verdicts (Refused (refusal code))
 Claim (depth leaves d) =
     (s : List ℕ) → length s ≡ 32 * leaves → (rootedOf s .refusal .code ≡ 0) × (rootedOf s .depth ≡ d)
 Claim (path leaves place i siblings) =

@@ -7,12 +7,10 @@ mod reading;
 mod records;
 
 pub use reading::read_report;
+use refusal::Refusal;
 
-// How many records stand at the front of the buffer; or that the text is no report, that it has too much or nothing for
-// a pile, or that the buffer is too short.
+// How many records stand at the front of the buffer, or why none do.
 pub enum Read {
     Records(usize),
-    NoReport,
-    Amount,
-    Short,
+    Refused(Refusal),
 }

@@ -8,12 +8,12 @@ use borrow.Author.Needs.{needs}
 use Rattle.capi.proofs.finding.tb_find_server.Statement.{statement}
 use Rattle.capi.proofs.finding.tb_find_server.Tie as tie
 
-mul-t9 : tie.Need-mul-t9
-mul-t9 c =
+mul-t10 : tie.Need-mul-t10
+mul-t10 c =
     omega (arith, within-owner _ _ _ (c .before .found .given .1) (c .before .before .before .search .ensures))
 
-mul-t11 : tie.Need-mul-t11
-mul-t11 c =
+mul-t12 : tie.Need-mul-t12
+mul-t12 c =
     omega (arith, within-shipped _ _ _ (c .before .found2 .given .1) (c .before .before .before .search .ensures))
 
 returns : tie.Need-returns
@@ -25,7 +25,7 @@ returns-2 c =
 
 returns-3 : tie.Need-returns-3
 returns-3 c =
-    sought-at _ _ _ tbFound _ (c .before .before .why .given .1) (c .before .before .before .before .search .ensures) refl
+    sought-at _ _ _ tbFound _ (c .before .before .found3 .given .1) (c .before .before .before .before .search .ensures) refl
 
 pub tb-find-server-spec : {M : Type 1} → statement M
 tb-find-server-spec =
@@ -33,9 +33,9 @@ tb-find-server-spec =
     (tie.spec
     (λ c κs. search needs)
     (λ c. search needs)
-    mul-t9
+    mul-t10
     (λ c. search needs)
-    mul-t11
+    mul-t12
     (λ c. search needs)
     (λ c. search needs)
     returns

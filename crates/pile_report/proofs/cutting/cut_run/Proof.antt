@@ -1,14 +1,14 @@
--- `report::cutting::cut_run` meets its contract. Each return knows which tests led to it.
-use mathlib.Core.Path.{refl, sym}
+-- `pile_report::cutting::cut_run` meets its contract. Each return knows which tests led to it.
 use native.Mathlib.Omega.{arith}
-use borrow.Author.Tests.{eqb-true, eqb-false, ltb-true, ltb-false, not-true, not-false}
+use borrow.Author.Tests.{ltb-true, ltb-false}
 use Rattle.laws.specs.Pairs.{IsLeast}
 use Rattle.laws.proofs.First.{quiet-of}
 use Rattle.laws.proofs.Written.{written-whole}
 use Rattle.refusal.specs.Refusal.{refusals}
 use Rattle.pile.specs.Meaning.{GoodPile}
 use Rattle.pile.proofs.Exactly.{pile-exactly}
-use Rattle.pile_report.specs.Taking.{ConvictsIn}
+use Rattle.pile_report.specs.Taking.{ConvictsIn, code-15, code-19, code-18}
+use Rattle.pile_report.proofs.Says.{pile-refused}
 use borrow.Author.Needs.{needs}
 use Rattle.pile_report.proofs.cutting.cut_run.Statement.{statement}
 use Rattle.pile_report.proofs.cutting.cut_run.Tie as tie
@@ -20,7 +20,7 @@ good-of : (c : tie.Else1)
 good-of c =
     let start = c .before .before .before .before .before .before in
     pile-exactly (start .args .pile .now) (start .args .answers .now) .0
-    (quiet-of refusals (c .before .before .pile-code .ensures) (eqb-true _ 0 (not-false _ (c .if1 .left))))
+    (quiet-of refusals (c .before .before .pile-code .ensures) (c .if1 .left))
 
 -- where a run is found
 run-of : (c : tie.After-i)
@@ -30,13 +30,14 @@ run-of c = rw (c .i .given .1) at (c .before .before .run-in .ensures)
 
 returns : tie.Need-returns
 returns c =
-    let start = c .before .before .before .before .before .before in
-    let code = c .before .before .pile-code in
-    let good = pile-exactly (start .args .pile .now) (start .args .answers .now) in
-    (λ g. eqb-false _ 0 (not-true _ (c .if1 .taken)) (quiet-of refusals (sym (code .ensures)) (good .1 g)), refl)
+    let bad = pile-refused _ _ (c .before .before .pile-code .ensures) (c .if1 .taken) in
+    (rw (bad .0) (code-15 (bad .1)), rw (bad .0))
 
 returns-2 : tie.Need-returns-2
-returns-2 c = ((good-of (c .before), ltb-true _ _ (c .if2 .taken)), refl)
+returns-2 c = (
+  rw (c .refuse .ensures) (code-19 (good-of (c .before .before)) (ltb-true _ _ (c .before .if2 .taken))),
+  rw (c .refuse .ensures),
+)
 
 run-in-requires : tie.Need-run-in-requires
 run-in-requires c κs = good-of (c .before)
@@ -50,9 +51,13 @@ put-run-requires c κs =
 
 returns-3 : tie.Need-returns-3
 returns-3 c =
-    let called = c .before .before in
-    let none = rw (c .enum-told .given .1) at (called .run-in .ensures) in
-    ((good-of (called .before .before), ltb-false _ _ (called .before .if2 .left), none), refl)
+    let told = c .before in
+    let called = told .before .before in
+    let none = rw (told .enum-told .given .1) at (called .run-in .ensures) in (
+      rw (c .refuse2 .ensures)
+          (code-18 (good-of (called .before .before)) (ltb-false _ _ (called .before .if2 .left)) none),
+      rw (c .refuse2 .ensures),
+    )
 
 returns-4 : tie.Need-returns-4
 returns-4 c =
@@ -67,9 +72,11 @@ cut-run-spec =
     (tie.spec
     (λ c κs. search needs)
     returns
+    (λ c κs. search needs)
     returns-2
     run-in-requires
     (λ c. search needs)
+    (λ c κs. search needs)
     (λ c. search needs)
     put-run-requires
     returns-3
