@@ -6,6 +6,8 @@ use Prim.Native.Nat.{ℕ, _-_, _<_, min}
 use borrow.Author.Tests.{ne-eqb}
 use native.Mathlib.Omega.{arith}
 use lib.Dec.{T}
+use Rattle.laws.specs.Written.{written}
+use Rattle.laws.proofs.Written.{written-refused}
 use Rattle.refusal.specs.declared.Refusal.{Refusal}
 use Rattle.pile.specs.Pile.{recordsIn, pileCode}
 use Rattle.pile.specs.Links.{linkedOf}

@@ -7,7 +7,7 @@ use native.Mathlib.Omega.{arith}
 use borrow.Author.Tests.{eq-eqb, ne-eqb}
 use Rattle.laws.specs.Ascii.{ascii}
 use Rattle.refusal.specs.declared.Refusal.{Refusal}
-use Rattle.lines.specs.Line.{refusedLine}
+use Rattle.console_lines.specs.Line.{refusedLine}
 use Rattle.pile_report.specs.declared.Taken.{Taken}
 use Rattle.pile_report.specs.declared.Taken.the-variants.{Refused}
 use Rattle.pile_report.proofs.CutReports.{cut-18}
