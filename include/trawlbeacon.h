@@ -58,7 +58,7 @@ extern "C" {
 
 /* ---- Codes ---- */
 
-/* Between the two marks stands what tools/codes makes of the library's own table. */
+/* Between the two marks stands what cargo xtask codes makes of the library's own table. */
 /* codes: begin */
 enum tb_code {
     /* passed */
@@ -1113,7 +1113,8 @@ static inline uint32_t tb_clock_start(struct tb_clock *clock, uint32_t drift) {
 
 /* Takes the window of a valid response of a server, 0 to 7: low, high and maxt as its tb_verdict,
  * tb_judged or tb_took tells them, and when the first copy of its request was sent and it was
- * received. It is that server's newest, and the one before the newest so far is forgotten.
+ * received. Of numbers in a row two are easily swapped: the two functions after it take the answer.
+ * The window is that server's newest, and the one before the newest so far is forgotten.
  * The codes are 32, where the server is above 7; and 26, where it was received before it was sent
  * for, or before the last window that was taken of that server. Of two servers, the later receipt
  * may be taken first. On a refusal the state stays as it was. */
@@ -1122,6 +1123,29 @@ static inline uint32_t tb_clock_take(struct tb_clock *clock, uint64_t server, ui
                                      uint64_t received) {
     return tb_clock_take_fields(clock->drift, clock->low, clock->high, clock->maxt, clock->sent,
                                 clock->received, server, low, high, maxt, sent, received);
+}
+
+/* The same of what tb_check_signed or tb_check_response said of a response, or of a record by
+ * tb_verdict_of. The codes are the answer's own, where it is a refusal, and then nothing is taken;
+ * and those of tb_clock_take. */
+static inline uint32_t tb_clock_take_verdict(struct tb_clock *clock, uint64_t server,
+                                             struct tb_verdict said, uint64_t sent,
+                                             uint64_t received) {
+    if (said.code != TB_PASSED) return said.code;
+    return tb_clock_take_fields(clock->drift, clock->low, clock->high, clock->maxt, clock->sent,
+                                clock->received, server, said.low, said.high, said.maxt, sent,
+                                received);
+}
+
+/* The same of what a walk said of a response, whatever the outcome is: its window is that of the
+ * server that tb_asked named. sent and received are microseconds here, and seconds in the walk. The
+ * codes go as in tb_clock_take_verdict. */
+static inline uint32_t tb_clock_take_walked(struct tb_clock *clock, uint64_t server,
+                                            struct tb_took took, uint64_t sent, uint64_t received) {
+    if (took.code != TB_PASSED) return took.code;
+    return tb_clock_take_fields(clock->drift, clock->low, clock->high, clock->maxt, clock->sent,
+                                clock->received, server, took.low, took.high, took.maxt, sent,
+                                received);
 }
 
 /* The time at a moment of the host's own clock, where at most `liars` of the servers that are

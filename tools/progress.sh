@@ -1,9 +1,10 @@
 # shellcheck shell=bash
 # How far a proof has come, in words. It is sourced by tools/kit.sh.
 
-# The crates that rt proves for these ones, in its order, a line each with tabs between: its name; the seconds that it takes, as
-# tools/seconds.txt has them; those of the batch that it is proved in, which is its longest crate's; and those of all later batches.
-# rt proves crates of one level, which need nothing of each other, so many at a time.
+# The crates that rt proves for these ones, in its order, a line each with tabs between: its name;
+# the seconds that it takes, as tools/seconds.txt has them; those of the batch that it is proved in,
+# which is its longest crate's; and those of all later batches. rt proves crates of one level, which
+# need nothing of each other, so many at a time.
 planned() { # NAME...
     local jobs
     jobs=${RT_JOBS:-$(nproc 2>/dev/null || echo 1)}
@@ -44,7 +45,8 @@ planned() { # NAME...
         }' tools/seconds.txt crates.txt
 }
 
-# How long is left, in words: of what is foreseen for this batch, what it has taken so far, and of the rest.
+# How long is left, in words: of what is foreseen for this batch, what it has taken so far, and of
+# the rest.
 left() { # HERE SO-FAR REST
     local seconds=$(($1 - $2 + $3)) minutes
     minutes=$(((seconds + 30) / 60))
@@ -57,9 +59,10 @@ left() { # HERE SO-FAR REST
     fi
 }
 
-# Reads what rt says while it proves these crates, and tells of each how many are proved by then and how long the rest may take; and the
-# same again where nothing was told for a while. The kept seconds are another machine's: those that were measured so far scale them.
-# A crate that was proved before is counted, and not told of.
+# Reads what rt says while it proves these crates, and tells of each how many are proved by then and
+# how long the rest may take; and the same again where nothing was told for a while. The kept
+# seconds are another machine's: those that were measured so far scale them. A crate that was proved
+# before is counted, and not told of.
 tell_progress() { # NAME...
     local line part='' name took now=$SECONDS since=$SECONDS told=$SECONDS next=0 count=0 due=0 measured=0
     local -a names batch later
@@ -97,8 +100,8 @@ progress() { # WHAT
     local here=${batch[next]-0} rest=${later[next]-0}
     if [ "$due" -ge 10 ]; then here=$((here * measured / due)) rest=$((rest * measured / due)); fi
     if [ "$count" -lt "${#names[@]}" ]; then
-        say "$1 $count of ${#names[@]} crates, $(left "$here" $((now - since)) "$rest")" >&2
+        tell "$1 $count of ${#names[@]} crates, $(left "$here" $((now - since)) "$rest")"
     else
-        say "$1 $count of $count crates" >&2
+        tell "$1 $count of $count crates"
     fi
 }

@@ -1,9 +1,11 @@
-# relink.awk: prints a document as it is installed. A link to a file or folder that is installed, too, leads to it from there; of any other
-# relative link the words are left, since what it leads to is in the repository alone.
+# relink.awk: prints a document as it is installed. A link to a file or folder that is installed,
+# too, leads to it from there; of any other relative link the words are left, since what it leads to
+# is in the repository alone.
 #
-#     awk -v from=README.md -v to=share/doc/trawlbeacon/README.md -f tools/relink.awk PLACED README.md
+#     awk -v from=DOCUMENT -v to=INSTALLED-DOCUMENT -f tools/relink.awk PLACED DOCUMENT
 #
-# PLACED has a line for each thing that is installed: its path in the repository, a tab, and its path below the prefix.
+# PLACED has a line for each thing that is installed: its path in the repository, a tab, and its
+# path below the prefix.
 
 BEGIN { FS = "\t" }
 

@@ -1,15 +1,34 @@
 # shellcheck shell=bash
-# What the scripts here begin with that are in bash. It is sourced in the repository's root, by a script that has `say`, `die` and, where
-# people call it, `help`.
+# What the scripts here begin with that are in bash. Who sources it is in the repository's root from
+# then on, and `here` is the folder that it was called in. Where people call a script, it has
+# `help`.
 
-# Nothing of the caller's environment may lead a script elsewhere: cd by a relative name, tar and gzip to other options, cargo to another
-# folder or processor than those whose programs are then run, installed and shipped, and a package to another library.
+me=${0##*/} # what stands before all that a script says
+here=$PWD
+cd "$(dirname "$(readlink -f "${BASH_SOURCE[0]}")")/.." || exit 1
+
+# shellcheck source=tools/names.sh
+. tools/names.sh
+
+# Nothing of the caller's environment may lead a script elsewhere: cd by a relative name, tar and
+# gzip to other options, cargo to another folder or processor than those whose programs are then
+# run, installed and shipped, and a package to another library.
 unset CDPATH TAR_OPTIONS GZIP TRAWLBEACON_LIB_DIR
 unset CARGO_BUILD_TARGET CARGO_BUILD_TARGET_DIR CARGO_BUILD_BUILD_DIR CARGO_BUILD_DEP_INFO_BASEDIR
 export CARGO_TARGET_DIR=$PWD/build/cargo
 
-# Answers --help, -h and --version wherever they stand among the words, before anything is looked for or built. Where the answer cannot be
-# written the status is 1.
+say() { printf '%s: %s\n' "$me" "$*"; }
+
+# The same to who looks on, beside what the script is asked for.
+tell() { say "$@" >&2; }
+
+die() {
+    tell "$@"
+    exit 1
+}
+
+# Answers --help, -h and --version wherever they stand among the words, before anything is looked
+# for or built. Where the answer cannot be written the status is 1.
 answer_first() { # WORD...
     local word
     for word; do
@@ -32,11 +51,18 @@ named() { # NAME
     printf '%q' "$1"
 }
 
+# A path of the caller's, from the root.
+from_here() { # PATH
+    (cd "$here" && readlink -m -- "$1")
+}
+
 # Who has no kit can have what it makes.
 no_kit() {
-    die "NOT RUN: the command rt is not on the PATH. It is the Rattle kit's, which proves and compiles the library. Without the kit take the
-archive of a release, trawlbeacon-$(cat VERSION)-linux-$(uname -m).tar.gz, from whoever gave you this clone: it has the library and the
-program trawl ready, and needs neither kit nor prover. tools/release makes it on a machine that has the kit."
+    die "NOT RUN: the command rt is not on the PATH. It is the Rattle kit's, which proves and compiles
+the library. Without the kit take the archive of a release, \
+trawlbeacon-$(cat VERSION)-linux-$(uname -m).tar.gz,
+from whoever gave you this clone: it has the library and the program trawl ready, and needs neither
+kit nor prover. tools/release makes it on a machine that has the kit."
 }
 
 need_kit() { command -v rt >/dev/null || no_kit; }
@@ -49,11 +75,34 @@ have_library() { # ARCHIVE
     (. tools/kit.sh && find_kit && made_of_these "$1")
 }
 
-# Puts a copy of a file in its place in one step, once it is on the disk, so that there is the old one or the new one, whole.
+# Whether programs can be built with OpenSSL's Ed25519.
+have_openssl() {
+    mkdir -p build
+    printf '#include <openssl/evp.h>\nint main(void) { return %s == 0; }\n' \
+        'EVP_PKEY_new_raw_public_key(EVP_PKEY_ED25519, 0, 0, 0)' |
+        cc -x c -o build/openssl - -lcrypto 2>/dev/null
+}
+
+# Puts a copy of a file in its place in one step, once it is on the disk, so that there is the old
+# one or the new one, whole.
 put_whole() { # FILE PLACE
     cp "$1" "$2.new" && sync "$2.new" && mv "$2.new" "$2" && return
     rm -f "$2.new"
     return 1
+}
+
+# Two runs of rt in one clone spoil each other's target/, so that the second waits for the first.
+# The lock lasts as long as the script that took it, and those that it runs know that it has it.
+# Where there is no flock nobody waits.
+take_lock() {
+    [ -z "${TRAWLBEACON_LOCKED:-}" ] && command -v flock >/dev/null || return 0
+    mkdir -p build
+    exec 9>build/lock
+    flock -n 9 || until
+        tell "waiting for another run in this clone, which proves or builds"
+        flock -w "${TRAWLBEACON_PULSE:-20}" 9
+    do :; done
+    export TRAWLBEACON_LOCKED=yes
 }
 
 # Runs a command whose words go to standard error, and says every so often that it still runs.
@@ -66,16 +115,23 @@ patiently() { # WHAT COMMAND...
             part=''
         elif [ $? -gt 128 ]; then
             part=$part$line
-            say "still $what, $((SECONDS - began)) seconds so far" >&2
+            tell "still $what, $((SECONDS - began)) seconds so far"
         else
             break
         fi
     done
 }
 
-# Has cargo make a program. What stood in its place goes first: should cargo put it elsewhere all the same, nobody runs or ships an old one.
+# The program that holds documents and tables to the tree, as `cargo xtask` runs it for people.
+xtask() { # CHECK WORD...
+    cargo run --offline --quiet --release -p xtask -- "$@"
+}
+
+# Has cargo make a program. What stood in its place goes first: should cargo put it elsewhere all
+# the same, nobody runs or ships an old one.
 cargo_makes() { # PROGRAM WORDS-OF-CARGO...
     rm -f "$1"
     patiently "building ${1##*/}" cargo "${@:2}" || return
-    [ -x "$1" ] || die "cargo built $1 in another place: a config.toml of cargo's that is not this clone's sets build.target"
+    [ -x "$1" ] || die "cargo built $1 in another place: a config.toml of cargo's that is not this\
+ clone's sets build.target"
 }

@@ -1,10 +1,11 @@
-# usage.awk: says of the words behind trawl, where it is not built, what needs no program. It goes by the lines of usage of its help, as the
-# front end does (hosts/rust/src/bin/trawl/actions.rs), and says the same.
+# usage.awk: says of the words behind trawl, where it is not built, what needs no program. It goes
+# by the lines of usage of its help, as the front end does (hosts/rust/src/bin/trawl/actions.rs),
+# and says the same.
 #
 #     awk -f tools/usage.awk hosts/rust/src/bin/trawl/help.txt WORD...
 #
-# The status is 7 where help is asked for, 8 where the version is, 2 where a flag is wrong, which it says, and 9 where the front end is to
-# look at the words.
+# The status is 7 where help is asked for, 8 where the version is, 2 where a flag is wrong, which it
+# says, and 9 where the front end is to look at the words.
 
 BEGIN {
     while ((getline line <ARGV[1]) > 0 && line != "") learn(line)

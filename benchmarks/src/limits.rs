@@ -6,7 +6,7 @@ use std::env;
 pub struct Limit {
     pub name: &'static str,
     pub highest: f64,
-    /// The highest ratio of ordinary runs so far, on any machine, also on one that others used too.
+    /// The highest ratio of ordinary runs so far: those of one aarch64, also while others used it.
     pub seen: f64,
     /// Of what by what.
     pub what: &'static str,
@@ -59,11 +59,11 @@ pub const LIMITS: &[Limit] = &[
     limit("servers", 0.65 + RUNS, 0.65, "a server's batch of 900 by the independent one",
           "as runs"),
     limit("rows_few", 1.7, 1.44, "all rows of a tree of under 8 leaves by its hashing",
-          "asked with batches of 1,024"),
+          "the goal"),
     limit("rows", 1.2, 1.09, "the same from 8 leaves on",
-          "asked with batches of 1,024"),
+          "the goal"),
     limit("rows_many", 1.10, 1.01, "the same of 900 and of 1,024",
-          "asked with batches of 1,024"),
+          "the goal"),
     limit("path", 1.05, 1.0, "a path of 1,024 leaves by all rows",
           "the same hashing, and 0.05 for the clock"),
     limit("path_from", 0.5, 0.07, "a path out of the rows by one hash",

@@ -18,6 +18,12 @@ fn load() -> String {
     text.split_whitespace().next().unwrap_or("unknown").to_string()
 }
 
+/// The version that is timed, since the page is read long after it was written.
+fn version() -> String {
+    let text = fs::read_to_string("VERSION").unwrap_or_default();
+    text.split_whitespace().next().unwrap_or("unknown").to_string()
+}
+
 /// What stands beside ours: RustCrypto's sha2, by the version that the script found, and OpenSSL.
 fn peers() -> String {
     let sha2 = match env::var("BENCH_SHA2") {
@@ -40,9 +46,10 @@ pub fn part(run: &mut Run, quick: bool) {
     let rustc = first_words("rustc", &["--version"], 2).unwrap_or_default();
     let (system, kind) = (env::consts::OS, env::consts::ARCH);
     let text = format!(
-        "{} of `./bench` on {date}: {processor}, {cores} cores, {kind}, {system}, {rustc}, {}. The \
-         load of the minute before it was {}.",
+        "{} of `./bench` on {date}, of version {}: {processor}, {cores} cores, {kind}, {system}, \
+         {rustc}, {}. The load of the minute before it was {}.",
         if quick { "A quick run, which counts for nothing," } else { "A run" },
+        version(),
         peers(),
         load()
     );

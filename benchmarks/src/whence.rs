@@ -32,12 +32,10 @@ const GROUPS: [(&str, &[&str]); 6] = [
         &[
             "digits",
             "ed25519_field",
-            "ed25519_residue",
-            "ed25519_power",
+            "ed25519_scalar",
             "ed25519_curve",
             "ed25519_doubles",
             "ed25519_base",
-            "ed25519_scalar",
             "ed25519_point",
             "ed25519",
         ],
@@ -55,27 +53,9 @@ const GROUPS: [(&str, &[&str]); 6] = [
     ),
     (
         "piles",
-        &[
-            "pile",
-            "pile_runs",
-            "pile_report",
-            "pile_tally",
-            "pile_signed",
-            "walk",
-            "walk_signed",
-        ],
+        &["pile", "pile_runs", "pile_report", "pile_tally", "pile_signed", "walk", "walk_signed"],
     ),
-    (
-        "JSON",
-        &[
-            "base64",
-            "json",
-            "json_base64",
-            "report_read",
-            "report_write",
-            "report_text",
-        ],
-    ),
+    ("JSON", &["base64", "json", "json_base64", "report_read", "report_write", "report_text"]),
 ];
 
 const REST: &str = "bytes, the boundary, copying";

@@ -1845,14 +1845,37 @@ static void expect_clock_starts(void) {
     }
 }
 
-/* Takes a window, and holds the code and the state to what they should be. */
+/* Takes a window, by its numbers and out of an answer, and holds the code and the state to what
+ * they should be. No two numbers of an answer are the same, so that none stands in for another. */
 static void expect_heard(const char *what, struct tb_clock *clock, uint64_t server, uint64_t sent,
                          uint64_t received, uint32_t code) {
-    struct tb_clock should = *clock;
+    struct tb_clock should = *clock, by_verdict = *clock, by_walk = *clock;
     const uint64_t low = 1000 + sent, high = 1006 + sent, maxt = 5000 + received;
+    const struct tb_verdict said = {.radi = 3, .at = 1, .midp = low + 3, .low = low, .high = high,
+                                    .mint = 2, .maxt = maxt};
+    const struct tb_took took = {.outcome = TB_MALFEASANCE, .at = 1, .first = 5, .second = 6,
+                                 .midp = low + 3, .low = low, .high = high, .mint = 2,
+                                 .maxt = maxt, .radi = 3};
     if (code == 0) put_window(&should, (size_t)server, low, high, maxt, sent, received);
     expect_number(what, tb_clock_take(clock, server, low, high, maxt, sent, received), code);
+    expect_number(what, tb_clock_take_verdict(&by_verdict, server, said, sent, received), code);
+    expect_number(what, tb_clock_take_walked(&by_walk, server, took, sent, received), code);
     expect_clock(what, clock, &should);
+    expect_clock(what, &by_verdict, &should);
+    expect_clock(what, &by_walk, &should);
+}
+
+/* Of an answer that is a refusal nothing is taken, whatever else it holds, and its own code is told
+ * before any other. */
+static void expect_unheard(const struct tb_clock *clock) {
+    struct tb_clock is = *clock;
+    const struct tb_verdict said = {.code = TB_SIGNATURE, .low = 1000, .high = 1006, .maxt = 5000};
+    const struct tb_took took = {.code = TB_ENDED, .low = 1000, .high = 1006, .maxt = 5000};
+    for (uint64_t server = 0; server <= TB_CLOCK_SERVERS; server += TB_CLOCK_SERVERS) {
+        expect_number("a refusal", tb_clock_take_verdict(&is, server, said, 9, 9), TB_SIGNATURE);
+        expect_number("a walk's refusal", tb_clock_take_walked(&is, server, took, 9, 9), TB_ENDED);
+        expect_clock("a clock that takes no refusal", &is, clock);
+    }
 }
 
 /* Each server's two newest windows, and each refusal before the one that comes after it. */
@@ -1871,6 +1894,7 @@ static void expect_clock_takes(void) {
     expect_heard("a server that is no 32 bits", &clock, (uint64_t)1 << 32, 9, 9, TB_CLOCK_INPUT);
     expect_heard("the last server that there is", &clock, UINT64_MAX, 9, 9, TB_CLOCK_INPUT);
     expect_heard("any moment", &clock, 3, 0, UINT64_MAX, 0);
+    expect_unheard(&clock);
 }
 
 /* A clock with 100 parts of a million, and three servers, of which the last is nine seconds ahead:
@@ -1991,7 +2015,7 @@ int main(void) {
         printf("the C host: %d of %d comparisons differ\n", differing, compared);
         return 1;
     }
-    /* tools/counts holds README's table to this line. */
+    /* xtask counts holds README's table to this line. */
     printf("counted: %d comparisons from C with what the header says\n", compared);
     return fflush(stdout) == 0 ? 0 : 1;
 }

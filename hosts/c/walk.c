@@ -1,9 +1,11 @@
 /* Asks three servers for the time, twice in the same order, and says whether one of them lied.
  *
- *     walk [LAG]
+ *     walk [LAG [LIARS]]
  *
  * This program plays the servers too, with what a server of one's own writes. The clock of the
- * third is LAG seconds behind, or not at all. Nobody signs, and both signatures are taken as good.
+ * third is LAG seconds behind, or not at all. With LIARS it also tells the time, in microseconds,
+ * by all that was heard, where so many of the three may lie. Nobody signs, and both signatures are
+ * taken as good.
  * A console would take random bytes for the nonce and the rands, send the requests over UDP, take
  * the responses with tb_walk_take_signed, which verifies them, and cut its report out of the pile
  * with tb_cut_signed_run.
@@ -14,7 +16,7 @@
 #include <stdlib.h>
 #include <string.h>
 
-enum { SERVERS = 3, RADIUS = 3, LONGEST_DELAY = 5 };
+enum { SERVERS = 3, RADIUS = 3, LONGEST_DELAY = 5, DRIFT = 100, MICROSECONDS = 1000000 };
 static const uint8_t KEYS[32 * SERVERS] = {[0] = 1, [32] = 2, [64] = 3};
 static uint64_t now = 1773685571, lag;
 
@@ -35,13 +37,26 @@ static size_t exchange(uint64_t server, const uint8_t *request, uint8_t *respons
         .length;
 }
 
+/* Tells the time by all that was heard. Returns whether there was one. */
+static bool tell_time(const struct tb_clock *clock, uint64_t liars) {
+    struct tb_time time = tb_clock_now(clock, now * MICROSECONDS, liars);
+    if (time.code == TB_PASSED)
+        printf("the time is from %llu to %llu\n", (unsigned long long)time.low,
+               (unsigned long long)time.high);
+    else
+        printf("no time, by code %u: %s\n", (unsigned)time.code, tb_code_text(time.code));
+    return time.code == TB_PASSED;
+}
+
 int main(int argc, char **argv) {
     static uint8_t pile[2 * SERVERS * TB_RECORD_LENGTH], request[TB_REQUEST_LENGTH],
         response[TB_LONGEST_PACKET + 1];
     const uint8_t nonce[32] = {4}, rand[32] = {5};
     struct tb_walk walk = {{0}, 0, 0, {0}, {0}, 0, 0};
     struct tb_took took = {.outcome = TB_NOTHING_SAID};
+    struct tb_clock clock = {0};
     lag = argc > 1 ? strtoull(argv[1], NULL, 10) : 0;
+    tb_clock_start(&clock, DRIFT);
 
     uint32_t code =
         tb_walk_start(&walk, KEYS, sizeof KEYS, nonce, LONGEST_DELAY, pile, sizeof pile);
@@ -53,6 +68,9 @@ int main(int argc, char **argv) {
         size_t n = exchange(asked.server, request, response, sizeof response);
         took = tb_walk_take(&walk, 1, 1, sent, now, rand, response, n, pile, sizeof pile);
         code = took.code; /* a console would wait, and ask the same again */
+        if (code == TB_PASSED)
+            code = tb_clock_take_walked(&clock, asked.server, took, sent * MICROSECONDS,
+                                        now * MICROSECONDS);
     }
 
     if (code != TB_ENDED)
@@ -64,5 +82,6 @@ int main(int argc, char **argv) {
         printf("consistent\n");
     else
         printf("the pile was altered\n");
-    return fflush(stdout) == 0 && code == TB_ENDED ? 0 : 1;
+    bool timed = argc < 3 || tell_time(&clock, strtoull(argv[2], NULL, 10));
+    return fflush(stdout) == 0 && code == TB_ENDED && timed ? 0 : 1;
 }

@@ -10,7 +10,7 @@ use Rattle.laws.specs.Bytes.{Bytes}
 use Rattle.laws.specs.Pick.{pick}
 use Rattle.base64.specs.declared.Group.{Group}
 use Rattle.base64.specs.declared.Group.the-variants.{Three, Two, One, Bad}
-use Rattle.base64.specs.Alphabet.{letterOf, sextetOf}
+use Rattle.base64.specs.Alphabet.{letterOf, sextetOf, pad}
 use Rattle.base64.specs.Encode.{encodeOne, encodeTwo, encodeThree, encode64}
 use Rattle.base64.specs.Decode.{Decoded, bytes, none, onto, withGroup, high, middle, low, oneOf, twoOf, threeOf}
 use Rattle.base64.specs.Decode.{groupOf, decode64}
@@ -29,11 +29,11 @@ group-three p q r t hp hq hr ht = simp (
   ne-eqb q 64 (λ e. omega arith),
   ne-eqb r 64 (λ e. omega arith),
   ne-eqb t 64 (λ e. omega arith),
-  ne-eqb (letterOf t) 61 (letter-no-pad t ht),
+  ne-eqb (letterOf t) pad (letter-no-pad t ht),
 )
 
 group-two : (p q r : ℕ) → p < 64 → q < 64 → r < 64 → r % 4 ≡ 0
-    → groupOf (letterOf p) (letterOf q) (letterOf r) 61 ≡ Two (high p q) (middle q r)
+    → groupOf (letterOf p) (letterOf q) (letterOf r) pad ≡ Two (high p q) (middle q r)
 unfolding groupOf twoOf pick
 group-two p q r hp hq hr h = simp (
   sextet-letter p hp,
@@ -43,10 +43,10 @@ group-two p q r hp hq hr h = simp (
   ne-eqb q 64 (λ e. omega arith),
   ne-eqb r 64 (λ e. omega arith),
   h,
-  ne-eqb (letterOf r) 61 (letter-no-pad r hr),
+  ne-eqb (letterOf r) pad (letter-no-pad r hr),
 )
 
-group-one : (p q : ℕ) → p < 64 → q < 64 → q % 16 ≡ 0 → groupOf (letterOf p) (letterOf q) 61 61 ≡ One (high p q)
+group-one : (p q : ℕ) → p < 64 → q < 64 → q % 16 ≡ 0 → groupOf (letterOf p) (letterOf q) pad pad ≡ One (high p q)
 unfolding groupOf oneOf pick
 group-one p q hp hq h =
     simp (sextet-letter p hp, sextet-letter q hq, ne-eqb p 64 (λ e. omega arith), ne-eqb q 64 (λ e. omega arith), h)

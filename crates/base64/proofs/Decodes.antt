@@ -16,7 +16,7 @@ no-pad : (d : ℕ) → isLetter d ≡ true → eqb d pad ≡ false
 unfolding isLetter sextetOf pick
 no-pad d h = ne-eqb d pad (λ e. clash (rw e at h))
   where
-    clash : isLetter 61 ≡ true → ⊥
+    clash : isLetter pad ≡ true → ⊥
     clash z = let y : _≡_ {A = Bool} false true = z in true≢false (sym y)
 
 -- four letters are three bytes

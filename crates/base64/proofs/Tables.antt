@@ -1,26 +1,24 @@
 -- The alphabet as a list: its letters are what the rule says, each is read as its number, and none is a pad. One test
 -- that antt computes.
+use Prim.Native.Char.{code}
 use Prim.Native.Nat.{ℕ, _+_, _*_, _%_, _≤_, _<_}
 use mathlib.Core.Path.{_≡_, refl, sym, _∙_, ap}
 use mathlib.Core.Bool.{Bool, true, false, not, _||_, _&&_, true≢false}
 use mathlib.Core.List.{List, [], _∷_}
 use native.Mathlib.Omega.{arith}
-use borrow.Author.Tests.{ne-eqb, le-ltb, ltb-true, ltb-false, eqb-false, not-true}
-use lib.Dec.{T, T-not, eqb, leb, ltb, eqb→eq, leb→le, ltb→lt, eqb-refl}
+use borrow.Author.Tests.{ne-eqb, le-ltb, lt-leb, ltb-true, ltb-false, eqb-false, not-true}
+use lib.Dec.{T, T-not, eqb, leb, ltb, eqb→eq, leb→le, eqb-refl}
 use lib.ListN.{getD, replicate}
+use Rattle.laws.specs.Ascii.{ascii}
 use Rattle.laws.specs.Pick.{pick}
 use Rattle.digits.proofs.Table.{at, both, both-left, both-right}
 use Rattle.base64.specs.Alphabet.{letterOf, sextetOf, isLetter, pad}
 
 abbrev pub letters : List ℕ
-letters =
-    65 ∷ 66 ∷ 67 ∷ 68 ∷ 69 ∷ 70 ∷ 71 ∷ 72 ∷ 73 ∷ 74 ∷ 75 ∷ 76 ∷ 77 ∷ 78 ∷ 79 ∷ 80 ∷
-    81 ∷ 82 ∷ 83 ∷ 84 ∷ 85 ∷ 86 ∷ 87 ∷ 88 ∷ 89 ∷ 90 ∷ 97 ∷ 98 ∷ 99 ∷ 100 ∷ 101 ∷ 102 ∷
-    103 ∷ 104 ∷ 105 ∷ 106 ∷ 107 ∷ 108 ∷ 109 ∷ 110 ∷ 111 ∷ 112 ∷ 113 ∷ 114 ∷ 115 ∷ 116 ∷ 117 ∷ 118 ∷
-    119 ∷ 120 ∷ 121 ∷ 122 ∷ 48 ∷ 49 ∷ 50 ∷ 51 ∷ 52 ∷ 53 ∷ 54 ∷ 55 ∷ 56 ∷ 57 ∷ 43 ∷ 47 ∷ []
+letters = ascii "ABCDEFGHIJKLMNOPQRSTUVWXYZabcdefghijklmnopqrstuvwxyz0123456789+/"
 
 letter-right : ℕ → ℕ → Bool
-letter-right k x = both (eqb x (letterOf k)) (both (eqb (sextetOf x) k) (not (eqb x 61)))
+letter-right k x = both (eqb x (letterOf k)) (both (eqb (sextetOf x) k) (not (eqb x pad)))
 
 letter-row : (n : ℕ) → n < 64 → T (letter-right n (getD letters n 0))
 unfolding letter-right letterOf sextetOf pick
@@ -40,13 +38,13 @@ sextet-letter n h =
     (both-right (eqb (getD letters n 0) (letterOf n)) _ (letter-row n h)))
 
 -- no letter is a pad
-pub letter-no-pad : (n : ℕ) → n < 64 → letterOf n ≡ 61 → ⊥
+pub letter-no-pad : (n : ℕ) → n < 64 → letterOf n ≡ pad → ⊥
 unfolding letter-right
 letter-no-pad n h e =
-    T-not (eqb (getD letters n 0) 61)
+    T-not (eqb (getD letters n 0) pad)
     (both-right (eqb (sextetOf (getD letters n 0)) n) _
     (both-right (eqb (getD letters n 0) (letterOf n)) _ (letter-row n h)))
-    (rw (letter-at n h ∙ e) (eqb-refl 61))
+    (rw (letter-at n h ∙ e) (eqb-refl pad))
 
 -- ---- from a letter back: where a number is a letter's, the number's letter is that letter
 back-right : ℕ → ℕ → Bool
@@ -56,19 +54,19 @@ back-row : (c : ℕ) → c < 256 → T (back-right c (getD (replicate 256 0) c 0
 unfolding back-right letterOf sextetOf pick
 back-row c h = at back-right (replicate 256 0) tt c h
 
--- no letter is a number above a byte's
-sextet-over : (c : ℕ) → 256 ≤ c → sextetOf c ≡ 64
+-- no letter is a number above ASCII's
+pub sextet-over : (c : ℕ) → 127 < c → sextetOf c ≡ 64
 unfolding sextetOf pick
 sextet-over c h =
     simp (
-      ne-eqb c 43 (λ e. omega arith),
-      ne-eqb c 47 (λ e. omega arith),
-      le-ltb c 48 (omega arith),
-      le-ltb c 58 (omega arith),
-      le-ltb c 65 (omega arith),
-      le-ltb c 91 (omega arith),
-      le-ltb c 97 (omega arith),
-      le-ltb c 123 (omega arith),
+      ne-eqb c (code "+") (λ e. omega arith),
+      ne-eqb c (code "/") (λ e. omega arith),
+      le-ltb c (code "0") (omega arith),
+      lt-leb c (code "9") (omega arith),
+      le-ltb c (code "A") (omega arith),
+      lt-leb c (code "Z") (omega arith),
+      le-ltb c (code "a") (omega arith),
+      lt-leb c (code "z") (omega arith),
     )
 
 or-second : (b : Bool) (m n : ℕ) → b ≡ false → T (b || eqb m n) → m ≡ n
@@ -84,14 +82,16 @@ by-size c true e f =
           (both-right (leb (sextetOf c) 64) _ r),
       omega arith,
     )
-by-size c false e f = absurd (f (sextet-over c (ltb-false c 256 e)))
+by-size c false e f = absurd (f (sextet-over c (omega (arith, ltb-false c 256 e))))
 
 pub back-letter : (c : ℕ) → (sextetOf c ≡ 64 → ⊥) → (letterOf (sextetOf c) ≡ c) × (sextetOf c < 64)
 back-letter c f = by-size c (ltb c 256) refl f
 
 -- ---- letters with no branch: the tests of a letter by its range, and its number as a sum
 abbrev ranged : ℕ → Bool
-ranged b = (((eqb b 43 || eqb b 47) || (leb 48 b && ltb b 58)) || (leb 65 b && ltb b 91)) || (leb 97 b && ltb b 123)
+ranged b =
+    (((eqb b (code "+") || eqb b (code "/")) || (leb (code "0") b && leb b (code "9")))
+    || (leb (code "A") b && leb b (code "Z"))) || (leb (code "a") b && leb b (code "z"))
 
 abbrev shifted : ℕ → ℕ → ℕ → ℕ → ℕ → ℕ
 shifted b low slash capital small = (b + 4 + 15 * low + 253 * slash + 187 * capital + 250 * small) % 256
@@ -110,7 +110,7 @@ quick-right : ℕ → ℕ → Bool
 quick-right b x =
     both (same (ranged b) (isLetter b)) (eqb (sextetOf b) 64
     || eqb
-    (shifted b (pick (ltb b 48) 1 0) (pick (eqb b 47) 1 0) (pick (leb 65 b) 1 0) (pick (leb 97 b) 1 0)) (sextetOf b))
+    (shifted b (pick (ltb b (code "0")) 1 0) (pick (eqb b (code "/")) 1 0) (pick (leb (code "A") b) 1 0) (pick (leb (code "a") b) 1 0)) (sextetOf b))
 
 quick-row : (b : ℕ) → b < 256 → T (quick-right b (getD (replicate 256 0) b 0))
 unfolding quick-right isLetter sextetOf pick
@@ -128,8 +128,8 @@ letter-number b e = not-true (eqb (sextetOf b) 64) e
 pub letter-small : (b : ℕ) → isLetter b ≡ true → sextetOf b < 64
 letter-small b e = back-letter b (eqb-false (sextetOf b) 64 (letter-number b e)) .1
 
-pub shifted-number : {low slash capital small : ℕ} (b : ℕ) → low ≡ pick (ltb b 48) 1 0 → slash ≡ pick (eqb b 47) 1 0
-    → capital ≡ pick (leb 65 b) 1 0 → small ≡ pick (leb 97 b) 1 0 → b < 256 → isLetter b ≡ true
+pub shifted-number : {low slash capital small : ℕ} (b : ℕ) → low ≡ pick (ltb b (code "0")) 1 0 → slash ≡ pick (eqb b (code "/")) 1 0
+    → capital ≡ pick (leb (code "A") b) 1 0 → small ≡ pick (leb (code "a") b) 1 0 → b < 256 → isLetter b ≡ true
     → shifted b low slash capital small ≡ sextetOf b
 unfolding quick-right
 shifted-number b e f g i h l =
@@ -138,25 +138,26 @@ shifted-number b e f g i h l =
 
 -- ---- a letter lies between `+` and `z`, and is no backslash
 range-right : ℕ → ℕ → Bool
-range-right k x = both (leb 43 (letterOf k)) (both (ltb (letterOf k) 123) (not (eqb (letterOf k) 92)))
+range-right k x = both (leb (code "+") (letterOf k)) (both (leb (letterOf k) (code "z")) (not (eqb (letterOf k) (code "\\"))))
 
 range-row : (n : ℕ) → n < 64 → T (range-right n (getD letters n 0))
 unfolding range-right letterOf pick
 range-row n h = at range-right letters tt n h
 
 pub record Ranged (b : ℕ) : Type 0 where
-  pub least : 43 ≤ b
-  pub most : b < 123
-  pub slash : b ≡ 92 → ⊥
+  pub least : code "+" ≤ b
+  pub most : b ≤ code "z"
+  pub slash : b ≡ code "\\" → ⊥
 
 pub letter-range : (n : ℕ) → n < 64 → Ranged (letterOf n)
 unfolding range-right
 letter-range n h =
     let r = range-row n h in
-    let q = both-right (leb 43 (letterOf n)) _ r in record {
-      least = leb→le _ _ (both-left (leb 43 (letterOf n)) _ r);
-      most = ltb→lt _ _ (both-left (ltb (letterOf n) 123) _ q);
-      slash = λ e. T-not (eqb (letterOf n) 92) (both-right (ltb (letterOf n) 123) _ q) (rw e (eqb-refl 92));
+    let q = both-right (leb (code "+") (letterOf n)) _ r in record {
+      least = leb→le _ _ (both-left (leb (code "+") (letterOf n)) _ r);
+      most = leb→le _ _ (both-left (leb (letterOf n) (code "z")) _ q);
+      slash = λ e. T-not (eqb (letterOf n) (code "\\")) (both-right (leb (letterOf n) (code "z")) _ q)
+          (rw e (eqb-refl (code "\\")));
     }
 
 pub letter-ranged : (b : ℕ) → isLetter b ≡ true → Ranged b

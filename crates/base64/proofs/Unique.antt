@@ -9,7 +9,7 @@ use lib.Dec.{T, eqb}
 use Rattle.laws.specs.Pick.{pick}
 use Rattle.base64.specs.declared.Group.{Group}
 use Rattle.base64.specs.declared.Group.the-variants.{Three, Two, One, Bad}
-use Rattle.base64.specs.Alphabet.{letterOf, sextetOf}
+use Rattle.base64.specs.Alphabet.{letterOf, sextetOf, pad}
 use Rattle.base64.specs.Encode.{encodeOne, encodeTwo, encodeThree, encode64}
 use Rattle.base64.specs.Decode.{Decoded, bytes, none, withGroup, high, middle, low, oneOf, twoOf, threeOf, groupOf}
 use Rattle.base64.specs.Decode.{decode64}
@@ -40,7 +40,7 @@ three-spelt p q r t a b c d hp hq hr ht ha hb hc hd =
     rw (e₁, e₂, e₃, e₄, ha, hb, hc, hd) refl
 
 two-spelt : (p q r a b c d : ℕ) → p < 64 → q < 64 → r < 64 → r % 4 ≡ 0 → letterOf p ≡ a → letterOf q ≡ b
-    → letterOf r ≡ c → d ≡ 61
+    → letterOf r ≡ c → d ≡ pad
     → encodeTwo (high p q) (middle q r) ≡ a ∷ b ∷ c ∷ d ∷ []
 two-spelt p q r a b c d hp hq hr h ha hb hc hd =
     let e₁ : high p q / 4 ≡ p = omega arith in
@@ -48,7 +48,7 @@ two-spelt p q r a b c d hp hq hr h ha hb hc hd =
     let e₃ : middle q r % 16 * 4 ≡ r = omega arith in
     rw (e₁, e₂, e₃, ha, hb, hc, hd) refl
 
-one-spelt : (p q a b c d : ℕ) → p < 64 → q < 64 → q % 16 ≡ 0 → letterOf p ≡ a → letterOf q ≡ b → c ≡ 61 → d ≡ 61
+one-spelt : (p q a b c d : ℕ) → p < 64 → q < 64 → q % 16 ≡ 0 → letterOf p ≡ a → letterOf q ≡ b → c ≡ pad → d ≡ pad
     → encodeOne (high p q) ≡ a ∷ b ∷ c ∷ d ∷ []
 one-spelt p q a b c d hp hq h ha hb hc hd =
     let e₁ : high p q / 4 ≡ p = omega arith in
@@ -63,12 +63,12 @@ spelt a b c d =
     by-pick (Spelt a b c d) _ _ _
     (λ hd. by-pick (Spelt a b c d) _ _ _
     (λ hc. by-pick (Spelt a b c d) _ _ _
-    (λ g. one-spelt (sextetOf a) (sextetOf b) a b c d (p .1) (q .1) (eqb-true _ _ g) (p .0) (q .0) (eqb-true c 61 hc)
-    (eqb-true d 61 hd))
+    (λ g. one-spelt (sextetOf a) (sextetOf b) a b c d (p .1) (q .1) (eqb-true _ _ g) (p .0) (q .0) (eqb-true c pad hc)
+    (eqb-true d pad hd))
     (λ g. tt))
     (λ hc. by-pick (Spelt a b c d) _ _ _ (λ g. tt) (λ hr. let r = small c hr in by-pick (Spelt a b c d) _ _ _
     (λ g. two-spelt (sextetOf a) (sextetOf b) (sextetOf c) a b c d (p .1) (q .1) (r .1) (eqb-true _ _ g) (p .0) (q .0)
-    (r .0) (eqb-true d 61 hd))
+    (r .0) (eqb-true d pad hd))
     (λ g. tt))))
     (λ hd. by-pick (Spelt a b c d) _ _ _ (λ g. tt) (λ hr. let r = small c hr in
     by-pick (Spelt a b c d) _ _ _ (λ g. tt) (λ ht. let t = small d ht in

@@ -9,41 +9,45 @@ pub fn letter(n: u8) -> u8
     ensures { λ r. ⌜ r ≡ letterOf n ⌝ }
 {
     if n < 26 {
-        return n + 65;
+        return n + b'A';
     }
     if n < 52 {
-        return n + 71;
+        return n - 26 + b'a';
     }
     if n < 62 {
-        return n - 4;
+        return n - 52 + b'0';
     }
-    if n == 62 { 43 } else { 47 }
+    if n == 62 { b'+' } else { b'/' }
 }
 
-// The number of a letter, and 64 for what is no letter.
+// The number of a letter, and 64 for what is no letter. A character is any number, and a letter is one of ASCII.
 pub fn sextet(c: u32) -> u8
     ensures { λ r. ⌜ (r ≡ sextetOf c) × (r ≤ 64) ⌝ }
 {
-    if c == 43 {
+    if 0x7F < c {
+        return 64;
+    }
+    let b = c as u8;
+    if b == b'+' {
         return 62;
     }
-    if c == 47 {
+    if b == b'/' {
         return 63;
     }
-    if c < 48 {
+    if b < b'0' {
         return 64;
     }
-    if c < 58 {
-        return (c + 4) as u8;
+    if b <= b'9' {
+        return b - b'0' + 52;
     }
-    if c < 65 {
+    if b < b'A' {
         return 64;
     }
-    if c < 91 {
-        return (c - 65) as u8;
+    if b <= b'Z' {
+        return b - b'A';
     }
-    if c < 97 {
+    if b < b'a' {
         return 64;
     }
-    if c < 123 { (c - 71) as u8 } else { 64 }
+    if b <= b'z' { b - b'a' + 26 } else { 64 }
 }

@@ -3,6 +3,7 @@ ghost use mathlib.Core.Path.{_≡_};
 ghost use Prim.Native.Nat.{_≤_, _<_};
 ghost use Rattle.base64.specs.Decode.{groupOf, oneOf, twoOf, threeOf};
 use super::Group;
+use super::PAD;
 use super::alphabet::sextet;
 
 // One byte, of two letters and two pads.
@@ -58,8 +59,8 @@ pub fn group_of(a: u32, b: u32, c: u32, d: u32) -> Group
     if q == 64 {
         return Group::Bad;
     }
-    if d == 61 {
-        if c == 61 {
+    if d == PAD as u32 {
+        if c == PAD as u32 {
             one(p, q)
         } else {
             two(p, q, sextet(c))

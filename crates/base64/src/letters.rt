@@ -12,11 +12,11 @@ use super::Group;
 pub fn is_letter(b: u8) -> bool
     ensures { λ r. ⌜ r ≡ isLetter b ⌝ }
 {
-    (b == 43)
-        | (b == 47)
-        | ((48 <= b) & (b < 58))
-        | ((65 <= b) & (b < 91))
-        | ((97 <= b) & (b < 123))
+    (b == b'+')
+        | (b == b'/')
+        | ((b'0' <= b) & (b <= b'9'))
+        | ((b'A' <= b) & (b <= b'Z'))
+        | ((b'a' <= b) & (b <= b'z'))
 }
 
 fn one_if(t: bool) -> u32
@@ -31,10 +31,10 @@ fn number(b: u8) -> u8
     requires { ⌜ isLetter b ≡ true ⌝ }
     ensures { λ r. ⌜ (r ≡ sextetOf b) × (r < 64) ⌝ }
 {
-    let low = one_if(b < 48);
-    let slash = one_if(b == 47);
-    let capital = one_if(65 <= b);
-    let small = one_if(97 <= b);
+    let low = one_if(b < b'0');
+    let slash = one_if(b == b'/');
+    let capital = one_if(b'A' <= b);
+    let small = one_if(b'a' <= b);
     let n = b as u32 + 4 + 15 * low + 253 * slash + 187 * capital + 250 * small;
     (n % 256) as u8
 }

@@ -18,4 +18,4 @@ pub enum Group {
 }
 
 // Fills the last group where it has fewer than three bytes.
-const PAD: u8 = 61;
+const PAD: u8 = b'=';

@@ -45,7 +45,7 @@ took-same w h x pile p q =
     let same = said-once w h x pile (p .answer) (q .answer) (p .right) (q .right) in (
       p .same ∙ ap tbTook same ∙ sym (q .same),
       (
-        p .moved ∙ ap (λ (t : Said). walkAfter t w h x) same ∙ sym (q .moved),
+        p .stepped ∙ ap (λ (t : Said). walkAfter t w h x) same ∙ sym (q .stepped),
         p .left ∙ ap (λ (t : Said). pileAfter t w x pile) same ∙ sym (q .left),
       ),
     )

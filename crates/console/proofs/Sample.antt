@@ -7,8 +7,8 @@ use Rattle.refusal.specs.Refusal.{refusal, refusalAt}
 use Rattle.check_response.specs.Window.{windowOf}
 use Rattle.check_response.specs.declared.Verdict.{Verdict}
 use Rattle.check_response.specs.declared.Verdict.the-variants.{Valid, Refused}
-use Rattle.lines.specs.Line.{decimalIn, spaced, twoSpaced, labelled, windowLine, placeText, refusalLine}
-use Rattle.lines.specs.Line.{recordLine, runLine, countLine}
+use Rattle.console_lines.specs.Line.{decimalIn, spaced, twoSpaced, labelled, windowLine, placeText, refusalLine}
+use Rattle.console_lines.specs.Line.{recordLine, runLine, countLine}
 use Rattle.console.specs.Text.{recordLines}
 
 -- 1000±10, 1500±10, 1495±1, 1400±10

@@ -9,7 +9,7 @@ use Rattle.pile.specs.Pile.{recordsIn}
 use Rattle.pile_report.specs.Report.{judged}
 use Rattle.pile_report.specs.declared.Taken.{Taken}
 use Rattle.pile_report.specs.declared.Taken.the-variants.{Run, Refused}
-use Rattle.lines.specs.Line.{countLine, refusedLine, recordLine, runLine}
+use Rattle.console_lines.specs.Line.{countLine, refusedLine, recordLine, runLine}
 
 -- the first n records, which have the verdicts v
 unfoldable pub recordLines : (ℕ → Verdict) → ℕ → List ℕ

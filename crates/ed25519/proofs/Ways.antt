@@ -11,8 +11,8 @@ use Rattle.laws.specs.Numbers.{le}
 use Rattle.digits.specs.Digits.{value, Each}
 use Rattle.ed25519_field.specs.Field.{p}
 use Rattle.ed25519_field.specs.Limbs.{radix}
-use Rattle.ed25519_residue.specs.Residue.{Low}
-use Rattle.ed25519_residue.proofs.Reducing.{each-below}
+use Rattle.ed25519_field.specs.Residue.{Low}
+use Rattle.ed25519_field.proofs.Reducing.{each-below}
 use Rattle.ed25519_scalar.specs.Order.{L}
 use Rattle.ed25519_scalar.proofs.Steps.{L-pos}
 use Rattle.ed25519_point.specs.Decoding.{Decoding, decodeOf}

@@ -10,20 +10,23 @@ ghost use Rattle.ed25519.specs.Verification.{groupEquation, accepts, ver
 use super::hashing::hash;
 use ed25519_base::times_base;
 use ed25519_curve::Point;
-use ed25519_curve::add;
+use ed25519_curve::point_add;
 use ed25519_curve::point_equal;
 use ed25519_curve::times;
-use ed25519_field::Fe;
+use ed25519_point::decode;
+use ed25519_scalar::Scalar;
+use ed25519_scalar::below_order;
+use ed25519_scalar::modulo;
 
 // The most bytes that a text may have: with R and A as many as a message in pieces may, 2^64 - 1.
 const MOST: usize = 0xffff_ffff_ffff_ffbf;
 
 // Whether [S]B = R + [k]A.
-fn group_equation(a: Point, r: Point, s: Fe, k: Fe) -> bool
+fn group_equation(a: Point, r: Point, s: Scalar, k: Scalar) -> bool
     requires { ⌜ Good a × Good r × Each 67108863 s × Each 67108863 k ⌝ }
     ensures { λ b. ⌜ b ≡ groupEquation (ptOf a) (ptOf r) (value radix s) (value radix k) ⌝ }
 {
-    point_equal(times_base(s), add(r, times(k, a)))
+    point_equal(times_base(s), point_add(r, times(k, a)))
 }
 
 // Of a key and the halves of a signature.
@@ -33,19 +36,14 @@ fn check(key: &[u8], context: &[u8], text: &[u8], r: &[u8], s: &[u8]) -> bool
     ensures { λ b. ⌜ b ≡ accepts (now (key .entry)) (now (context .entry) ++ now (text .entry)) (now (r .entry))
         (now (s .entry)) ⌝ }
 {
-    let a = ed25519_point::decode(key);
+    let a = decode(key);
     if a.ok {
-        let q = ed25519_point::decode(r);
+        let q = decode(r);
         if q.ok {
-            if ed25519_scalar::below_order(s) {
+            if below_order(s) {
                 let ap = a.point;
                 let qp = q.point;
-                return group_equation(
-                    ap,
-                    qp,
-                    ed25519_scalar::modulo(s),
-                    hash(r, key, context, text),
-                );
+                return group_equation(ap, qp, modulo(s), hash(r, key, context, text));
             }
         }
     }

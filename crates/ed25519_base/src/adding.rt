@@ -12,6 +12,10 @@ ghost use Rattle.ed25519_doubles.specs.Tables.{lowTable, highTable};
 use super::Entry;
 use super::rows::row;
 use ed25519_curve::Point;
+use ed25519_curve::add_with;
+use ed25519_field::add;
+use ed25519_field::mul;
+use ed25519_field::sub;
 
 // p with the row's point added.
 fn joined(p: Point, r: Entry) -> Point
@@ -29,11 +33,11 @@ fn joined(p: Point, r: Entry) -> Point
     let plus = r.plus;
     let twice = r.twice;
     let scaled = r.scaled;
-    let a = ed25519_field::mul(ed25519_field::sub(y, x), minus);
-    let b = ed25519_field::mul(ed25519_field::add(y, x), plus);
-    let c = ed25519_field::mul(t, scaled);
-    let d = ed25519_field::mul(z, twice);
-    ed25519_curve::add_with(a, b, c, d)
+    let a = mul(sub(y, x), minus);
+    let b = mul(add(y, x), plus);
+    let c = mul(t, scaled);
+    let d = mul(z, twice);
+    add_with(a, b, c, d)
 }
 
 // q with 2^i B added.

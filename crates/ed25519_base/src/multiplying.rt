@@ -8,18 +8,19 @@ ghost use Rattle.ed25519_curve.specs.Points.{base, pointMul};
 ghost use Rattle.ed25519_doubles.specs.Tables.{lowTable, highTable};
 use super::adding::picked;
 use ed25519_curve::Point;
-use ed25519_field::Fe;
+use ed25519_curve::zero_point;
+use ed25519_scalar::Scalar;
+use ed25519_scalar::bit;
 
 // The multiple of B by the number whose limbs are s, with the tables lent.
-fn times_with<'a>(s: Fe, low: &'a [u32], high: &'a [u32]) -> Point
+fn times_with<'a>(s: Scalar, low: &'a [u32], high: &'a [u32]) -> Point
     requires { ⌜ Each 67108863 s × (now low ≡ lowTable) × (now high ≡ highTable) ⌝ }
     ensures { λ r. ⌜ (ptOf r ≡ pointMul (value radix s) base) × Good r ⌝ }
 {
-    let mut q = ed25519_curve::zero_point();
+    let mut q = zero_point();
     let mut i: usize = 0;
     while i < 256 {
-        let bit = ed25519_residue::bit(s, i);
-        let n = picked(q, low, high, i, bit);
+        let n = picked(q, low, high, i, bit(s, i));
         q = n;
         i += 1;
     }
@@ -27,7 +28,7 @@ fn times_with<'a>(s: Fe, low: &'a [u32], high: &'a [u32]) -> Point
 }
 
 // The multiple of B by the number whose limbs are s.
-pub fn times_base(s: Fe) -> Point
+pub fn times_base(s: Scalar) -> Point
     requires { ⌜ Each 67108863 s ⌝ }
     ensures { λ r. ⌜ (ptOf r ≡ pointMul (value radix s) base) × Good r ⌝ }
 {

@@ -3,6 +3,8 @@ ghost use mathlib.Core.Path.{_≡_};
 ghost use Rattle.ed25519_curve.specs.Coords.{ptOf, Good};
 ghost use Rattle.ed25519_curve.specs.Points.{pointEqual};
 use super::Point;
+use ed25519_field::mul;
+use ed25519_field::same;
 
 pub fn point_equal(a: Point, b: Point) -> bool
     requires { ⌜ Good a × Good b ⌝ }
@@ -14,8 +16,8 @@ pub fn point_equal(a: Point, b: Point) -> bool
     let bx = b.x;
     let by = b.y;
     let bz = b.z;
-    if ed25519_residue::same(ed25519_field::mul(ax, bz), ed25519_field::mul(bx, az)) {
-        return ed25519_residue::same(ed25519_field::mul(ay, bz), ed25519_field::mul(by, az));
+    if same(mul(ax, bz), mul(bx, az)) {
+        return same(mul(ay, bz), mul(by, az));
     }
     false
 }

@@ -4,9 +4,9 @@ mod comparing;
 mod constants;
 mod multiplying;
 
-pub use adding::add;
 pub use adding::add_with;
-pub use adding::double;
+pub use adding::point_add;
+pub use adding::point_double;
 pub use comparing::point_equal;
 pub use constants::zero_point;
 use ed25519_field::Fe;

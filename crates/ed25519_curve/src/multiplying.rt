@@ -7,10 +7,11 @@ ghost use Rattle.ed25519_field.specs.Limbs.{radix};
 ghost use Rattle.ed25519_curve.specs.Coords.{ptOf, Good};
 ghost use Rattle.ed25519_curve.specs.Points.{pointAdd, pointMul};
 use super::Point;
-use super::adding::add;
-use super::adding::double;
+use super::adding::point_add;
+use super::adding::point_double;
 use super::constants::zero_point;
-use ed25519_field::Fe;
+use ed25519_scalar::Scalar;
+use ed25519_scalar::bit;
 
 // q with p added where the bit is 1.
 fn picked(q: Point, p: Point, bit: u64) -> Point
@@ -18,13 +19,13 @@ fn picked(q: Point, p: Point, bit: u64) -> Point
     ensures { λ r. ⌜ (ptOf r ≡ cond (eqb bit 1) (pointAdd (ptOf q) (ptOf p)) (ptOf q)) × Good r ⌝ }
 {
     if bit == 1 {
-        return add(q, p);
+        return point_add(q, p);
     }
     q
 }
 
 // The multiple of b by the number whose limbs are s.
-pub fn times(s: Fe, b: Point) -> Point
+pub fn times(s: Scalar, b: Point) -> Point
     requires { ⌜ Each 67108863 s × Good b ⌝ }
     ensures { λ r. ⌜ (ptOf r ≡ pointMul (value radix s) (ptOf b)) × Good r ⌝ }
 {
@@ -32,10 +33,9 @@ pub fn times(s: Fe, b: Point) -> Point
     let mut q = zero_point();
     let mut i: usize = 0;
     while i < 256 {
-        let bit = ed25519_residue::bit(s, i);
-        let n = picked(q, p, bit);
+        let n = picked(q, p, bit(s, i));
         q = n;
-        let m = double(p);
+        let m = point_double(p);
         p = m;
         i += 1;
     }

@@ -6,20 +6,23 @@ ghost use Rattle.ed25519_curve.specs.Coords.{Good};
 ghost use Rattle.ed25519_point.specs.OfCode.{decodingIn};
 ghost use Rattle.ed25519_point.specs.Decoding.{noPoint, withX, decodeOf};
 use super::Decoded;
-use super::constants::one;
 use super::reading::below_p;
-use super::reading::from_bytes;
 use super::reading::masked;
 use super::recovering::recover_x;
+use digits::bit;
 use ed25519_curve::Point;
+use ed25519_curve::zero_point;
 use ed25519_field::Fe;
+use ed25519_field::from_bytes;
+use ed25519_field::mul;
+use ed25519_field::one;
 
 fn no_point() -> Decoded
     ensures { λ r. ⌜ (decodingIn r ≡ noPoint) × Good (r .point) ⌝ }
 {
     Decoded {
         ok: false,
-        point: ed25519_curve::zero_point(),
+        point: zero_point(),
     }
 }
 
@@ -29,7 +32,7 @@ fn with_x(y: Fe, ok: bool, x: Fe) -> Decoded
     ensures { λ r. ⌜ (decodingIn r ≡ withX (num y) (record { ok = ok; x = num x })) × Good (r .point) ⌝ }
 {
     if ok {
-        let t = ed25519_field::mul(x, y);
+        let t = mul(x, y);
         let z = one();
         return Decoded {
             ok: true,
@@ -45,7 +48,7 @@ pub fn decode(s: &[u8]) -> Decoded
     ensures { λ r. ⌜ (decodingIn r ≡ decodeOf (now (s .entry))) × Good (r .point) ⌝ }
 {
     let m = masked(s);
-    let sign = digits::bit(s, 255);
+    let sign = bit(s, 255);
     if below_p(m) {
         let y = from_bytes(&m);
         let f = recover_x(y, sign);

@@ -6,11 +6,17 @@ ghost use Rattle.ed25519_point.specs.OfCode.{rootIn};
 ghost use Rattle.ed25519_point.specs.Decoding.{signedOf, recoverX};
 use super::Found;
 use super::constants::curve_d;
-use super::constants::one;
-use super::constants::zero;
-use super::roots::minus;
 use super::roots::root;
 use ed25519_field::Fe;
+use ed25519_field::add;
+use ed25519_field::minus;
+use ed25519_field::mul;
+use ed25519_field::odd;
+use ed25519_field::one;
+use ed25519_field::same;
+use ed25519_field::sub;
+use ed25519_field::tidy;
+use ed25519_field::zero;
 
 // The one of the two roots whose lowest bit is the sign.
 fn signed(sign: u64, x: Fe) -> Found
@@ -18,13 +24,13 @@ fn signed(sign: u64, x: Fe) -> Found
     ensures { λ r. ⌜ (rootIn r ≡ signedOf sign (num x)) × Limbs 1 (r .x) ⌝ }
 {
     let z = zero();
-    if ed25519_residue::same(x, z) {
+    if same(x, z) {
         if sign == 0 {
             return Found { ok: true, x };
         }
         return Found { ok: false, x: z };
     }
-    if ed25519_residue::odd(x) == sign {
+    if odd(x) == sign {
         return Found { ok: true, x };
     }
     let m = minus(x);
@@ -35,9 +41,9 @@ pub fn recover_x(y: Fe, sign: u64) -> Found
     requires { ⌜ Limbs 1 y × (sign < 2) ⌝ }
     ensures { λ r. ⌜ (rootIn r ≡ recoverX (num y) sign) × Limbs 1 (r .x) ⌝ }
 {
-    let q = ed25519_field::mul(y, y);
-    let u = ed25519_field::tidy(ed25519_field::sub(q, one()));
-    let v = ed25519_field::tidy(ed25519_field::add(ed25519_field::mul(curve_d(), q), one()));
+    let q = mul(y, y);
+    let u = tidy(sub(q, one()));
+    let v = tidy(add(mul(curve_d(), q), one()));
     let f = root(u, v);
     if f.ok {
         let x = f.x;

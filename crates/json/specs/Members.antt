@@ -1,4 +1,5 @@
 -- The members of an object, by name (RFC 8259, sections 4 and 8.3): names are compared after unescaping.
+use Prim.Native.Char.{code}
 use Prim.Native.Nat.{ℕ, zero, suc, _+_}
 use mathlib.Core.Bool.{Bool, true, false}
 use mathlib.Core.List.{List, [], _∷_}
@@ -17,12 +18,12 @@ use Rattle.json.specs.Value.{valueAt, memberStep}
 -- the places of the members of the object at a place, where its values are nested at most d deep
 unfoldable pub membersOf : List ℕ → ℕ → ℕ → List ℕ
 membersOf s d at =
-    pick (eqb (getD s (pastBlanks s (at + 1)) 0) 125) []
+    pick (eqb (getD s (pastBlanks s (at + 1)) 0) (code "}")) []
     (starts (suc (length s)) (memberStep s (valueAt s d)) (pastBlanks s (at + 1)))
 
 -- the member at a place has the name w
 unfoldable pub named : List ℕ → List ℕ → ℕ → Bool
-named s w k = pick (eqb (getD s k 0) 34) (sameList (contentAt s (k + 1)) w) false
+named s w k = pick (eqb (getD s k 0) (code "\"")) (sameList (contentAt s (k + 1)) w) false
 
 -- the place of its value
 unfoldable pub placeOf : Skip → ℕ

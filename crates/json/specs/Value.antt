@@ -1,4 +1,5 @@
 -- value = false / null / true / object / array / number / string (RFC 8259, sections 2 to 5), nested at most so deep.
+use Prim.Native.Char.{code}
 use Prim.Native.Nat.{ℕ, zero, suc, _+_}
 use mathlib.Core.Bool.{Bool, true, false}
 use mathlib.Core.List.{List, [], _∷_}
@@ -8,6 +9,7 @@ use Rattle.json_tokens.specs.declared.Skip.{Skip}
 use Rattle.json_tokens.specs.declared.Skip.the-variants.{Past, Bad}
 use Rattle.json_tokens.specs.declared.Step.{Step}
 use Rattle.json_tokens.specs.declared.Step.the-variants.{More, End, Wrong}
+use Rattle.laws.specs.Ascii.{ascii}
 use Rattle.laws.specs.Pick.{pick}
 use Rattle.json_tokens.specs.Scan.{then, thenStep, startsWith, pastBlanks, after, pastColon}
 use Rattle.json_tokens.specs.Walk.{walked}
@@ -20,35 +22,35 @@ literalAt w s at = pick (startsWith w (drop at s)) (Past (at + length w)) Bad
 -- a value that holds no other: string, true, false, null, number
 unfoldable pub plainAt : List ℕ → ℕ → Skip
 plainAt s at =
-    pick (eqb (getD s at 0) 34) (stringAt s at)
-    (pick (eqb (getD s at 0) 116) (literalAt (116 ∷ 114 ∷ 117 ∷ 101 ∷ []) s at)
-    (pick (eqb (getD s at 0) 102) (literalAt (102 ∷ 97 ∷ 108 ∷ 115 ∷ 101 ∷ []) s at)
-    (pick (eqb (getD s at 0) 110) (literalAt (110 ∷ 117 ∷ 108 ∷ 108 ∷ []) s at)
+    pick (eqb (getD s at 0) (code "\"")) (stringAt s at)
+    (pick (eqb (getD s at 0) (code "t")) (literalAt (ascii "true") s at)
+    (pick (eqb (getD s at 0) (code "f")) (literalAt (ascii "false") s at)
+    (pick (eqb (getD s at 0) (code "n")) (literalAt (ascii "null") s at)
     (numberAt s at))))
 
 -- A turn of an array, a value with what follows it; p reads a value.
 unfoldable pub itemStep : List ℕ → (ℕ → Skip) → ℕ → Step
-itemStep s p k = thenStep (p k) (after s 93)
+itemStep s p k = thenStep (p k) (after s (code "]"))
 
 -- A turn of an object: member = string name-separator value, with what follows it.
 unfoldable pub memberStep : List ℕ → (ℕ → Skip) → ℕ → Step
-memberStep s p k = thenStep (stringAt s k) (λ e. thenStep (pastColon s e) (λ v. thenStep (p v) (after s 125)))
+memberStep s p k = thenStep (stringAt s k) (λ e. thenStep (pastColon s e) (λ v. thenStep (p v) (after s (code "}"))))
 
 -- array = begin-array [ value *( value-separator value ) ] end-array, at its bracket
 unfoldable pub arrayOf : List ℕ → (ℕ → Skip) → ℕ → Skip
 arrayOf s p at =
-    pick (eqb (getD s (pastBlanks s (at + 1)) 0) 93) (Past (pastBlanks s (at + 1) + 1))
+    pick (eqb (getD s (pastBlanks s (at + 1)) 0) (code "]")) (Past (pastBlanks s (at + 1) + 1))
     (walked (length s) (itemStep s p) (pastBlanks s (at + 1)))
 
 -- object = begin-object [ member *( value-separator member ) ] end-object, at its brace
 unfoldable pub objectOf : List ℕ → (ℕ → Skip) → ℕ → Skip
 objectOf s p at =
-    pick (eqb (getD s (pastBlanks s (at + 1)) 0) 125) (Past (pastBlanks s (at + 1) + 1))
+    pick (eqb (getD s (pastBlanks s (at + 1)) 0) (code "}")) (Past (pastBlanks s (at + 1) + 1))
     (walked (length s) (memberStep s p) (pastBlanks s (at + 1)))
 
 -- a value, where o reads an object and a an array
 unfoldable pub valueBy : (ℕ → Skip) → (ℕ → Skip) → List ℕ → ℕ → Skip
-valueBy o a s at = pick (eqb (getD s at 0) 123) (o at) (pick (eqb (getD s at 0) 91) (a at) (plainAt s at))
+valueBy o a s at = pick (eqb (getD s at 0) (code "{")) (o at) (pick (eqb (getD s at 0) (code "[")) (a at) (plainAt s at))
 
 -- a value with at most d brackets around anything in it
 unfoldable pub valueAt : List ℕ → ℕ → ℕ → Skip
@@ -68,6 +70,10 @@ unfoldable pub endsAt : List ℕ → Skip → Bool
 endsAt s (Past e) = eqb (pastBlanks s e) (length s)
 endsAt s Bad = false
 
--- JSON-text = ws value ws, nested at most 16 deep, the outermost counted
+-- values may nest in objects and in arrays so deep, the outermost counted (request P7)
+abbrev pub deepest : ℕ
+deepest = 16
+
+-- JSON-text = ws value ws
 unfoldable pub isText : List ℕ → Bool
-isText s = endsAt s (valueAt s 16 (pastBlanks s 0))
+isText s = endsAt s (valueAt s deepest (pastBlanks s 0))

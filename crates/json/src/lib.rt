@@ -8,6 +8,9 @@ pub use values::is_text;
 pub use values::item;
 pub use values::value;
 
+// How deep values may nest in objects and in arrays, the outermost counted (request P7).
+pub const DEPTH: usize = 16;
+
 // How often an object has a member of a name: once, with the place of its value; never; more than once.
 pub enum Found {
     At(usize),

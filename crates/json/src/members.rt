@@ -18,7 +18,7 @@ fn is_named(s: &[u8], k: usize, w: &[u8]) -> bool
     ensures { λ r. ⌜ r ≡ named (now (s .entry)) (now (w .entry)) k ⌝ }
 {
     let b = byte(s, k);
-    if b == 34 { holds(s, k + 1, w) } else { false }
+    if b == b'"' { holds(s, k + 1, w) } else { false }
 }
 
 fn value_place(s: &[u8], k: usize) -> usize
@@ -63,7 +63,7 @@ pub fn find(s: &[u8], at: usize, depth: usize, w: &[u8]) -> Found
 {
     let first = blanks(s, at + 1);
     let b = byte(s, first);
-    if b == 125 {
+    if b == b'}' {
         return Found::Nothing;
     }
     let mut k = first;

@@ -4,6 +4,7 @@ ghost use Prim.Native.Nat.{_+_, _≤_, _<_};
 ghost use lib.ListN.{length};
 ghost use Rattle.json_tokens.specs.Scan.{startsWith};
 ghost use Rattle.json.specs.Value.{literalAt, plainAt, valueAt, arrayAt, objectAt, itemStep, memberStep, isText};
+use super::DEPTH;
 use json_strings::string;
 use json_tokens::Skip;
 use json_tokens::Step;
@@ -46,16 +47,16 @@ fn plain(s: &[u8], at: usize) -> Skip
     ensures { λ r. ⌜ r ≡ plainAt (now (s .entry)) at ⌝ }
 {
     let b = byte(s, at);
-    if b == 34 {
+    if b == b'"' {
         return string(s, at);
     }
-    if b == 116 {
+    if b == b't' {
         return literal(s, at, b"true");
     }
-    if b == 102 {
+    if b == b'f' {
         return literal(s, at, b"false");
     }
-    if b == 110 {
+    if b == b'n' {
         literal(s, at, b"null")
     } else {
         number(s, at)
@@ -67,10 +68,10 @@ pub fn value(s: &[u8], at: usize, depth: usize) -> Skip
     ensures { λ r. ⌜ r ≡ valueAt (now (s .entry)) depth at ⌝ }
 {
     let b = byte(s, at);
-    if b == 123 {
+    if b == b'{' {
         return object(s, at, depth);
     }
-    if b == 91 {
+    if b == b'[' {
         array(s, at, depth)
     } else {
         plain(s, at)
@@ -84,7 +85,7 @@ pub fn item(s: &[u8], at: usize, depth: usize) -> Step
     let Skip::Past(e) = value(s, at, depth) else {
         return Step::Wrong;
     };
-    after_item(s, e, 93)
+    after_item(s, e, b']')
 }
 
 // An array, at its bracket.
@@ -97,7 +98,7 @@ fn array(s: &[u8], at: usize, depth: usize) -> Skip
     }
     let first = blanks(s, at + 1);
     let b = byte(s, first);
-    if b == 93 {
+    if b == b']' {
         return Skip::Past(first + 1);
     }
     let mut k = first;
@@ -129,7 +130,7 @@ pub fn member(s: &[u8], at: usize, depth: usize) -> Step
     let Skip::Past(f) = value(s, v, depth) else {
         return Step::Wrong;
     };
-    after_item(s, f, 125)
+    after_item(s, f, b'}')
 }
 
 // An object, at its brace.
@@ -142,7 +143,7 @@ fn object(s: &[u8], at: usize, depth: usize) -> Skip
     }
     let first = blanks(s, at + 1);
     let b = byte(s, first);
-    if b == 125 {
+    if b == b'}' {
         return Skip::Past(first + 1);
     }
     let mut k = first;
@@ -161,11 +162,11 @@ fn object(s: &[u8], at: usize, depth: usize) -> Skip
     }
 }
 
-// The bytes are a JSON text, nested at most 16 deep.
+// The bytes are a JSON text, nested no deeper than is allowed.
 pub fn is_text(s: &[u8]) -> bool
     ensures { λ r. ⌜ r ≡ isText (now (s .entry)) ⌝ }
 {
-    let Skip::Past(e) = value(s, blanks(s, 0), 16) else {
+    let Skip::Past(e) = value(s, blanks(s, 0), DEPTH) else {
         return false;
     };
     blanks(s, e) == s.len()

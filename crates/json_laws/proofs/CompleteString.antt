@@ -4,7 +4,7 @@ use mathlib.Core.Path.{_≡_, refl, sym, _∙_}
 use mathlib.Core.Bool.{true, false}
 use mathlib.Core.List.{List, [], _∷_, _++_, append-assoc}
 use native.Mathlib.Omega.{arith}
-use borrow.Author.Tests.{eqb-true, ne-eqb, le-leb, lt-ltb, le-ltb}
+use borrow.Author.Tests.{eqb-true, ne-eqb, le-leb, lt-leb, lt-ltb, le-ltb}
 use lib.Dec.{eqb}
 use lib.ListN.{length, getD}
 use Rattle.laws.specs.Pick.{pick, both}
@@ -35,20 +35,19 @@ data Hex : List ℕ → Type 0 where
 hex-is : {x : List ℕ} → Abnf.HEXDIG x → Hex x
 unfolding nibbleOf pick Abnf.HEXDIG Abnf.DIGIT
 hex-is (left (within {b = b} l h)) =
-    hex {b = b} (rw (le-ltb b 48 l, lt-ltb b 58 (omega arith)) (ne-eqb (b - 48) 16 (λ e. omega arith)))
+    hex {b = b} (rw (le-ltb b 48 l, le-leb b 57 h) (ne-eqb (b - 48) 16 (λ e. omega arith)))
 hex-is (right (left (within {b = b} l h))) =
-    hex {b = b} (rw (le-ltb b 48 (omega arith), le-ltb b 58 (omega arith), le-ltb b 65 l, lt-ltb b 71 (omega arith))
-    (ne-eqb (b - 55) 16 (λ e. omega arith)))
+    hex {b = b} (rw (le-ltb b 48 (omega arith), lt-leb b 57 (omega arith), le-ltb b 65 l, le-leb b 70 h)
+    (ne-eqb (b - 65 + 10) 16 (λ e. omega arith)))
 hex-is (right (right (within {b = b} l h))) =
     hex {b = b} (rw (
       le-ltb b 48 (omega arith),
-      le-ltb b 58 (omega arith),
+      lt-leb b 57 (omega arith),
       le-ltb b 65 (omega arith),
-      le-ltb b 71
-          (omega arith),
+      lt-leb b 70 (omega arith),
       le-ltb b 97 l,
-      lt-ltb b 103 (omega arith),
-    ) (ne-eqb (b - 87) 16 (λ e. omega arith)))
+      le-leb b 102 h,
+    ) (ne-eqb (b - 97 + 10) 16 (λ e. omega arith)))
 
 -- ---- The second byte of a character.
 least-le : (b c : ℕ) → 128 ≤ c → (b ≡ 224 → 160 ≤ c) → (b ≡ 240 → 144 ≤ c) → leastSecond b ≤ c

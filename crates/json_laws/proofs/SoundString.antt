@@ -5,7 +5,7 @@ use mathlib.Core.Bool.{Bool, true, false}
 use mathlib.Core.List.{List, [], _∷_, _++_, append-assoc}
 use native.Mathlib.Omega.{arith, by-contra}
 use borrow.Author.Tests.{eqb-true, eqb-false, leb-true, ltb-true, ltb-false}
-use lib.Dec.{eqb, ltb}
+use lib.Dec.{eqb, leb, ltb}
 use lib.ListN.{length, getD}
 use Rattle.laws.specs.Pick.{pick}
 use Rattle.json_strings.specs.declared.Unit.{Unit}
@@ -52,19 +52,19 @@ Given m A n = (n ≡ m → ⊥) → A
 is-escape : (b : ℕ) → (escapeOf b ≡ 0 → ⊥) → Escaped (b ∷ [])
 unfolding escapeOf
 is-escape b =
-    of-pick-cases (Given 0 (Escaped (b ∷ []))) (eqb b 34) (λ t h. left (octet-is (eqb-true _ _ t)))
-    (λ t. of-pick-cases (Given 0 (Escaped (b ∷ []))) (eqb b 92) (λ t h. right (left (octet-is (eqb-true _ _ t))))
-    (λ t. of-pick-cases (Given 0 (Escaped (b ∷ []))) (eqb b 47)
+    of-pick-cases (Given 0 (Escaped (b ∷ []))) (eqb b 0x22) (λ t h. left (octet-is (eqb-true _ _ t)))
+    (λ t. of-pick-cases (Given 0 (Escaped (b ∷ []))) (eqb b 0x5C) (λ t h. right (left (octet-is (eqb-true _ _ t))))
+    (λ t. of-pick-cases (Given 0 (Escaped (b ∷ []))) (eqb b 0x2F)
     (λ t h. right (right (left (octet-is (eqb-true _ _ t)))))
-    (λ t. of-pick-cases (Given 0 (Escaped (b ∷ []))) (eqb b 98)
+    (λ t. of-pick-cases (Given 0 (Escaped (b ∷ []))) (eqb b 0x62)
     (λ t h. right (right (right (left (octet-is (eqb-true _ _ t))))))
-    (λ t. of-pick-cases (Given 0 (Escaped (b ∷ []))) (eqb b 102)
+    (λ t. of-pick-cases (Given 0 (Escaped (b ∷ []))) (eqb b 0x66)
     (λ t h. right (right (right (right (left (octet-is (eqb-true _ _ t)))))))
-    (λ t. of-pick-cases (Given 0 (Escaped (b ∷ []))) (eqb b 110)
+    (λ t. of-pick-cases (Given 0 (Escaped (b ∷ []))) (eqb b 0x6E)
     (λ t h. right (right (right (right (right (left (octet-is (eqb-true _ _ t))))))))
-    (λ t. of-pick-cases (Given 0 (Escaped (b ∷ []))) (eqb b 114)
+    (λ t. of-pick-cases (Given 0 (Escaped (b ∷ []))) (eqb b 0x72)
     (λ t h. right (right (right (right (right (right (left (octet-is (eqb-true _ _ t)))))))))
-    (λ t. of-pick-cases (Given 0 (Escaped (b ∷ []))) (eqb b 116)
+    (λ t. of-pick-cases (Given 0 (Escaped (b ∷ []))) (eqb b 0x74)
     (λ t h. right (right (right (right (right (right (right (left (octet-is (eqb-true _ _ t))))))))))
     (λ t h. absurd (h refl)))))))))
 
@@ -75,15 +75,15 @@ escape-none = refl
 is-hex : (b : ℕ) → (nibbleOf b ≡ 16 → ⊥) → Abnf.HEXDIG (b ∷ [])
 unfolding nibbleOf Abnf.HEXDIG Abnf.DIGIT
 is-hex b =
-    of-pick-cases (Given 16 (Abnf.HEXDIG (b ∷ []))) (ltb b 48) (λ t h. absurd (h refl))
-    (λ t. of-pick-cases (Given 16 (Abnf.HEXDIG (b ∷ []))) (ltb b 58)
-    (λ u h. left (within (ltb-false _ _ t) (omega (arith, ltb-true b 58 u))))
-    (λ t. of-pick-cases (Given 16 (Abnf.HEXDIG (b ∷ []))) (ltb b 65) (λ u h. absurd (h refl))
-    (λ t. of-pick-cases (Given 16 (Abnf.HEXDIG (b ∷ []))) (ltb b 71)
-    (λ u h. right (left (within (ltb-false _ _ t) (omega (arith, ltb-true b 71 u)))))
-    (λ t. of-pick-cases (Given 16 (Abnf.HEXDIG (b ∷ []))) (ltb b 97) (λ u h. absurd (h refl))
-    (λ t. of-pick-cases (Given 16 (Abnf.HEXDIG (b ∷ []))) (ltb b 103)
-    (λ u h. right (right (within (ltb-false _ _ t) (omega (arith, ltb-true b 103 u)))))
+    of-pick-cases (Given 16 (Abnf.HEXDIG (b ∷ []))) (ltb b 0x30) (λ t h. absurd (h refl))
+    (λ t. of-pick-cases (Given 16 (Abnf.HEXDIG (b ∷ []))) (leb b 0x39)
+    (λ u h. left (within (ltb-false _ _ t) (leb-true _ _ u)))
+    (λ t. of-pick-cases (Given 16 (Abnf.HEXDIG (b ∷ []))) (ltb b 0x41) (λ u h. absurd (h refl))
+    (λ t. of-pick-cases (Given 16 (Abnf.HEXDIG (b ∷ []))) (leb b 0x46)
+    (λ u h. right (left (within (ltb-false _ _ t) (leb-true _ _ u))))
+    (λ t. of-pick-cases (Given 16 (Abnf.HEXDIG (b ∷ []))) (ltb b 0x61) (λ u h. absurd (h refl))
+    (λ t. of-pick-cases (Given 16 (Abnf.HEXDIG (b ∷ []))) (leb b 0x66)
+    (λ u h. right (right (within (ltb-false _ _ t) (leb-true _ _ u))))
     (λ t h. absurd (h refl)))))))
 
 hex-over : (b : ℕ) → Abnf.HEXDIG (b ∷ []) → 0 < b

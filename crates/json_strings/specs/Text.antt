@@ -1,5 +1,6 @@
 -- string = quotation-mark *char quotation-mark (RFC 8259, section 7). The text is UTF-8 (section 8.1): a byte sequence
 -- that RFC 3629 does not allow is no character.
+use Prim.Native.Char.{code}
 use Prim.Native.Nat.{ℕ, zero, suc, _+_, _*_, _-_, _%_}
 use mathlib.Core.Bool.{Bool, true, false, not, _&&_}
 use mathlib.Core.List.{List, [], _∷_, _++_}
@@ -14,17 +15,19 @@ use Rattle.json_strings.specs.declared.Unit.the-variants.{Code, Close, I
 use Rattle.laws.specs.Pick.{pick, either, both}
 use Rattle.json_tokens.specs.Walk.{walked, starts}
 
--- what \" \\ \/ \b \f \n \r \t stand for; 0 for any other letter
+-- what \" \\ \/ \b \f \n \r \t stand for, by their numbers in section 7's table; 0 for any other letter
 unfoldable pub escapeOf : ℕ → ℕ
 escapeOf b =
-    pick (eqb b 34) 34 (pick (eqb b 92) 92 (pick (eqb b 47) 47 (pick (eqb b 98) 8
-    (pick (eqb b 102) 12 (pick (eqb b 110) 10 (pick (eqb b 114) 13 (pick (eqb b 116) 9 0)))))))
+    pick (eqb b (code "\"")) 0x22 (pick (eqb b (code "\\")) 0x5C (pick (eqb b (code "/")) 0x2F
+    (pick (eqb b (code "b")) 0x08 (pick (eqb b (code "f")) 0x0C (pick (eqb b (code "n")) 0x0A
+    (pick (eqb b (code "r")) 0x0D (pick (eqb b (code "t")) 0x09 0)))))))
 
 -- HEXDIG, in either case; 16 for any other letter
 unfoldable pub nibbleOf : ℕ → ℕ
 nibbleOf b =
-    pick (ltb b 48) 16 (pick (ltb b 58) (b - 48) (pick (ltb b 65) 16 (pick (ltb b 71) (b - 55)
-    (pick (ltb b 97) 16 (pick (ltb b 103) (b - 87) 16)))))
+    pick (ltb b (code "0")) 16 (pick (leb b (code "9")) (b - code "0")
+    (pick (ltb b (code "A")) 16 (pick (leb b (code "F")) (b - code "A" + 10)
+    (pick (ltb b (code "a")) 16 (pick (leb b (code "f")) (b - code "a" + 10) 16)))))
 
 unfoldable pub nibbleAt : List ℕ → ℕ → ℕ
 nibbleAt s at = nibbleOf (getD s at 0)
@@ -40,23 +43,23 @@ hexAt s at =
 -- what follows a backslash
 unfoldable pub escapeAt : List ℕ → ℕ → Unit
 escapeAt s at =
-    pick (eqb (getD s at 0) 117) (hexAt s (at + 1))
+    pick (eqb (getD s at 0) (code "u")) (hexAt s (at + 1))
     (pick (eqb (escapeOf (getD s at 0)) 0) Ill (Code (escapeOf (getD s at 0)) (at + 1)))
 
 -- RFC 3629, section 4. The second byte of a character: mostly UTF8-tail = %x80-BF, and less after four of the first
 -- bytes
 unfoldable pub leastSecond : ℕ → ℕ
-leastSecond b = pick (eqb b 224) 160 (pick (eqb b 240) 144 128)
+leastSecond b = pick (eqb b 0xE0) 0xA0 (pick (eqb b 0xF0) 0x90 0x80)
 
 unfoldable pub mostSecond : ℕ → ℕ
-mostSecond b = pick (eqb b 237) 159 (pick (eqb b 244) 143 191)
+mostSecond b = pick (eqb b 0xED) 0x9F (pick (eqb b 0xF4) 0x8F 0xBF)
 
 unfoldable pub secondAt : List ℕ → ℕ → Bool
 secondAt s at =
     both (leb (leastSecond (getD s at 0)) (getD s (at + 1) 0)) (leb (getD s (at + 1) 0) (mostSecond (getD s at 0)))
 
 unfoldable pub tailAt : List ℕ → ℕ → Bool
-tailAt s at = both (leb 128 (getD s at 0)) (leb (getD s at 0) 191)
+tailAt s at = both (leb 0x80 (getD s at 0)) (leb (getD s at 0) 0xBF)
 
 -- RFC 3629, section 3: each byte behind the first, 10xxxxxx, has six bits more of the character's number
 unfoldable pub moreBits : ℕ → ℕ → ℕ
@@ -78,26 +81,26 @@ fourAt s at =
 -- UTF8-3 (first byte E0-EF), UTF8-4 (F0-F4), past the second byte
 unfoldable pub longAt : List ℕ → ℕ → Unit
 longAt s at =
-    pick (tailAt s (at + 2)) (pick (ltb (getD s at 0) 240) (Code (threeAt s at) (at + 3))
-    (pick (tailAt s (at + 3)) (pick (ltb (getD s at 0) 245) (Code (fourAt s at) (at + 4)) Ill) Ill)) Ill
+    pick (tailAt s (at + 2)) (pick (ltb (getD s at 0) 0xF0) (Code (threeAt s at) (at + 3))
+    (pick (tailAt s (at + 3)) (pick (ltb (getD s at 0) 0xF5) (Code (fourAt s at) (at + 4)) Ill) Ill)) Ill
 
 -- UTF8-2 (first byte C2-DF), or longer
 unfoldable pub wideAt : List ℕ → ℕ → Unit
 wideAt s at =
-    pick (ltb (getD s at 0) 194) Ill
-    (pick (secondAt s at) (pick (ltb (getD s at 0) 224) (Code (twoAt s at) (at + 2)) (longAt s at)) Ill)
+    pick (ltb (getD s at 0) 0xC2) Ill
+    (pick (secondAt s at) (pick (ltb (getD s at 0) 0xE0) (Code (twoAt s at) (at + 2)) (longAt s at)) Ill)
 
 -- one character of a string, or the closing quote
 unfoldable pub unitAt : List ℕ → ℕ → Unit
 unitAt s at =
-    pick (eqb (getD s at 0) 34) (Close (at + 1))
-    (pick (eqb (getD s at 0) 92) (escapeAt s (at + 1))
-    (pick (ltb (getD s at 0) 32) Ill
-    (pick (ltb (getD s at 0) 128) (Code (getD s at 0) (at + 1)) (wideAt s at))))
+    pick (eqb (getD s at 0) (code "\"")) (Close (at + 1))
+    (pick (eqb (getD s at 0) (code "\\")) (escapeAt s (at + 1))
+    (pick (ltb (getD s at 0) 0x20) Ill
+    (pick (ltb (getD s at 0) 0x80) (Code (getD s at 0) (at + 1)) (wideAt s at))))
 
 -- unescaped = %x20-21 / %x23-5B / %x5D-10FFFF, where that is one byte: a character that stands for itself
 unfoldable pub unescaped : ℕ → Bool
-unescaped b = ((not (eqb b 34) && not (eqb b 92)) && not (ltb b 32)) && ltb b 128
+unescaped b = ((not (eqb b (code "\"")) && not (eqb b (code "\\"))) && not (ltb b 0x20)) && ltb b 0x80
 
 abbrev pub stepOf : Unit → Step
 stepOf (Code c k) = More k
@@ -110,7 +113,7 @@ unitStep s at = stepOf (unitAt s at)
 
 -- a whole string, at its opening quote
 unfoldable pub stringAt : List ℕ → ℕ → Skip
-stringAt s at = pick (eqb (getD s at 0) 34) (walked (length s) (unitStep s) (at + 1)) Bad
+stringAt s at = pick (eqb (getD s at 0) (code "\"")) (walked (length s) (unitStep s) (at + 1)) Bad
 
 -- a character's number
 abbrev pub codesOf : Unit → List ℕ

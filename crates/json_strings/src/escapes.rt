@@ -7,33 +7,33 @@ ghost use Rattle.json_strings.specs.Text.{escapeOf, nibbleOf, nibbleAt, 
 use super::Unit;
 use json_tokens::byte;
 
-// What the letter after a backslash stands for, 0 for none.
+// The number of the character that the letter after a backslash stands for, 0 for none.
 fn escape_of(b: u8) -> u32
     ensures { λ r. ⌜ r ≡ escapeOf b ⌝ }
 {
-    if b == 34 {
-        return 34;
+    if b == b'"' {
+        return 0x22;
     }
-    if b == 92 {
-        return 92;
+    if b == b'\\' {
+        return 0x5C;
     }
-    if b == 47 {
-        return 47;
+    if b == b'/' {
+        return 0x2F;
     }
-    if b == 98 {
-        return 8;
+    if b == b'b' {
+        return 0x08;
     }
-    if b == 102 {
-        return 12;
+    if b == b'f' {
+        return 0x0C;
     }
-    if b == 110 {
-        return 10;
+    if b == b'n' {
+        return 0x0A;
     }
-    if b == 114 {
-        return 13;
+    if b == b'r' {
+        return 0x0D;
     }
-    if b == 116 {
-        return 9;
+    if b == b't' {
+        return 0x09;
     }
     0
 }
@@ -42,24 +42,23 @@ fn escape_of(b: u8) -> u32
 fn nibble_of(b: u8) -> u32
     ensures { λ r. ⌜ (r ≡ nibbleOf b) × (r ≤ 16) ⌝ }
 {
-    let n = b as u32;
-    if n < 48 {
+    if b < b'0' {
         return 16;
     }
-    if n < 58 {
-        return n - 48;
+    if b <= b'9' {
+        return (b - b'0') as u32;
     }
-    if n < 65 {
+    if b < b'A' {
         return 16;
     }
-    if n < 71 {
-        return n - 55;
+    if b <= b'F' {
+        return (b - b'A') as u32 + 10;
     }
-    if n < 97 {
+    if b < b'a' {
         return 16;
     }
-    if n < 103 {
-        return n - 87;
+    if b <= b'f' {
+        return (b - b'a') as u32 + 10;
     }
     16
 }
@@ -98,7 +97,7 @@ pub fn escape(s: &[u8], at: usize) -> Unit
     ensures { λ r. ⌜ r ≡ escapeAt (now (s .entry)) at ⌝ }
 {
     let b = byte(s, at);
-    if b == 117 {
+    if b == b'u' {
         return hex(s, at + 1);
     }
     let e = escape_of(b);

@@ -10,19 +10,19 @@ use json_tokens::byte;
 fn least_second(b: u8) -> u8
     ensures { λ r. ⌜ r ≡ leastSecond b ⌝ }
 {
-    if b == 224 {
-        return 160;
+    if b == 0xE0 {
+        return 0xA0;
     }
-    if b == 240 { 144 } else { 128 }
+    if b == 0xF0 { 0x90 } else { 0x80 }
 }
 
 fn most_second(b: u8) -> u8
     ensures { λ r. ⌜ r ≡ mostSecond b ⌝ }
 {
-    if b == 237 {
-        return 159;
+    if b == 0xED {
+        return 0x9F;
     }
-    if b == 244 { 143 } else { 191 }
+    if b == 0xF4 { 0x8F } else { 0xBF }
 }
 
 fn second_at(s: &[u8], at: usize) -> bool
@@ -41,10 +41,10 @@ fn tail_at(s: &[u8], at: usize) -> bool
     ensures { λ r. ⌜ r ≡ tailAt (now (s .entry)) at ⌝ }
 {
     let b = byte(s, at);
-    if b < 128 {
+    if b < 0x80 {
         return false;
     }
-    b <= 191
+    b <= 0xBF
 }
 
 // A number and the six bits of one byte more.
@@ -88,13 +88,13 @@ fn long(s: &[u8], at: usize) -> Unit
     if !tail_at(s, at + 2) {
         return Unit::Ill;
     }
-    if a < 240 {
+    if a < 0xF0 {
         return Unit::Code(three(s, at), at + 3);
     }
     if !tail_at(s, at + 3) {
         return Unit::Ill;
     }
-    if a < 245 {
+    if a < 0xF5 {
         Unit::Code(four(s, at), at + 4)
     } else {
         Unit::Ill
@@ -106,13 +106,13 @@ pub fn wide(s: &[u8], at: usize) -> Unit
     ensures { λ r. ⌜ r ≡ wideAt (now (s .entry)) at ⌝ }
 {
     let a = byte(s, at);
-    if a < 194 {
+    if a < 0xC2 {
         return Unit::Ill;
     }
     if !second_at(s, at) {
         return Unit::Ill;
     }
-    if a < 224 {
+    if a < 0xE0 {
         Unit::Code(two(s, at), at + 2)
     } else {
         long(s, at)

@@ -17,16 +17,16 @@ pub fn unit_of(s: &[u8], at: usize) -> Unit
     ensures { λ r. ⌜ r ≡ unitAt (now (s .entry)) at ⌝ }
 {
     let b = byte(s, at);
-    if b == 34 {
+    if b == b'"' {
         return Unit::Close(at + 1);
     }
-    if b == 92 {
+    if b == b'\\' {
         return escape(s, at + 1);
     }
-    if b < 32 {
+    if b < 0x20 {
         return Unit::Ill;
     }
-    if b < 128 {
+    if b < 0x80 {
         Unit::Code(b as u32, at + 1)
     } else {
         wide(s, at)
@@ -62,7 +62,7 @@ pub fn string(s: &[u8], at: usize) -> Skip
     ensures { λ r. ⌜ r ≡ stringAt (now (s .entry)) at ⌝ }
 {
     let b = byte(s, at);
-    if b != 34 {
+    if b != b'"' {
         return Skip::Bad;
     }
     let mut k = at + 1;

@@ -12,7 +12,7 @@ use json_tokens::byte;
 fn is_unescaped(b: u8) -> bool
     ensures { λ r. ⌜ r ≡ unescaped b ⌝ }
 {
-    (b != 34) & (b != 92) & !(b < 32) & (b < 128)
+    (b != b'"') & (b != b'\\') & !(b < 0x20) & (b < 0x80)
 }
 
 // 1 for such a character, 0 for any other byte.

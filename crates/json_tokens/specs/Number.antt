@@ -1,4 +1,5 @@
 -- number = [ minus ] int [ frac ] [ exp ] (RFC 8259, section 6). A reader takes as many digits as there are.
+use Prim.Native.Char.{code}
 use Prim.Native.Nat.{ℕ, _+_}
 use mathlib.Core.List.{List}
 use lib.Dec.{eqb}
@@ -14,19 +15,19 @@ someDigits s at = pick (eqb (pastWhile digit s at) at) Bad (Past (pastWhile digi
 
 -- [ minus ]
 unfoldable pub pastMinus : List ℕ → ℕ → ℕ
-pastMinus s at = pick (eqb (getD s at 0) 45) (at + 1) at
+pastMinus s at = pick (eqb (getD s at 0) (code "-")) (at + 1) at
 
 -- [ minus / plus ]
 unfoldable pub pastSign : List ℕ → ℕ → ℕ
-pastSign s at = pick (either (eqb (getD s at 0) 43) (eqb (getD s at 0) 45)) (at + 1) at
+pastSign s at = pick (either (eqb (getD s at 0) (code "+")) (eqb (getD s at 0) (code "-"))) (at + 1) at
 
 -- int = zero / ( digit1-9 *DIGIT )
 unfoldable pub wholeAt : List ℕ → ℕ → Skip
-wholeAt s at = pick (eqb (getD s at 0) 48) (Past (at + 1)) (someDigits s at)
+wholeAt s at = pick (eqb (getD s at 0) (code "0")) (Past (at + 1)) (someDigits s at)
 
 -- [ frac ], frac = decimal-point 1*DIGIT
 unfoldable pub fractionAt : List ℕ → ℕ → Skip
-fractionAt s at = pick (eqb (getD s at 0) 46) (someDigits s (at + 1)) (Past at)
+fractionAt s at = pick (eqb (getD s at 0) (code ".")) (someDigits s (at + 1)) (Past at)
 
 -- [ minus / plus ] 1*DIGIT
 unfoldable pub signedAt : List ℕ → ℕ → Skip
@@ -34,7 +35,7 @@ signedAt s at = someDigits s (pastSign s at)
 
 -- [ exp ], exp = e [ minus / plus ] 1*DIGIT
 unfoldable pub exponentAt : List ℕ → ℕ → Skip
-exponentAt s at = pick (either (eqb (getD s at 0) 101) (eqb (getD s at 0) 69)) (signedAt s (at + 1)) (Past at)
+exponentAt s at = pick (either (eqb (getD s at 0) (code "e")) (eqb (getD s at 0) (code "E"))) (signedAt s (at + 1)) (Past at)
 
 -- [ minus ] int
 unfoldable pub integerAt : List ℕ → ℕ → Skip

@@ -1,5 +1,6 @@
 -- Tests on bytes, and the small readers that every other is made of (RFC 8259, section 2).
 -- A text is the list of its bytes. `getD s k 0` is the byte at k, 0 past the end; no token has the byte 0.
+use Prim.Native.Char.{code}
 use Prim.Native.Nat.{ℕ, zero, suc, _+_, _<_}
 use mathlib.Core.Path.{_≡_}
 use mathlib.Core.Bool.{Bool, true, false}
@@ -23,10 +24,10 @@ thenStep Bad f = Wrong
 
 -- ws = *( %x20 / %x09 / %x0A / %x0D )
 abbrev pub blank : ℕ → Bool
-blank b = either (eqb b 32) (either (eqb b 9) (either (eqb b 10) (eqb b 13)))
+blank b = either (eqb b (code " ")) (either (eqb b (code "\t")) (either (eqb b (code "\n")) (eqb b (code "\r"))))
 
 abbrev pub digit : ℕ → Bool
-digit b = both (leb 48 b) (leb b 57)
+digit b = both (leb (code "0") b) (leb b (code "9"))
 
 -- how many bytes at the front pass the test
 abbrev pub run : (ℕ → Bool) → List ℕ → ℕ
@@ -54,8 +55,8 @@ startsWith (x ∷ w) (y ∷ ys) = both (eqb x y) (startsWith w ys)
 unfoldable pub after : List ℕ → ℕ → ℕ → Step
 after s close at =
     pick (eqb (getD s (pastBlanks s at) 0) close) (End (pastBlanks s at + 1))
-    (pick (eqb (getD s (pastBlanks s at) 0) 44) (More (pastBlanks s (pastBlanks s at + 1))) Wrong)
+    (pick (eqb (getD s (pastBlanks s at) 0) (code ",")) (More (pastBlanks s (pastBlanks s at + 1))) Wrong)
 
 -- name-separator = ws %x3A ws
 unfoldable pub pastColon : List ℕ → ℕ → Skip
-pastColon s at = pick (eqb (getD s (pastBlanks s at) 0) 58) (Past (pastBlanks s (pastBlanks s at + 1))) Bad
+pastColon s at = pick (eqb (getD s (pastBlanks s at) 0) (code ":")) (Past (pastBlanks s (pastBlanks s at + 1))) Bad

@@ -18,24 +18,24 @@ fn minus(s: &[u8], at: usize) -> usize
     ensures { λ r. ⌜ r ≡ pastMinus (now (s .entry)) at ⌝ }
 {
     let b = byte(s, at);
-    if b == 45 { at + 1 } else { at }
+    if b == b'-' { at + 1 } else { at }
 }
 
 fn sign(s: &[u8], at: usize) -> usize
     ensures { λ r. ⌜ r ≡ pastSign (now (s .entry)) at ⌝ }
 {
     let b = byte(s, at);
-    if b == 43 {
+    if b == b'+' {
         return at + 1;
     }
-    if b == 45 { at + 1 } else { at }
+    if b == b'-' { at + 1 } else { at }
 }
 
 fn whole(s: &[u8], at: usize) -> Skip
     ensures { λ r. ⌜ r ≡ wholeAt (now (s .entry)) at ⌝ }
 {
     let b = byte(s, at);
-    if b == 48 {
+    if b == b'0' {
         Skip::Past(at + 1)
     } else {
         some_digits(s, at)
@@ -46,7 +46,7 @@ fn fraction(s: &[u8], at: usize) -> Skip
     ensures { λ r. ⌜ r ≡ fractionAt (now (s .entry)) at ⌝ }
 {
     let b = byte(s, at);
-    if b == 46 {
+    if b == b'.' {
         some_digits(s, at + 1)
     } else {
         Skip::Past(at)
@@ -63,10 +63,10 @@ fn exponent(s: &[u8], at: usize) -> Skip
     ensures { λ r. ⌜ r ≡ exponentAt (now (s .entry)) at ⌝ }
 {
     let b = byte(s, at);
-    if b == 101 {
+    if b == b'e' {
         return signed(s, at + 1);
     }
-    if b == 69 {
+    if b == b'E' {
         signed(s, at + 1)
     } else {
         Skip::Past(at)

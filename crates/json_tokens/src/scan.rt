@@ -16,25 +16,25 @@ pub fn byte(s: &[u8], at: usize) -> u8
 fn is_blank(b: u8) -> bool
     ensures { λ r. ⌜ r ≡ blank b ⌝ }
 {
-    if b == 32 {
+    if b == b' ' {
         return true;
     }
-    if b == 9 {
+    if b == b'\t' {
         return true;
     }
-    if b == 10 {
+    if b == b'\n' {
         return true;
     }
-    b == 13
+    b == b'\r'
 }
 
 fn is_digit(b: u8) -> bool
     ensures { λ r. ⌜ r ≡ digit b ⌝ }
 {
-    if b < 48 {
+    if b < b'0' {
         return false;
     }
-    b <= 57
+    b <= b'9'
 }
 
 // Past the blanks at a place.
@@ -75,7 +75,7 @@ pub fn after_item(s: &[u8], at: usize, close: u8) -> Step
     if b == close {
         return Step::End(c + 1);
     }
-    if b == 44 {
+    if b == b',' {
         Step::More(blanks(s, c + 1))
     } else {
         Step::Wrong
@@ -88,7 +88,7 @@ pub fn colon(s: &[u8], at: usize) -> Skip
 {
     let c = blanks(s, at);
     let b = byte(s, c);
-    if b == 58 {
+    if b == b':' {
         Skip::Past(blanks(s, c + 1))
     } else {
         Skip::Bad

@@ -1,6 +1,6 @@
 -- Laws that belong to no one function. What the crate claims of itself stands in Exactly, Recorded, Codes and Once.
 pub mod Wholes
-pub mod Judged
+pub mod Judges
 pub mod Reaching
 pub mod Exactly
 pub mod Recorded

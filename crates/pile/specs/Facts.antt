@@ -5,13 +5,14 @@ use mathlib.Core.List.{List}
 use lib.ListN.{length}
 use Rattle.wire_packet.specs.Facts.{Asks}
 use Rattle.wire_packet.specs.Packet.{body}
+use Rattle.pile.specs.Layout.{RECORD, AREA}
 use Rattle.pile.specs.Pile.{requestLength, responseLength, requestPacket}
 
 -- the response packet of the record b and the NONC of r's request can be read
 pub record Readable (b r : List ℕ) : Type 0 where
-  pub before-long : length b ≡ 4096
-  pub long : length r ≡ 4096
-  pub response-fits : responseLength b ≤ 2000
-  pub request-fits : requestLength r ≤ 2000
+  pub before-long : length b ≡ RECORD
+  pub long : length r ≡ RECORD
+  pub response-fits : responseLength b ≤ AREA
+  pub request-fits : requestLength r ≤ AREA
   pub headed : 12 ≤ length (requestPacket r)
   pub asks : Asks (body (requestPacket r))

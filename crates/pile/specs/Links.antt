@@ -15,6 +15,7 @@ use Rattle.wire_message.specs.Tags.{NONC}
 use Rattle.wire_message.specs.Values.{valueOf}
 use Rattle.wire_packet.specs.Packet.{body}
 use Rattle.wire_packet.specs.Request.{requestBad}
+use Rattle.pile.specs.Layout.{AREA}
 use Rattle.pile.specs.Pile.{recordsIn, recordAt, randIn, requestLength, responseLength, requestPacket}
 use Rattle.pile.specs.Pile.{responsePacket, lengthBad}
 
@@ -24,7 +25,7 @@ nonceLinks b r = same (valueOf (body (requestPacket r)) NONC) (linkOf (responseP
 
 -- ours: the link can't be read, since one of the two lengths is above 2,000 or r's request is bad
 unfoldable pub unreadable : List ℕ → List ℕ → Bool
-unreadable b r = any (ltb 2000 (requestLength r) ∷ ltb 2000 (responseLength b) ∷ requestBad (requestPacket r) ∷ [])
+unreadable b r = any (ltb AREA (requestLength r) ∷ ltb AREA (responseLength b) ∷ requestBad (requestPacket r) ∷ [])
 
 -- the record r is linked to the record b before it; it is not where the link can't be read
 unfoldable pub follows : List ℕ → List ℕ → Bool

@@ -10,12 +10,13 @@ use Rattle.wire_message.specs.Values.{valueOf}
 use Rattle.check_response.specs.Passes.{Passes}
 use Rattle.wire_packet.specs.Good.{GoodRequest}
 use Rattle.wire_packet.specs.Packet.{body}
+use Rattle.pile.specs.Layout.{RAND, REQUEST-LENGTH, ZEROS, REQUEST, RESPONSE, RECORD, AREA}
 use Rattle.pile.specs.Pile.{recordsIn, recordAt, randIn, requestLength, responseLength, requestPacket}
 use Rattle.pile.specs.Pile.{responsePacket, saidYes}
 
 -- a pile is 1 to 16 records of 4,096 bytes
 pub record WholePile (pile : List ℕ) : Type 0 where
-  pub exact : length pile % 4096 ≡ 0
+  pub exact : length pile % RECORD ≡ 0
   pub from : 1 ≤ recordsIn pile
   pub to : recordsIn pile ≤ 16
 
@@ -27,11 +28,11 @@ pub record GoodPile (pile answers : List ℕ) : Type 0 where
 
 -- lengths are at most 2,000; zeros 72-95; bytes of an area past its length are zero
 pub record Undamaged (r : List ℕ) : Type 0 where
-  pub request-fits : requestLength r ≤ 2000
-  pub response-fits : responseLength r ≤ 2000
-  pub gap : (i : ℕ) → 72 ≤ i → i < 96 → getD r i 0 ≡ 0
-  pub request-rest : (i : ℕ) → 96 + requestLength r ≤ i → i < 2096 → getD r i 0 ≡ 0
-  pub response-rest : (i : ℕ) → 2096 + responseLength r ≤ i → i < 4096 → getD r i 0 ≡ 0
+  pub request-fits : requestLength r ≤ AREA
+  pub response-fits : responseLength r ≤ AREA
+  pub gap : (i : ℕ) → ZEROS ≤ i → i < REQUEST → getD r i 0 ≡ 0
+  pub request-rest : (i : ℕ) → REQUEST + requestLength r ≤ i → i < RESPONSE → getD r i 0 ≡ 0
+  pub response-rest : (i : ℕ) → RESPONSE + responseLength r ≤ i → i < RECORD → getD r i 0 ≡ 0
 
 -- record k of a good pile is valid: none of 16, 14 and 1 to 13 applies to it
 pub record ValidRecord (pile answers : List ℕ) (k : ℕ) : Type 0 where
@@ -49,8 +50,8 @@ IsLinked b r = valueOf (body (requestPacket r)) NONC ≡ linkOf (responsePacket 
 -- what we ask besides, which is no house rule of document 01: both lengths are at most 2,000, and r's request is a good
 -- one, since no NONC is taken from a bad request
 pub record LinkReadable (b r : List ℕ) : Type 0 where
-  pub request-fits : requestLength r ≤ 2000
-  pub response-fits : responseLength b ≤ 2000
+  pub request-fits : requestLength r ≤ AREA
+  pub response-fits : responseLength b ≤ AREA
   pub request : GoodRequest (requestPacket r)
 
 -- the record r is linked to the record b
@@ -68,4 +69,4 @@ pub record LinkedAt (pile : List ℕ) (k : ℕ) : Type 0 where
 -- the first rand, bytes 32 to 63 of record 0, is all zero
 pub record ZeroRand (pile : List ℕ) : Type 0 where
   pub pile-whole : WholePile pile
-  pub rand : (i : ℕ) → 32 ≤ i → i < 64 → getD (recordAt pile 0) i 0 ≡ 0
+  pub rand : (i : ℕ) → RAND ≤ i → i < REQUEST-LENGTH → getD (recordAt pile 0) i 0 ≡ 0

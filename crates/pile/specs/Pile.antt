@@ -11,40 +11,45 @@ use Rattle.laws.specs.Numbers.{le}
 use Rattle.laws.specs.Pasted.{part}
 use Rattle.refusal.specs.Refusal.{when}
 use Rattle.refusal.specs.declared.Refusal.{Refusal}
+use Rattle.pile.specs.Layout.{KEY, RAND, REQUEST-LENGTH, RESPONSE-LENGTH, ZEROS, REQUEST, RESPONSE, RECORD}
 
 -- ---- the pile
 
 -- how many records it has, and record k, from 0
 abbrev pub recordsIn : List ℕ → ℕ
-recordsIn pile = length pile / 4096
+recordsIn pile = length pile / RECORD
 
 unfoldable pub recordAt : List ℕ → ℕ → List ℕ
-recordAt pile k = take 4096 (drop (4096 * k) pile)
+recordAt pile k = take RECORD (drop (RECORD * k) pile)
 
 -- ---- a record r
 
 -- key 0-31, the server's long-term key: no check here reads it, since signatures come as answers; those that verify
 -- them by themselves do (request P11)
 abbrev pub keyIn : List ℕ → List ℕ
-keyIn r = part 0 32 r
+keyIn r = part KEY RAND r
 
 -- rand 32-63
 abbrev pub randIn : List ℕ → List ℕ
-randIn r = part 32 64 r
+randIn r = part RAND REQUEST-LENGTH r
 
 -- request length u32 at 64, response length u32 at 68
 abbrev pub requestLength : List ℕ → ℕ
-requestLength r = le 4 r 64
+requestLength r = le 4 r REQUEST-LENGTH
 
 abbrev pub responseLength : List ℕ → ℕ
-responseLength r = le 4 r 68
+responseLength r = le 4 r RESPONSE-LENGTH
+
+-- zeros 72-95
+abbrev pub zerosIn : List ℕ → List ℕ
+zerosIn r = part ZEROS REQUEST r
 
 -- request area 96-2,095, response area 2,096-4,095
 abbrev pub requestArea : List ℕ → List ℕ
-requestArea r = part 96 2096 r
+requestArea r = part REQUEST RESPONSE r
 
 abbrev pub responseArea : List ℕ → List ℕ
-responseArea r = part 2096 4096 r
+responseArea r = part RESPONSE RECORD r
 
 -- the packets: the first bytes of an area, as many as its length says
 unfoldable pub requestPacket : List ℕ → List ℕ
@@ -62,7 +67,7 @@ saidYes answers i = eqb (getD answers i 0) 1
 
 -- the pile is not 1 to 16 whole records
 unfoldable pub lengthBad : List ℕ → Bool
-lengthBad pile = any (not (eqb (length pile % 4096) 0) ∷ ltb (recordsIn pile) 1 ∷ ltb 16 (recordsIn pile) ∷ [])
+lengthBad pile = any (not (eqb (length pile % RECORD) 0) ∷ ltb (recordsIn pile) 1 ∷ ltb 16 (recordsIn pile) ∷ [])
 
 -- answer byte i is above 1, and some answer byte is
 abbrev pub aboveOne : List ℕ → ℕ → Bool

@@ -7,22 +7,24 @@ use mathlib.Core.List.{List, [], _∷_}
 use lib.Dec.{leb, ltb}
 use lib.ListN.{drop}
 use Rattle.laws.specs.Any.{any}
-use Rattle.laws.specs.Pasted.{part}
 use Rattle.laws.specs.Zeros.{zeros}
-use Rattle.refusal.specs.Refusal.{first, when}
+use Rattle.refusal.specs.Refusal.{refusal, first, when}
 use Rattle.refusal.specs.declared.Refusal.{Refusal}
 use Rattle.check_response.specs.Check.{checkCode, windowIn, pubkIn, verdictBy, keyBy}
 use Rattle.check_response.specs.declared.Checked.{Checked}
 use Rattle.check_response.specs.declared.Verdict.{Verdict}
+use Rattle.check_response.specs.declared.Verdict.the-variants.{Refused}
 use Rattle.check_response.specs.declared.Window.{Window}
+use Rattle.wire_packet.specs.Blank.{zeros32}
 use Rattle.wire_packet.specs.Packet.{body}
-use Rattle.pile.specs.Pile.{recordsIn, recordAt, requestLength, responseLength, requestArea, responseArea}
+use Rattle.pile.specs.Layout.{AREA}
+use Rattle.pile.specs.Pile.{recordsIn, recordAt, requestLength, responseLength, zerosIn, requestArea, responseArea}
 use Rattle.pile.specs.Pile.{requestPacket, responsePacket, saidYes, pileBad}
 use Rattle.pile.specs.declared.Judgement.{Judgement}
 
 -- of an area whose packet has n bytes: n is above 2,000, or a byte past the packet is not zero
 unfoldable pub areaBad : List ℕ → ℕ → Bool
-areaBad area n = any (ltb 2000 n ∷ not (zeros (drop n area)) ∷ [])
+areaBad area n = any (ltb AREA n ∷ not (zeros (drop n area)) ∷ [])
 
 -- 16: record lengths above 2,000 or a must-be-zero byte; bytes 72 to 95 are zeros
 unfoldable pub recordBad : List ℕ → Bool
@@ -30,8 +32,12 @@ recordBad r =
     any
     (areaBad (requestArea r) (requestLength r)
     ∷ areaBad (responseArea r) (responseLength r)
-    ∷ not (zeros (part 72 96 r))
+    ∷ not (zeros (zerosIn r))
     ∷ [])
+
+-- what is said where a code refuses before the response is looked at
+abbrev pub refusedBy : ℕ → Checked
+refusedBy code = record { verdict = Refused (refusal code); pubk = zeros32 }
 
 -- 16 first, and then 14 and 1 to 13 of its response; d and s are the two answers
 unfoldable pub recordCode : List ℕ → Bool → Bool → Refusal
@@ -70,6 +76,10 @@ judgeCode pile answers k =
     (when (nothingAt pile answers k) 15
     ∷ recordCode (recordAt pile k) (saidYes answers (2 * k)) (saidYes answers (2 * k + 1))
     ∷ [])
+
+-- the judgement on record k, of which c is said
+abbrev pub judgedBy : ℕ → Checked → Judgement
+judgedBy k c = record { place = k; verdict = c .verdict; pubk = c .pubk }
 
 -- what the judge answers: the place that it was asked for, the verdict, and the key beside it
 unfoldable pub judgementOf : List ℕ → List ℕ → ℕ → Judgement

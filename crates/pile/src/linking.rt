@@ -2,17 +2,22 @@
 ghost use mathlib.Core.Path.{_≡_};
 ghost use lib.ListN.{length};
 ghost use Rattle.pile.specs.Facts.{Readable};
+ghost use Rattle.pile.specs.Layout.{RECORD};
 ghost use Rattle.pile.specs.Links.{unreadable, nonceLinks, follows, unlinkable, linkedOf, firstRandZero};
+use super::layout::AREA;
+use super::layout::RAND;
+use super::layout::RECORD;
 use super::piles::length_bad;
-use super::records::RECORD;
+use super::records::rand_of;
 use super::records::record_at;
+use super::records::request_length;
 use super::records::request_of;
+use super::records::response_length;
 use super::records::response_of;
 use hash::link;
 use octets::all_zero;
 use octets::copy32;
 use octets::equal;
-use octets::le32;
 use wire_message::tags::NONC;
 use wire_message::value_of;
 use wire_packet::packet::body_of;
@@ -37,7 +42,7 @@ pub fn first_rand_zero(pile: &[u8]) -> bool
         return false;
     }
     let r = record_at(pile, 0);
-    all_zero(&r[32..64])
+    all_zero(rand_of(r))
 }
 
 // The pile is bad, or has no record k with one before it.
@@ -55,7 +60,7 @@ fn unlinkable_at(pile: &[u8], k: usize) -> bool
 
 // Whether the record r is linked to the record b before it.
 fn follows_on<'a>(b: &'a [u8], r: &'a [u8]) -> bool
-    requires { ⌜ (length (now b) ≡ 4096) × (length (now r) ≡ 4096) ⌝ }
+    requires { ⌜ (length (now b) ≡ RECORD) × (length (now r) ≡ RECORD) ⌝ }
     ensures { λ x. ⌜ x ≡ follows (now (b .entry)) (now (r .entry)) ⌝ }
 {
     if out_of_reach(b, r) {
@@ -67,13 +72,13 @@ fn follows_on<'a>(b: &'a [u8], r: &'a [u8]) -> bool
 // The link can't be read: a length is above 2,000, which is more than its area has, or the request of r is bad, and no
 // NONC is taken from a bad request.
 fn out_of_reach<'a>(b: &'a [u8], r: &'a [u8]) -> bool
-    requires { ⌜ (length (now b) ≡ 4096) × (length (now r) ≡ 4096) ⌝ }
+    requires { ⌜ (length (now b) ≡ RECORD) × (length (now r) ≡ RECORD) ⌝ }
     ensures { λ x. ⌜ x ≡ unreadable (now (b .entry)) (now (r .entry)) ⌝ }
 {
-    if 2000 < le32(r, 64) {
+    if AREA < request_length(r) {
         return true;
     }
-    if 2000 < le32(b, 68) {
+    if AREA < response_length(b) {
         return true;
     }
     request_bad(request_of(r))
@@ -84,7 +89,7 @@ fn nonce_links<'a>(b: &'a [u8], r: &'a [u8]) -> bool
     requires { ⌜ Readable (now b) (now r) ⌝ }
     ensures { λ x. ⌜ x ≡ nonceLinks (now (b .entry)) (now (r .entry)) ⌝ }
 {
-    let made = link(response_of(b), copy32(r, 32));
+    let made = link(response_of(b), copy32(r, RAND));
     let m = body_of(request_of(r));
     equal(value_of(m, NONC), &made)
 }

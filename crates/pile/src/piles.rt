@@ -1,7 +1,7 @@
 // Code 15: whether a pile and its answers are what they must be before any record is looked at.
 ghost use mathlib.Core.Path.{_≡_};
 ghost use Rattle.pile.specs.Pile.{lengthBad, answerBad, pileBad, pileCode};
-use super::records::RECORD;
+use super::layout::RECORD;
 use refusal::PASSED;
 use refusal::Refusal;
 use refusal::codes;

@@ -5,6 +5,7 @@ use mathlib.Core.Path.{_≡_}
 use Prim.Native.Nat.{ℕ, _-_, _≤_, _<_}
 use lib.Dec.{T}
 use lib.ListN.{length, getD}
+use Rattle.pile.specs.Layout.{RECORD}
 use Rattle.pile.specs.Pile.{recordsIn}
 use Rattle.pile.specs.Links.{linkedOf}
 use Rattle.pile.specs.Meaning.{GoodPile}
@@ -22,7 +23,7 @@ use Rattle.pile_report.specs.declared.Taken.the-variants as taken
 pub record OneMore (pile answers r said : List ℕ) : Type 0 where
   pub good : GoodPile pile answers
   pub room : recordsIn pile < 16
-  pub long : length r ≡ 4096
+  pub long : length r ≡ RECORD
   pub two : length said ≡ 2
   pub one-at-most : (i : ℕ) → i < 2 → getD said i 0 ≤ 1
 

@@ -1,6 +1,7 @@
 -- Laws that belong to no one function. What the crate claims of itself stands in Exactly, Codes, CutReports,
 -- Stands, Agree, Unread and Once.
 pub mod SameArrays
+pub mod Verdicts
 pub mod Stopping
 pub mod Says
 pub mod Runs

@@ -1,28 +1,29 @@
 -- The cutter's run: the run of the arrays is the run of the pile that they are of, and any two answers are the same.
 use mathlib.Core.Path.{_≡_, refl, subst, ap, _∙_}
 use mathlib.Core.Bool.{Bool, true, false, _&&_}
-use mathlib.Core.List.{List}
+use mathlib.Core.List.{List, []}
 use Prim.Native.Nat.{ℕ, _-_, _<_, min}
 use borrow.Author.Tests.{ne-eqb}
 use native.Mathlib.Omega.{arith}
 use lib.Dec.{T}
 use Rattle.refusal.specs.declared.Refusal.{Refusal}
-use Rattle.pile.specs.Pile.{recordsIn}
+use Rattle.pile.specs.Pile.{recordsIn, pileCode}
 use Rattle.pile.specs.Links.{linkedOf}
-use Rattle.pile.specs.Meaning.{GoodPile}
+use Rattle.pile.specs.Meaning.{WholePile}
 use Rattle.check_response.specs.declared.Verdict.{Verdict}
 use Rattle.pile_runs.specs.Clash.{valid}
 use Rattle.pile_runs.specs.Spans.{Answers}
-use Rattle.pile_runs.specs.Convict.{verdictIn, flagIn, Convicts}
+use Rattle.pile_runs.specs.Convict.{flagIn, Convicts}
 use Rattle.pile_runs.specs.declared.Span.{Span}
 use Rattle.pile_runs.specs.declared.Span.the-variants.{Places}
 use Rattle.pile_runs.proofs.Find.{run-settled}
 use Rattle.pile_runs.proofs.SamePile.{same-answer, linked-answer}
-use Rattle.pile_report.specs.Promises.{between}
+use Rattle.pile_report.specs.Promises.{between, Gathered}
 use Rattle.pile_report.specs.Report.{judged, joined}
 use Rattle.pile_report.specs.Taking.{ConvictsIn, CutRefused, code-15, code-19, code-18, Takes}
 use Rattle.pile_report.specs.declared.Taken.{Taken}
 use Rattle.pile_report.specs.declared.Taken.the-variants.{Run, Refused}
+use Rattle.pile_report.proofs.Says.{pile-refused}
 
 -- the flag of a record after the first says whether it is linked
 pub joined-later : (pile : List ℕ) (k : ℕ) → 0 < k → joined pile k ≡ linkedOf pile k
@@ -39,23 +40,35 @@ between-valid v l k z p q = rw (ne-eqb k 0 (λ e. omega arith)) (both (valid (v 
     both true false p q = absurd q
     both false b p q = absurd p
 
--- the run of the arrays vs and ls is the run of the pile that they are of
-pub run-of : (pile answers : List ℕ) (vs : List Verdict) (ls : List Bool) (r : Span) → GoodPile pile answers
-    → ((k : ℕ) → k < recordsIn pile → verdictIn vs k ≡ judged pile answers k)
-    → ((k : ℕ) → k < 16 → flagIn ls k ≡ between (verdictIn vs) (linkedOf pile) k)
-    → Answers (Convicts (verdictIn vs) (flagIn ls) (min (recordsIn pile) 16)) r → Answers (ConvictsIn pile answers) r
-run-of pile answers vs ls r g e f a =
+-- the run by flags that tell the links between valid records is the run by the links of the pile
+pub run-linked : (pile : List ℕ) (v : ℕ → Verdict) (ls : List Bool) (r : Span) → WholePile pile
+    → ((k : ℕ) → k < 16 → flagIn ls k ≡ between v (linkedOf pile) k)
+    → Answers (Convicts v (flagIn ls) (min (recordsIn pile) 16)) r
+    → Answers (Convicts v (linkedOf pile) (recordsIn pile)) r
+run-linked pile v ls r g f a =
     let n = recordsIn pile in
-    let v = verdictIn vs in
     let l = linkedOf pile in
-    let whole : min n 16 ≡ n = omega (arith, g .pile-whole .to) in
-    same-answer v (judged pile answers) l l n (λ i u. e i u) (λ i z u. refl) r
-    (linked-answer v (flagIn ls) l n
-    (λ i z u p q. f i (omega (arith, g .pile-whole .to)) ∙ between-valid v l i z p q) r
-    (subst (λ (m : ℕ). Answers (Convicts v (flagIn ls) m) r) whole a))
+    let whole : min n 16 ≡ n = omega (arith, g .to) in
+    linked-answer v (flagIn ls) l n (λ i z u p q. f i (omega (arith, g .to)) ∙ between-valid v l i z p q) r
+    (subst (λ (m : ℕ). Answers (Convicts v (flagIn ls) m) r) whole a)
 
--- any two answers are the same
+-- and the run by the verdicts that were gathered is the run of the pile
+pub run-gathered : (pile answers : List ℕ) (v : ℕ → Verdict) (r : Span)
+    → Gathered true v (judged pile answers) (recordsIn pile)
+    → Answers (Convicts v (linkedOf pile) (recordsIn pile)) r → Answers (ConvictsIn pile answers) r
+run-gathered pile answers v r g a =
+    same-answer v (judged pile answers) (linkedOf pile) (linkedOf pile) (recordsIn pile) (g .whole refl)
+    (λ i z u. refl) r a
+
+-- the answers, of which any two are the same
 module _ (pile answers : List ℕ) (room : ℕ) where
+  -- where code 15 applies, which code has as x, both clauses of the cutter
+  pub cut-bad : {x : Refusal} (o : List ℕ) → x ≡ pileCode pile answers → (x .code ≡ 0 → ⊥)
+      → Takes pile answers room (Refused x) × (o ≡ written (x .code) [] o)
+  cut-bad {x} o e h =
+      let r = pile-refused pile answers e h in
+      (rw (r .0) (code-15 (r .1)), written-refused (x .code) [] o h)
+
   -- a refusal leaves no run,
   no-run : (i j : ℕ) (why : Refusal) → Takes pile answers room (Run i j) → CutRefused pile answers room why → ⊥
   no-run i j why p (code-15 bad) = bad (p .0)

@@ -1,43 +1,20 @@
 -- What the check of a report says hangs on no verdict behind the first refused record.
 use mathlib.Core.Path.{_≡_, refl, sym, subst, _∙_}
 use mathlib.Core.Bool.{Bool, true, false, not}
-use mathlib.Core.List.{List, []}
 use mathlib.Core.Logic.{⊎-elim}
-use Prim.Native.Nat.{ℕ, _+_, _-_, _<_}
+use Prim.Native.Nat.{ℕ, _-_, _<_}
 use native.Mathlib.Nat.{eq-or-lt-of-le}
 use native.Mathlib.Omega.{arith}
 use borrow.Author.Tests.{ltb-true, ltb-false}
 use lib.Dec.{T, ltb}
-use lib.ListN.{length, set}
-use lib.Seq.{getD-set-same}
 use Rattle.laws.specs.Least.{IsFirst, Never}
 use Rattle.pile_runs.specs.Clash.{valid}
-use Rattle.pile_runs.specs.Convict.{verdictIn}
 use Rattle.check_response.specs.declared.Verdict.{Verdict}
 use Rattle.pile_report.specs.Promises.{UpToRefused}
 use Rattle.pile_report.specs.Report.{refused, of-record, code-17, code-18, Says}
 use Rattle.pile_report.specs.declared.Report.{Report}
 use Rattle.pile_report.specs.declared.Report.the-variants.{Pair, Refused}
 use Rattle.pile_report.proofs.SameArrays.{says-moved}
-
--- ---- an array that is filled with verdicts, place by place
-
--- all are known,
-pub up-to-all : (v w : ℕ → Verdict) (n : ℕ) → ((i : ℕ) → i < n → v i ≡ w i) → UpToRefused v w n
-up-to-all v w n f = record { known = n; most = omega arith; same = f; stopped = λ h. absurd (omega arith) }
-
--- or those up to place k, at which the verdict x is a refusal
-pub up-to-place : (w : ℕ → Verdict) (n k : ℕ) (vs : List Verdict) (x : Verdict) → k < n → k < length vs
-    → ((i : ℕ) → i < k + 1 → verdictIn (set vs k x) i ≡ w i) → T (not (valid x))
-    → UpToRefused (verdictIn (set vs k x)) w n
-up-to-place w n k vs x below inside f t =
-    let e : k + 1 - 1 ≡ k = omega arith in
-    record {
-      known = k + 1;
-      most = omega arith;
-      same = f;
-      stopped = λ h. (omega arith, rw (e, getD-set-same vs k x (verdictIn [] 0) inside) t);
-    }
 
 -- ---- what is said by such an array
 

@@ -1,6 +1,6 @@
 -- What private functions promise each other. Nothing public is stated by it.
 use mathlib.Core.Path.{_≡_}
-use mathlib.Core.Bool.{Bool, false, cond, _&&_}
+use mathlib.Core.Bool.{Bool, true, false, cond, _&&_}
 use Prim.Native.Nat.{ℕ, _-_, _≤_, _<_}
 use lib.Dec.{T, eqb}
 use Rattle.check_response.specs.declared.Verdict.{Verdict}
@@ -30,6 +30,11 @@ pub record UpToRefused (v w : ℕ → Verdict) (n : ℕ) : Type 0 where
   pub most : known ≤ n
   pub same : (k : ℕ) → k < known → v k ≡ w k
   pub stopped : known < n → (0 < known) × T (refused v (known - 1))
+
+-- v has the verdicts up to a refused record, or, where they are asked for, all
+pub record Gathered (all : Bool) (v w : ℕ → Verdict) (n : ℕ) : Type 0 where
+  pub early : UpToRefused v w n
+  pub whole : all ≡ true → (k : ℕ) → k < n → v k ≡ w k
 
 -- of records with the verdicts v and the links l: record k and the one before it are valid, and it is linked
 abbrev pub between : (ℕ → Verdict) → (ℕ → Bool) → ℕ → Bool

@@ -1,12 +1,13 @@
 -- What the cutter answers and leaves in the buffer (document 01, "Piles and reports"). A run taken out of a pile is its
 -- records with the first one's rand set to zero. The order is 15, 19, 18.
 use mathlib.Core.List.{List, []}
-use Prim.Native.Nat.{ℕ, _+_, _*_, _≤_, _<_}
+use Prim.Native.Nat.{ℕ, _+_, _-_, _*_, _≤_, _<_}
 use lib.ListN.{length, replicate}
 use Rattle.laws.specs.Pairs.{IsLeast}
 use Rattle.laws.specs.Pasted.{part, pasted}
 use Rattle.refusal.specs.Refusal.{refusal}
 use Rattle.refusal.specs.declared.Refusal.{Refusal}
+use Rattle.pile.specs.Layout.{RAND, REQUEST-LENGTH, RECORD}
 use Rattle.pile.specs.Pile.{recordsIn}
 use Rattle.pile.specs.Links.{linkedOf}
 use Rattle.pile.specs.Meaning.{GoodPile}
@@ -39,7 +40,7 @@ takenNumber (Refused why) = why .code
 
 -- records i to j, the first one's rand, bytes 32 to 63, set to zero
 unfoldable pub runBytes : ℕ → ℕ → List ℕ → List ℕ
-runBytes i j pile = pasted (part (4096 * i) (4096 * j + 4096) pile) 32 (replicate 32 0)
+runBytes i j pile = pasted (part (RECORD * i) (RECORD * j + RECORD) pile) RAND (replicate (REQUEST-LENGTH - RAND) 0)
 
 -- their answers, two bytes a record
 abbrev pub runAnswers : ℕ → ℕ → List ℕ → List ℕ

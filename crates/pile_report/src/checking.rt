@@ -6,7 +6,7 @@ ghost use Rattle.pile_report.specs.Report.{joined, Says, Reports};
 use super::Found;
 use super::Report;
 use super::Stopped;
-use super::gathering::verdicts_until;
+use super::gathering::verdicts_of;
 use super::linking::first_loose;
 use super::scanning::first_refused;
 use check_response::Verdict;
@@ -26,7 +26,7 @@ pub fn check_report<'a>(pile: &'a [u8], answers: &'a [u8]) -> Report
         return Report::Refused(bad, 0);
     }
     let n = pile.len() / RECORD;
-    let verdicts = verdicts_until(pile, answers);
+    let verdicts = verdicts_of(pile, answers, false);
     said_of(pile, verdicts, n)
 }
 

@@ -11,9 +11,9 @@ pub use checking::check_report;
 pub use checking::said_of;
 pub use cutting::cut_run;
 pub use cutting::put_run;
+pub use cutting::run_by;
 pub use cutting::run_in;
 pub use gathering::verdicts_of;
-pub use linking::links_of;
 use refusal::Refusal;
 
 // What is said of a pile: the two records that contradict, where it is a report; or why it is none, and the place of the

@@ -7,13 +7,11 @@ ghost use Rattle.pile_runs.specs.Spans.{Answers};
 ghost use Rattle.pile_report.specs.Taking.{ConvictsIn, Takes, takenNumber, takenBytes};
 ghost use Rattle.pile_signed.specs.OwnAnswers.{ownAnswers};
 use super::gathering::signed_verdicts;
-use pile::RECORD;
 use pile::length_bad;
 use pile_report::Taken;
-use pile_report::links_of;
 use pile_report::put_run;
+use pile_report::run_by;
 use pile_runs::Span;
-use pile_runs::shortest_run;
 use refusal::codes;
 use refusal::refuse;
 
@@ -45,8 +43,5 @@ pub fn signed_run(pile: &[u8]) -> Span
     requires { ⌜ WholePile (now pile) ⌝ }
     ensures { λ r. ⌜ Answers (ConvictsIn (now (pile .entry)) (ownAnswers (now (pile .entry)))) r ⌝ }
 {
-    let n = pile.len() / RECORD;
-    let verdicts = signed_verdicts(pile);
-    let links = links_of(pile, verdicts);
-    shortest_run(verdicts, links, n)
+    run_by(pile, signed_verdicts(pile, true))
 }

@@ -1,9 +1,7 @@
-// The verdicts on the records of a pile, each judged once.
-ghost use mathlib.Core.Path.{_≡_};
-ghost use Prim.Native.Nat.{ℕ, _<_};
+// The verdicts on the records of a pile, each judged once. That the pile is whole was asked by the caller.
 ghost use Rattle.pile.specs.Meaning.{WholePile};
 ghost use Rattle.pile.specs.Pile.{recordsIn};
-ghost use Rattle.pile_report.specs.Promises.{UpToRefused};
+ghost use Rattle.pile_report.specs.Promises.{Gathered};
 ghost use Rattle.pile_report.specs.Report.{judged};
 ghost use Rattle.pile_runs.specs.Convict.{verdictIn};
 ghost use Rattle.pile_signed.specs.OwnAnswers.{ownAnswers};
@@ -13,31 +11,10 @@ use pile::RECORD;
 use pile_runs::is_valid;
 use refusal::PASSED;
 
-// The verdicts on all records.
-pub fn signed_verdicts(pile: &[u8]) -> [Verdict; 16]
+// The verdicts on all records, or on those up to the first that is refused: then nothing behind it is verified.
+pub fn signed_verdicts(pile: &[u8], all: bool) -> [Verdict; 16]
     requires { ⌜ WholePile (now pile) ⌝ }
-    ensures { λ r. ⌜
-        ((k : ℕ) → k < recordsIn (now (pile .entry))
-        → verdictIn r k ≡ judged (now (pile .entry)) (ownAnswers (now (pile .entry))) k)
-        ⌝ }
-{
-    let blank = Verdict::Refused(PASSED);
-    let mut verdicts = [blank; 16];
-    let n = pile.len() / RECORD;
-    let mut k: usize = 0;
-    while k < n {
-        let c = checked_at(pile, k);
-        let v = c.verdict;
-        verdicts[k] = v;
-        k += 1;
-    }
-    verdicts
-}
-
-// The verdicts on the records up to the first that is refused. Those behind it are not looked at.
-pub fn verdicts_until(pile: &[u8]) -> [Verdict; 16]
-    requires { ⌜ WholePile (now pile) ⌝ }
-    ensures { λ r. ⌜ UpToRefused (verdictIn r) (judged (now (pile .entry)) (ownAnswers (now (pile .entry))))
+    ensures { λ r. ⌜ Gathered all (verdictIn r) (judged (now (pile .entry)) (ownAnswers (now (pile .entry))))
         (recordsIn (now (pile .entry))) ⌝ }
 {
     let blank = Verdict::Refused(PASSED);
@@ -48,7 +25,7 @@ pub fn verdicts_until(pile: &[u8]) -> [Verdict; 16]
         let c = checked_at(pile, k);
         let v = c.verdict;
         verdicts[k] = v;
-        if !is_valid(v) {
+        if !(all | is_valid(v)) {
             return verdicts;
         }
         k += 1;

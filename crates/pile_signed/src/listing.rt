@@ -3,6 +3,7 @@ ghost use mathlib.Core.Path.{_≡_};
 ghost use Prim.Native.Nat.{_*_};
 ghost use lib.ListN.{length, take};
 ghost use Rattle.laws.specs.Written.{written};
+ghost use Rattle.pile.specs.Layout.{RECORD};
 ghost use Rattle.pile.specs.Meaning.{WholePile};
 ghost use Rattle.pile.specs.Pile.{recordsIn, keyIn, responsePacket, lengthBad};
 ghost use Rattle.refusal.specs.Refusal.{when};
@@ -12,12 +13,14 @@ ghost use Rattle.pile_signed.specs.OwnAnswers.{answerByte, ownAnswers};
 use check_signatures::Verified;
 use check_signatures::answers;
 use octets::copy32;
-use octets::le32;
 use octets::put;
 use pile::RECORD;
+use pile::layout::AREA;
+use pile::layout::KEY;
 use pile::length_bad;
 use pile::record_at;
 use pile::response_area;
+use pile::response_length;
 use pile::response_of;
 use refusal::codes;
 use refusal::refuse;
@@ -70,11 +73,11 @@ pub fn answer_byte(answer: bool) -> u8
 
 // The answers of a record, by its own key and its response. A length above 2,000 leaves the whole area as the response.
 fn answers_in(r: &[u8]) -> Verified
-    requires { ⌜ length (now r) ≡ 4096 ⌝ }
+    requires { ⌜ length (now r) ≡ RECORD ⌝ }
     ensures { λ x. ⌜ x ≡ answersOf (keyIn (now (r .entry))) (responsePacket (now (r .entry))) ⌝ }
 {
-    if 2000 < le32(r, 68) {
-        return answers(copy32(r, 0), response_area(r));
+    if AREA < response_length(r) {
+        return answers(copy32(r, KEY), response_area(r));
     }
-    answers(copy32(r, 0), response_of(r))
+    answers(copy32(r, KEY), response_of(r))
 }

@@ -1,7 +1,7 @@
 // The check of a report with no answers lent.
 ghost use Rattle.pile_report.specs.Report.{Reports};
 ghost use Rattle.pile_signed.specs.OwnAnswers.{ownAnswers};
-use super::gathering::verdicts_until;
+use super::gathering::signed_verdicts;
 use pile::RECORD;
 use pile::length_bad;
 use pile_report::Report;
@@ -17,6 +17,6 @@ pub fn check_signed_report(pile: &[u8]) -> Report
         return Report::Refused(refuse(codes::PILE), 0);
     }
     let n = pile.len() / RECORD;
-    let verdicts = verdicts_until(pile);
+    let verdicts = signed_verdicts(pile, false);
     said_of(pile, verdicts, n)
 }

@@ -57,7 +57,7 @@ pub fn pile_contradicts<'a>(pile: &'a [u8], answers: &'a [u8]) -> Refusal
     if bad.code != 0 {
         return bad;
     }
-    let verdicts = verdicts_of(pile, answers);
+    let verdicts = verdicts_of(pile, answers, true);
     if any_contradiction(verdicts, pile.len() / RECORD) {
         return PASSED;
     }

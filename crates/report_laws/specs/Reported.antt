@@ -1,6 +1,6 @@
 -- Which texts are reports, and of which entries, in the words of draft 19, section 8.4.1, and of request P7. A text is
--- the list of its bytes; a place in it counts them from 0, and `getD s k 0` is the byte at place k: 34 is a quotation
--- mark, 91 `[`, 123 `{`.
+-- the list of its bytes; a place in it counts them from 0, and `getD s k 0` is the byte at place k.
+use Prim.Native.Char.{code}
 use Prim.Native.Nat.{ℕ, _+_, _*_, _≤_, _<_}
 use mathlib.Core.Path.{_≡_}
 use mathlib.Core.Bool.{Bool, true, false}
@@ -11,7 +11,9 @@ use Rattle.json.specs.Members.{named, valuePlace, foundOf}
 use Rattle.json_tokens.specs.Scan.{pastWhile, blank}
 use Rattle.json_strings.specs.Text.{contentAt}
 use Rattle.base64.specs.Decode.{bytes, decode64}
-use Rattle.report_read.specs.Entry.{Entry, randName, keyName, requestName, responseName, responsesName, elementsOf}
+use Rattle.pile.specs.Layout.{RECORD, AREA}
+use Rattle.report_read.specs.Entry.{Entry, randName, keyName, requestName, responseName, responsesName}
+use Rattle.report_read.specs.Entry.{inReport, inList, inEntry, elementsOf}
 use Rattle.json_laws.specs.Abnf.{JSON-text}
 
 -- ---- RFC 8259, section 4: just one member of a name.
@@ -36,12 +38,12 @@ pub record JustOne (s name members : List ℕ) (v : ℕ) : Type 0 where
 -- ---- Draft 19, section 8.4.1: response objects.
 
 -- "The values of all four keys are represented as base64-encoded strings": the object at `at` has just one member of
--- this name, and its value is a string that stands for the bytes x in base64. Values within it nest 13 deep at most:
+-- this name, and its value is a string that stands for the bytes x in base64. Values within it nest `inEntry` deep at most:
 -- the object stands in a list in the outermost object
 pub record Member (s : List ℕ) (at : ℕ) (name x : List ℕ) : Type 0 where
   pub place : ℕ
-  pub once : foundOf s name 13 at ≡ At place
-  pub string : getD s place 0 ≡ 34
+  pub once : foundOf s name inEntry at ≡ At place
+  pub string : getD s place 0 ≡ code "\""
   pub base64 : decode64 (contentAt s (place + 1)) ≡ bytes x
 
 -- the same, of 32 bytes (request P7)
@@ -58,7 +60,7 @@ Rand false s at x = Member32 s at randName x
 -- "Each response object contains the keys `rand`, `publicKey`, `request`, and `response`": an object stands at `at`,
 -- and these are its bytes
 pub record ResponseObject (s : List ℕ) (first : Bool) (at : ℕ) (e : Entry) : Type 0 where
-  pub object : getD s at 0 ≡ 123
+  pub object : getD s at 0 ≡ code "{"
   pub rand : Rand first s at (e .rand)
   pub key : Member32 s at keyName (e .key)
   pub request : Member s at requestName (e .request)
@@ -82,20 +84,20 @@ pub record ReportText (s : List ℕ) (es : List Entry) : Type 0 where
   -- it is JSON by RFC 8259's grammar, nested at most 16 deep
   pub json : JSON-text 16 s
   -- an object
-  pub object : getD s (outermost s) 0 ≡ 123
+  pub object : getD s (outermost s) 0 ≡ code "{"
   -- with just one member of the name "responses", at this place
   pub place : ℕ
-  pub once : foundOf s responsesName 15 (outermost s) ≡ At place
+  pub once : foundOf s responsesName inReport (outermost s) ≡ At place
   -- a list
-  pub list : getD s place 0 ≡ 91
+  pub list : getD s place 0 ≡ code "["
   -- of response objects
-  pub responses : ResponseObjects s true (elementsOf s 14 place) es
+  pub responses : ResponseObjects s true (elementsOf s inList place) es
 
 -- ---- Request P7: how many entries, and how long their packets may be.
 
 pub data Small : List Entry → Type 0 where
   all-small : Small []
-  small-then : {e : Entry} {es : List Entry} → length (e .request) ≤ 2000 → length (e .response) ≤ 2000 → Small es
+  small-then : {e : Entry} {es : List Entry} → length (e .request) ≤ AREA → length (e .response) ≤ AREA → Small es
       → Small (e ∷ es)
 
 -- 1 to 16 entries, and no packet above 2,000 bytes
@@ -105,8 +107,8 @@ pub record RightAmount (es : List Entry) : Type 0 where
   pub small : Small es
 
 pub data Big : List Entry → Type 0 where
-  big-request : {e : Entry} {es : List Entry} → 2000 < length (e .request) → Big (e ∷ es)
-  big-response : {e : Entry} {es : List Entry} → 2000 < length (e .response) → Big (e ∷ es)
+  big-request : {e : Entry} {es : List Entry} → AREA < length (e .request) → Big (e ∷ es)
+  big-response : {e : Entry} {es : List Entry} → AREA < length (e .response) → Big (e ∷ es)
   big-later : {e : Entry} {es : List Entry} → Big es → Big (e ∷ es)
 
 -- no entry, more than 16, or a packet above 2,000 bytes
@@ -128,12 +130,12 @@ pub record Crowded (s : List ℕ) (room : ℕ) : Type 0 where
   pub entries : List Entry
   pub report : ReportText s entries
   pub right : RightAmount entries
-  pub short : room < length entries * 4096
+  pub short : room < length entries * RECORD
 
 -- a report of n entries that is read
 pub record Readable (s : List ℕ) (room n : ℕ) : Type 0 where
   pub entries : List Entry
   pub report : ReportText s entries
   pub right : RightAmount entries
-  pub enough : length entries * 4096 ≤ room
+  pub enough : length entries * RECORD ≤ room
   pub count : n ≡ length entries

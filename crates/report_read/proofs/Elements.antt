@@ -1,4 +1,5 @@
--- Laws for the loops over the elements of the list: `from s k` are the places of the elements from the one at k on.
+-- Laws for the loops over the elements of the list. Each goes from element to element: `left s x` are the places of
+-- those from x on.
 use Prim.Native.Nat.{ℕ, suc, _+_, _-_, _≤_, _<_}
 use mathlib.Core.Path.{_≡_, refl, sym, _∙_, ap}
 use mathlib.Core.Bool.{Bool, true, false, not}
@@ -13,14 +14,14 @@ use Rattle.json_tokens.specs.Scan.{pastWhile, blank}
 use Rattle.json_tokens.specs.Walk.{starts}
 use Rattle.json.specs.Value.{valueAt, itemStep}
 use Rattle.json_tokens.proofs.Picks.{inside}
-use Rattle.json_tokens.proofs.Turns.{Forth, turn-falls, starts-more, starts-end, starts-wrong}
+use Rattle.json_tokens.proofs.Turns.{Forth, starts-more, starts-end, starts-wrong}
 use Rattle.json.proofs.Ahead.{forth-items}
 use Rattle.json_tokens.proofs.While.{while-ahead}
-use Rattle.report_read.specs.Entry.{hasAll, entryAt, elementsOf, allOf, entriesAt}
+use Rattle.report_read.specs.declared.Element.{Element}
+use Rattle.report_read.specs.declared.Element.the-variants.{At, Done}
+use Rattle.report_read.specs.Entry.{inList, hasAll, entryAt, elementsOf, allOf, entriesAt}
 use Rattle.report_read.specs.Read.{isBig, anyBig}
-
-unfoldable pub from : List ℕ → ℕ → List ℕ
-from s k = starts (suc (length s)) (itemStep s (valueAt s 14)) k
+use Rattle.report_read.specs.Ready.{from, left, Behind, Opens, Turns}
 
 -- a test that both parts pass
 pub both-left : (p q : Bool) → both p q ≡ true → p ≡ true
@@ -43,35 +44,53 @@ unfolding either
 neither-right true q e = let z : _≡_ {A = Bool} true false = e in cc
 neither-right false q e = e
 
+-- ---- Turns.
 module _ (s : List ℕ) (v : ℕ) {start b : ℕ} (e : start ≡ pastWhile blank s (v + 1)) (h : b ≡ getD s start 0) where
-  pub elements-none : b ≡ 93 → elementsOf s 14 v ≡ []
-  unfolding elementsOf pick
-  elements-none g = rw (sym e, sym h, g) refl
-
-  pub elements-from : (b ≡ 93 → ⊥) → elementsOf s 14 v ≡ from s start
+  pub elements-from : (b ≡ 93 → ⊥) → elementsOf s inList v ≡ from s start
   unfolding elementsOf pick from
   elements-from g = rw (sym e, sym h, ne-eqb b 93 g) refl
 
-module _ (s : List ℕ) {x : Step} (k : ℕ) (e : x ≡ itemStep s (valueAt s 14) k) where
+  pub opens-none : b ≡ 93 → Opens s v Done
+  unfolding elementsOf pick left
+  opens-none g = record { all = sym (rw (sym e, sym h, g) refl); behind = tt }
+
+  pub opens-some : v < length s → (b ≡ 93 → ⊥) → Opens s v (At start)
+  unfolding left
+  opens-some i g = record { all = sym (elements-from g); behind = (omega (arith, e, while-ahead blank s (v + 1)), i) }
+
+module _ (s : List ℕ) (k : ℕ) {x : Step} (e : x ≡ itemStep s (valueAt s inList) k) where
   pub from-more : {j : ℕ} → x ≡ More j → from s k ≡ k ∷ from s j
   unfolding from
-  from-more h = starts-more (length s) (itemStep s (valueAt s 14)) (forth-items s 14) k e h
+  from-more h = starts-more (length s) (itemStep s (valueAt s inList)) (forth-items s inList) k e h
 
   pub from-end : {j : ℕ} → x ≡ End j → from s k ≡ k ∷ []
   unfolding from
-  from-end h = starts-end (length s) (itemStep s (valueAt s 14)) k e h
+  from-end h = starts-end (length s) (itemStep s (valueAt s inList)) k e h
 
-  pub from-wrong : x ≡ Wrong → from s k ≡ k ∷ []
+  from-wrong : x ≡ Wrong → from s k ≡ k ∷ []
   unfolding from
-  from-wrong h = starts-wrong (length s) (itemStep s (valueAt s 14)) k e h
+  from-wrong h = starts-wrong (length s) (itemStep s (valueAt s inList)) k e h
 
-  pub from-falls : {j : ℕ} → x ≡ More j → length s - j < length s - k
-  from-falls h = turn-falls (length s) (itemStep s (valueAt s 14)) (forth-items s 14) k e h
+  pub turns-more : {j : ℕ} → x ≡ More j → Turns s k (At j)
+  unfolding left
+  turns-more {j} h =
+      let f : Forth (length s) k (More j) = rw (sym e ∙ h) at (forth-items s inList k) in
+      record { others = from-more h; behind = f }
 
-  pub from-ahead : {j : ℕ} → x ≡ More j → k < j
-  from-ahead {j} h = let p : Forth (length s) k (More j) = rw (sym e ∙ h) at (forth-items s 14 k) in p .0
+  pub turns-end : {j : ℕ} → x ≡ End j → Turns s k Done
+  unfolding left
+  turns-end h = record { others = from-end h; behind = tt }
 
--- the first of them is k
+  pub turns-wrong : x ≡ Wrong → Turns s k Done
+  unfolding left
+  turns-wrong h = record { others = from-wrong h; behind = tt }
+
+-- how many elements there are at most from x on
+unfoldable pub fuel : List ℕ → Element → ℕ
+fuel s (At k) = suc (length s - k)
+fuel s Done = 0
+
+-- the first element from k on is the one at k
 pub rest : List ℕ → ℕ → List ℕ
 rest s k = tailOf (from s k)
   where
@@ -79,164 +98,151 @@ rest s k = tailOf (from s k)
     tailOf [] = []
     tailOf (x ∷ xs) = xs
 
-pub from-head : (s : List ℕ) (k : ℕ) → from s k ≡ k ∷ rest s k
+from-head : (s : List ℕ) (k : ℕ) → from s k ≡ k ∷ rest s k
 unfolding from starts rest
 from-head s k = refl
 
--- ---- All of them are response objects.
-module _ (s : List ℕ) (first : Bool) (k : ℕ) where
-  pub all-no : {t : Bool} → t ≡ hasAll s first k → not t ≡ true → false ≡ allOf s first (from s k)
-  unfolding allOf both
-  all-no {t} e h = rw (from-head s k) (rw (sym e ∙ not-true t h) refl)
+module _ (s : List ℕ) {k : ℕ} {at : Element} (a : at ≡ At k) where
+  -- the element at k is the first that is left,
+  pub left-here : left s at ≡ k ∷ rest s k
+  unfolding left
+  left-here = ap (left s) a ∙ from-head s k
 
-  module _ {t : Bool} (e : t ≡ hasAll s first k) (h : not t ≡ false) where
-    pub all-on : {l : List ℕ} → from s k ≡ k ∷ l → allOf s false l ≡ allOf s first (from s k)
+  -- and the others are those from the next on
+  pub left-on : {x : Element} → Turns s k x → left s at ≡ k ∷ left s x
+  unfolding left
+  left-on t = ap (left s) a ∙ t .others
+
+  pub turn-less : {x : Element} → Turns s k x → fuel s x < fuel s at
+  unfolding fuel
+  turn-less {x} t = rw a (by x (t .behind))
+    where
+      by : (y : Element) → Behind s k y → fuel s y < suc (length s - k)
+      by (At j) b = omega arith
+      by Done b = omega arith
+
+-- at the end nothing is left
+pub left-done : (s : List ℕ) {at : Element} → at ≡ Done → left s at ≡ []
+unfolding left
+left-done s a = rw a refl
+
+-- ---- All of them are response objects: r says whether.
+pub all-first : {s : List ℕ} {v : ℕ} {x : Element} → Opens s v x
+    → allOf s true (left s x) ≡ allOf s true (elementsOf s inList v)
+all-first {s} o = ap (allOf s true) (o .all)
+
+module _ (s : List ℕ) (first : Bool) {r : Bool} {at : Element} (i : allOf s first (left s at) ≡ r) where
+  pub all-done : at ≡ Done → true ≡ r
+  unfolding allOf
+  all-done e = rw (left-done s e) at i
+
+  module _ {k : ℕ} {t : Bool} (a : at ≡ At k) (e : t ≡ hasAll s first k) where
+    pub all-stop : not t ≡ true → false ≡ r
     unfolding allOf both
-    all-on g = rw (g, sym e ∙ not-false t h) refl
+    all-stop h = rw (left-here s a, sym e ∙ not-true t h) at i
 
-    pub all-last : from s k ≡ k ∷ [] → true ≡ allOf s first (from s k)
+    pub all-turn : {x : Element} → not t ≡ false → Turns s k x → allOf s false (left s x) ≡ r
     unfolding allOf both
-    all-last g = rw (g, sym e ∙ not-false t h) refl
+    all-turn h g = rw (left-on s a g, sym e ∙ not-false t h) at i
 
-  pub all-here : allOf s first (from s k) ≡ true → hasAll s first k ≡ true
-  unfolding allOf
-  all-here e = both-left _ _ (rw (from-head s k) at e)
+  module _ {k : ℕ} (a : at ≡ At k) (y : r ≡ true) where
+    pub all-here : hasAll s first k ≡ true
+    unfolding allOf
+    all-here = both-left _ _ (rw (left-here s a) at (i ∙ y))
 
-  pub all-later : {l : List ℕ} → allOf s first (from s k) ≡ true → from s k ≡ k ∷ l → allOf s false l ≡ true
-  unfolding allOf
-  all-later e g = both-right _ _ (rw g at e)
+    pub all-inside : k < length s
+    unfolding hasAll
+    all-inside = inside s refl (eqb-true _ _ (both-left _ _ all-here)) tt
 
-  pub all-inside : allOf s first (from s k) ≡ true → k < length s
-  unfolding hasAll
-  all-inside e = inside s refl (eqb-true _ _ (both-left _ _ (all-here e))) tt
+    pub all-later : {x : Element} → Turns s k x → allOf s false (left s x) ≡ true
+    unfolding allOf
+    all-later t = both-right _ _ (rw (left-on s a t) at (i ∙ y))
 
-  -- ---- A packet that is too long.
-  pub big-yes : {t : Bool} → t ≡ isBig (entryAt s first k) → t ≡ true → true ≡ anyBig (entriesAt s first (from s k))
-  unfolding anyBig entriesAt either
-  big-yes e h = rw (from-head s k) (rw (sym e ∙ h) refl)
+-- ---- How many there are: n before this one, of L in all.
+abbrev pub Below : ℕ → Element → Type 0
+Below n (At k) = n < k
+Below n Done = Unit {0}
 
-  module _ {t : Bool} (e : t ≡ isBig (entryAt s first k)) (h : t ≡ false) where
-    pub big-on : {l : List ℕ} → from s k ≡ k ∷ l → anyBig (entriesAt s false l) ≡ anyBig (entriesAt s first (from s k))
-    unfolding anyBig entriesAt either
-    big-on g = rw (g, sym e ∙ h) refl
+pub record Counted (s : List ℕ) (L : ℕ) (at : Element) (n : ℕ) : Type 0 where
+  pub low : Below n at
+  pub count : n + length (left s at) ≡ L
 
-    pub big-last : from s k ≡ k ∷ [] → false ≡ anyBig (entriesAt s first (from s k))
-    unfolding anyBig entriesAt either
-    big-last g = rw (g, sym e ∙ h) refl
+pub counted-first : {s : List ℕ} {v : ℕ} {x : Element} → Opens s v x → Counted s (length (elementsOf s inList v)) x 0
+counted-first {s} {v} {x} o = record { low = by x (o .behind); count = omega (arith, ap length (o .all)) }
+  where
+    by : (y : Element) → Behind s v y → Below 0 y
+    by (At k) b = omega arith
+    by Done b = tt
 
-  pub small-here : anyBig (entriesAt s first (from s k)) ≡ false → isBig (entryAt s first k) ≡ false
+module _ {s : List ℕ} {L n : ℕ} {at : Element} (c : Counted s L at n) where
+  pub counted-done : at ≡ Done → n ≡ L
+  counted-done e = omega (arith, c .count, ap length (left-done s e))
+
+  module _ {k : ℕ} (a : at ≡ At k) where
+    pub counted-less : n < k
+    counted-less = rw a at (c .low)
+
+    pub counted-on : {x : Element} → Turns s k x → Counted s L x (n + 1)
+    counted-on {x} t =
+        record { low = by x (t .behind); count = omega (arith, c .count, ap length (left-on s a t)) }
+      where
+        by : (y : Element) → Behind s k y → Below (n + 1) y
+        by (At j) b = omega (arith, counted-less)
+        by Done b = tt
+
+-- ---- A packet that is too long: r says whether there is one.
+pub record Weighed (s : List ℕ) (r first : Bool) (at : Element) : Type 0 where
+  pub all : allOf s first (left s at) ≡ true
+  pub big : anyBig (entriesAt s first (left s at)) ≡ r
+
+pub weighed-first : {s : List ℕ} {v : ℕ} {x : Element} → Opens s v x → allOf s true (elementsOf s inList v) ≡ true
+    → Weighed s (anyBig (entriesAt s true (elementsOf s inList v))) true x
+weighed-first o a = record { all = rw (o .all) a; big = rw (o .all) refl }
+
+module _ {s : List ℕ} {r first : Bool} {at : Element} (w : Weighed s r first at) where
+  pub weighed-done : at ≡ Done → false ≡ r
   unfolding anyBig entriesAt
-  small-here e = neither-left _ _ (rw (from-head s k) at e)
+  weighed-done e = rw (left-done s e) at (w .big)
 
-  pub small-later : {l : List ℕ} → anyBig (entriesAt s first (from s k)) ≡ false → from s k ≡ k ∷ l
-      → anyBig (entriesAt s false l) ≡ false
-  unfolding anyBig entriesAt
-  small-later e g = neither-right _ _ (rw g at e)
+  module _ {k : ℕ} (a : at ≡ At k) where
+    pub weighed-inside : k < length s
+    weighed-inside = all-inside s first (w .all) a refl
 
--- ---- The loops' returns and turns, with variables for what code holds.
-module _ (s : List ℕ) (v : ℕ) {start b : ℕ} (e : start ≡ pastWhile blank s (v + 1)) (h : b ≡ getD s start 0) where
-  pub all-empty : b ≡ 93 → true ≡ allOf s true (elementsOf s 14 v)
-  unfolding allOf
-  all-empty g = rw (elements-none s v e h g) refl
+    -- an entry that is not too long, where none is
+    pub weighed-here : r ≡ false → isBig (entryAt s first k) ≡ false
+    unfolding anyBig entriesAt
+    weighed-here y = neither-left _ _ (rw (left-here s a) at (w .big ∙ y))
 
-  pub all-first : (b ≡ 93 → ⊥) → allOf s true (from s start) ≡ allOf s true (elementsOf s 14 v)
-  all-first g = rw (elements-from s v e h g) refl
+    pub weighed-later : {x : Element} → r ≡ false → Turns s k x → Weighed s false false x
+    unfolding anyBig entriesAt
+    weighed-later y t =
+        record { all = all-later s first (w .all) a refl t; big = neither-right _ _ (rw (left-on s a t) at (w .big ∙ y)) }
 
-  pub count-empty : b ≡ 93 → 0 ≡ length (elementsOf s 14 v)
-  count-empty g = rw (elements-none s v e h g) refl
+    module _ {t : Bool} (e : t ≡ isBig (entryAt s first k)) where
+      pub weighed-yes : t ≡ true → true ≡ r
+      unfolding anyBig entriesAt either
+      weighed-yes h = rw (left-here s a, sym e ∙ h) at (w .big)
 
-  pub big-empty : b ≡ 93 → false ≡ anyBig (entriesAt s true (elementsOf s 14 v))
-  unfolding anyBig entriesAt
-  big-empty g = rw (elements-none s v e h g) refl
-
-module _ {r : Bool} (s : List ℕ) (first : Bool) (k : ℕ) {t : Bool} (e : t ≡ hasAll s first k)
-    (i : allOf s first (from s k) ≡ r) where
-  pub all-stop : not t ≡ true → false ≡ r
-  all-stop h = all-no s first k e h ∙ i
-
-  pub all-turn : {x : Step} {j : ℕ} → not t ≡ false → x ≡ itemStep s (valueAt s 14) k → x ≡ More j
-      → allOf s false (from s j) ≡ r
-  all-turn h g m = all-on s first k e h (from-more s k g m) ∙ i
-
-  pub all-ended : {x : Step} {j : ℕ} → not t ≡ false → x ≡ itemStep s (valueAt s 14) k → x ≡ End j → true ≡ r
-  all-ended h g m = all-last s first k e h (from-end s k g m) ∙ i
-
-  pub all-broken : {x : Step} → not t ≡ false → x ≡ itemStep s (valueAt s 14) k → x ≡ Wrong → true ≡ r
-  all-broken h g m = all-last s first k e h (from-wrong s k g m) ∙ i
-
--- elements counted: n with the one at k, of L in all
-pub record Counted (s : List ℕ) (L k n : ℕ) : Type 0 where
-  pub low : n ≤ k
-  pub count : n + length (from s k) ≡ L + 1
-
-pub counted-first : (s : List ℕ) (v : ℕ) {start b : ℕ} → start ≡ pastWhile blank s (v + 1) → b ≡ getD s start 0
-    → (b ≡ 93 → ⊥) → Counted s (length (elementsOf s 14 v)) start 1
-counted-first s v e h g =
-    record { low = omega (arith, while-ahead blank s (v + 1), e); count = rw (elements-from s v e h g) (omega arith) }
-
-module _ {s : List ℕ} {L k n : ℕ} (c : Counted s L k n) {x : Step} (e : x ≡ itemStep s (valueAt s 14) k) where
-  pub counted-less : {j : ℕ} → x ≡ More j → n + 1 ≤ j
-  counted-less h = omega (arith, from-ahead s k e h, c .low)
-
-  pub counted-on : {j : ℕ} → x ≡ More j → Counted s L j (n + 1)
-  counted-on {j} h = record { low = counted-less h; count = omega (arith, c .count, ap length (from-more s k e h)) }
-
-  pub counted-end : {j : ℕ} → x ≡ End j → n ≡ L
-  counted-end h = omega (arith, c .count, ap length (from-end s k e h))
-
-  pub counted-wrong : x ≡ Wrong → n ≡ L
-  counted-wrong h = omega (arith, c .count, ap length (from-wrong s k e h))
-
--- packets weighed: from the one at k on there is one too long, r says
-pub record Weighed (s : List ℕ) (r first : Bool) (k : ℕ) : Type 0 where
-  pub all : allOf s first (from s k) ≡ true
-  pub big : anyBig (entriesAt s first (from s k)) ≡ r
-
-pub weighed-first : (s : List ℕ) (v : ℕ) {start b : ℕ} → start ≡ pastWhile blank s (v + 1) → b ≡ getD s start 0
-    → (b ≡ 93 → ⊥) → allOf s true (elementsOf s 14 v) ≡ true
-    → Weighed s (anyBig (entriesAt s true (elementsOf s 14 v))) true start
-weighed-first s v e h g a = record { all = all-first s v e h g ∙ a; big = rw (elements-from s v e h g) refl }
-
-module _ {s : List ℕ} {r first : Bool} {k : ℕ} (w : Weighed s r first k) where
-  pub weighed-inside : k < length s
-  weighed-inside = all-inside s first k (w .all)
-
-  module _ {t : Bool} (e : t ≡ isBig (entryAt s first k)) where
-    pub weighed-yes : t ≡ true → true ≡ r
-    weighed-yes h = big-yes s first k e h ∙ w .big
-
-    pub weighed-on : {x : Step} {j : ℕ} → t ≡ false → x ≡ itemStep s (valueAt s 14) k → x ≡ More j → Weighed s r false j
-    weighed-on h g m =
-        record {
-          all = all-later s first k (w .all) (from-more s k g m);
-          big = big-on s first k e h
-              (from-more s k g m) ∙ w .big;
-        }
-
-    pub weighed-end : {x : Step} {j : ℕ} → t ≡ false → x ≡ itemStep s (valueAt s 14) k → x ≡ End j → false ≡ r
-    weighed-end h g m = big-last s first k e h (from-end s k g m) ∙ w .big
-
-    pub weighed-wrong : {x : Step} → t ≡ false → x ≡ itemStep s (valueAt s 14) k → x ≡ Wrong → false ≡ r
-    weighed-wrong h g m = big-last s first k e h (from-wrong s k g m) ∙ w .big
+      pub weighed-on : {x : Element} → t ≡ false → Turns s k x → Weighed s r false x
+      unfolding anyBig entriesAt either
+      weighed-on h g = record { all = all-later s first (w .all) a refl g; big = rw (left-on s a g, sym e ∙ h) at (w .big) }
 
 pub ruleset loops = (
-  all-empty,
+  turns-more,
+  turns-end,
+  turns-wrong,
+  turn-less,
   all-first,
-  count-empty,
-  big-empty,
+  all-done,
   all-stop,
   all-turn,
-  all-ended,
-  all-broken,
   counted-first,
+  counted-done,
+  counted-less,
   counted-on,
-  counted-end,
-  counted-wrong,
   weighed-first,
+  weighed-done,
   weighed-inside,
   weighed-yes,
   weighed-on,
-  weighed-end,
-  weighed-wrong,
-  from-falls,
 )

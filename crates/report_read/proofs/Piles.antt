@@ -1,11 +1,12 @@
 -- Laws for the loop that writes the records, and for the reader's returns.
+use Prim.Native.Char.{code}
 use Prim.Native.Nat.{ℕ, suc, _+_, _*_, _≤_, _<_}
 use mathlib.Core.Path.{_≡_, refl, sym, _∙_, ap}
 use mathlib.Core.Bool.{Bool, true, false, not}
 use mathlib.Core.List.{List, [], _∷_, _++_}
 use native.Mathlib.Omega.{arith}
 use lib.Dec.{eqb}
-use lib.ListN.{length, getD, drop, length-append, length-replicate}
+use lib.ListN.{length, getD, length-append, length-replicate}
 use borrow.Author.Tests.{eqb-true, lt-ltb, le-ltb, ltb-false, not-true, not-false}
 use Rattle.laws.specs.Pick.{pick, either}
 use Rattle.laws.specs.Pasted.{pasted, fronted}
@@ -14,24 +15,24 @@ use Rattle.laws.proofs.Picks.{hit, miss, hit-eq, miss-eq}
 use Rattle.laws.proofs.Filled.{Filled, filled-first, filled-next, filled-fit, filled-last}
 use Rattle.json_tokens.specs.declared.Skip.{Skip}
 use Rattle.json_tokens.specs.declared.Skip.the-variants.{Past, Bad}
-use Rattle.json_tokens.specs.declared.Step.{Step}
-use Rattle.json_tokens.specs.declared.Step.the-variants.{More, End, Wrong}
 use Rattle.json.specs.declared.Found.{Found}
 use Rattle.json.specs.declared.Found.the-variants.{At, Nothing, Twice}
 use Rattle.json_tokens.specs.Scan.{pastWhile, blank}
-use Rattle.json.specs.Value.{valueAt, itemStep, isText}
+use Rattle.json.specs.Value.{isText}
 use Rattle.json_tokens.proofs.Picks.{inside}
 use Rattle.base64.specs.Decode.{Decoded, bytes, none}
 use Rattle.refusal.specs.Refusal.{refusal}
+use Rattle.report_read.specs.declared.Element.{Element}
+use Rattle.report_read.specs.declared.Element.the-variants.{At as Item, Done}
 use Rattle.report_read.specs.declared.Read.the-variants.{Records, Refused}
-use Rattle.report_read.specs.Entry.{memberOf, held, is32, randGood, hasAll, entryAt, elementsOf, allOf, entriesAt}
-use Rattle.report_read.specs.Entry.{listOf, listPlace, these, entriesFrom, entriesOf, randName}
+use Rattle.pile.specs.Layout.{RECORD}
+use Rattle.report_read.specs.Entry.{memberOf, held, is32, randGood, hasAll, entryAt, inList, elementsOf, allOf}
+use Rattle.report_read.specs.Entry.{entriesAt, listOf, listPlace, these, entriesFrom, entriesOf, randName}
 use Rattle.report_read.specs.Record.{recordOf, recordsOf}
 use Rattle.report_read.specs.Read.{isBig, anyBig, readOf, pileBytes}
-use Rattle.report_read.specs.Ready.{Ready}
-use Rattle.report_read.proofs.Elements.{from, both-left, both-right, neither-left, neither-right, elements-none}
-use Rattle.report_read.proofs.Elements.{elements-from, from-head, from-more, from-end, from-wrong, all-here}
-use Rattle.report_read.proofs.Elements.{all-later, small-here, small-later}
+use Rattle.report_read.specs.Ready.{Ready, left, Opens, Turns}
+use Rattle.report_read.proofs.Elements.{both-left, both-right, neither-left, neither-right, left-here, left-on, left-done}
+use Rattle.report_read.proofs.Elements.{all-here, Weighed, weighed-first, weighed-here, weighed-later}
 use Rattle.report_read.proofs.Areas.{record-length}
 
 held-32 : (d : Decoded) → is32 d ≡ true → length (held d) ≤ 32
@@ -60,7 +61,7 @@ ready s first k e b =
 
 -- the length of all records
 pub records-length : (s : List ℕ) (first : Bool) (ks : List ℕ) → allOf s first ks ≡ true
-    → anyBig (entriesAt s first ks) ≡ false → length (recordsOf (entriesAt s first ks)) ≡ length ks * 4096
+    → anyBig (entriesAt s first ks) ≡ false → length (recordsOf (entriesAt s first ks)) ≡ length ks * RECORD
 unfolding allOf anyBig entriesAt recordsOf
 records-length s first [] a b = refl
 records-length s first (k ∷ ks) a b =
@@ -71,60 +72,49 @@ records-length s first (k ∷ ks) a b =
       records-length s false ks (both-right _ _ a) (neither-right _ _ b),
     )
 
--- The state of the writer at the element k: E is all that is to be written.
-pub record Laying (s E was : List ℕ) (first : Bool) (k at : ℕ) (out : List ℕ) : Type 0 where
-  pub filled : Filled E (recordsOf (entriesAt s first (from s k))) was at out
-  pub all : allOf s first (from s k) ≡ true
-  pub small : anyBig (entriesAt s first (from s k)) ≡ false
+-- The state of the writer: E is all that is to be written.
+pub record Laying (s E was : List ℕ) (first : Bool) (item : Element) (at : ℕ) (out : List ℕ) : Type 0 where
+  pub filled : Filled E (recordsOf (entriesAt s first (left s item))) was at out
+  pub small : Weighed s false first item
 
-module _ (s : List ℕ) (v : ℕ) {start b : ℕ} (e : start ≡ pastWhile blank s (v + 1)) (h : b ≡ getD s start 0) where
-  pub laying-none : (out : List ℕ) → b ≡ 93 → out ≡ fronted (recordsOf (entriesAt s true (elementsOf s 14 v))) out
+pub laying-first : {s out : List ℕ} {v : ℕ} {x : Element} → Opens s v x → allOf s true (elementsOf s inList v) ≡ true
+    → anyBig (entriesAt s true (elementsOf s inList v)) ≡ false
+    → length (recordsOf (entriesAt s true (elementsOf s inList v))) ≤ length out
+    → Laying s (recordsOf (entriesAt s true (elementsOf s inList v))) out true x 0 out
+laying-first {s} {out} {v} {x} o a b l =
+    let w : Weighed s false true x = rw b at (weighed-first o a) in
+    record { filled = rw (o .all) (filled-first _ _ l); small = w }
+
+module _ {s E was out : List ℕ} {first : Bool} {item : Element} {at : ℕ} (l : Laying s E was first item at out) where
+  pub laying-done : item ≡ Done → out ≡ fronted E was
   unfolding recordsOf entriesAt
-  laying-none out g = rw (elements-none s v e h g) refl
+  laying-done e = filled-last (rw (left-done s e) at (l .filled))
 
-  pub laying-first : (out : List ℕ) → (b ≡ 93 → ⊥) → allOf s true (elementsOf s 14 v) ≡ true
-      → anyBig (entriesAt s true (elementsOf s 14 v)) ≡ false
-      → length (recordsOf (entriesAt s true (elementsOf s 14 v))) ≤ length out
-      → Laying s (recordsOf (entriesAt s true (elementsOf s 14 v))) out true start 0 out
-  laying-first out g a z l = record {
-    filled = rw (sym (elements-from s v e h g)) (filled-first _ _ l);
-    all = rw (sym (elements-from s v e h g)) a;
-    small = rw (sym (elements-from s v e h g)) z;
-  }
+  module _ {k : ℕ} (i : item ≡ Item k) where
+    pub laying-ready : Ready s first k
+    laying-ready = ready s first k (all-here s first (l .small .all) i refl) (weighed-here (l .small) i refl)
 
-module _ {s E was : List ℕ} {first : Bool} {k at : ℕ} {out : List ℕ} (l : Laying s E was first k at out) where
-  pub laying-ready : Ready s first k
-  laying-ready = ready s first k (all-here s first k (l .all)) (small-here s first k (l .small))
-
-  part : {m : List ℕ} → from s k ≡ k ∷ m
-      → recordsOf (entriesAt s first (from s k)) ≡ recordOf (entryAt s first k) ++ recordsOf (entriesAt s false m)
-  unfolding recordsOf entriesAt
-  part g = rw g refl
-
-  pub laying-fit : at + 4096 ≤ length out
-  laying-fit =
-      omega (
-        arith,
-        record-length laying-ready,
-        filled-fit (recordOf (entryAt s first k)) _ (l .filled) (part (from-head s k)),
-      )
-
-  module _ {to : List ℕ} (w : to ≡ pasted out at (recordOf (entryAt s first k))) {x : Step}
-      (e : x ≡ itemStep s (valueAt s 14) k) where
-    next : {m : List ℕ} → from s k ≡ k ∷ m → Filled E (recordsOf (entriesAt s false m)) was (at + 4096) to
-    next g = rw (record-length laying-ready) at (filled-next (recordOf (entryAt s first k)) _ (l .filled) (part g) w)
-
-    pub laying-on : {j : ℕ} → x ≡ More j → Laying s E was false j (at + 4096) to
-    laying-on h = let g = from-more s k e h in
-        record { filled = next g; all = all-later s first k (l .all) g; small = small-later s first k (l .small) g }
-
-    pub laying-end : {j : ℕ} → x ≡ End j → to ≡ fronted E was
+    part : {m : List ℕ} → left s item ≡ k ∷ m
+        → recordsOf (entriesAt s first (left s item)) ≡ recordOf (entryAt s first k) ++ recordsOf (entriesAt s false m)
     unfolding recordsOf entriesAt
-    laying-end h = filled-last (next (from-end s k e h))
+    part g = rw g refl
 
-    pub laying-wrong : x ≡ Wrong → to ≡ fronted E was
-    unfolding recordsOf entriesAt
-    laying-wrong h = filled-last (next (from-wrong s k e h))
+    pub laying-fit : at + RECORD ≤ length out
+    laying-fit =
+        omega (
+          arith,
+          record-length laying-ready,
+          filled-fit (recordOf (entryAt s first k)) _ (l .filled) (part (left-here s i)),
+        )
+
+    pub laying-on : {to : List ℕ} {x : Element} → to ≡ pasted out at (recordOf (entryAt s first k)) → Turns s k x
+        → Laying s E was false x (at + RECORD) to
+    laying-on w t = record {
+      filled =
+          rw (record-length laying-ready) at
+          (filled-next (recordOf (entryAt s first k)) _ (l .filled) (part (left-on s i t)) w);
+      small = weighed-later (l .small) i refl t;
+    }
 
 -- ---- The reader's returns.
 list-pick : (b : Bool) (y : Skip) (v n : ℕ) → (y ≡ Past v → v < n) → pick b y Bad ≡ Past v → v < n
@@ -132,7 +122,7 @@ unfolding pick
 list-pick true y v n r q = r q
 list-pick false y v n r q = let z : _≡_ {A = ℕ} 0 1 = cc in absurd (omega arith)
 
-list-at : (s : List ℕ) (u v : ℕ) (b : Bool) → eqb (getD s u 0) 91 ≡ b → pick b (Past u) Bad ≡ Past v → v < length s
+list-at : (s : List ℕ) (u v : ℕ) (b : Bool) → eqb (getD s u 0) (code "[") ≡ b → pick b (Past u) Bad ≡ Past v → v < length s
 unfolding pick
 list-at s u v true e q = let z : u ≡ v = cc in omega (arith, inside {k = getD s u 0} s refl (eqb-true _ _ e) tt)
 list-at s u v false e q = let z : _≡_ {A = ℕ} 0 1 = cc in absurd (omega arith)
@@ -147,7 +137,7 @@ pub list-inside : {x : Skip} {v : ℕ} (s : List ℕ) → x ≡ listPlace s → 
 unfolding listPlace
 list-inside {x} {v} s e h =
     list-pick (isText s) _ v (length s)
-    (λ q. list-pick (eqb (getD s (pastWhile blank s 0) 0) 123) _ v (length s) (λ p. list-found s _ v p) q) (sym e ∙ h)
+    (λ q. list-pick (eqb (getD s (pastWhile blank s 0) 0) (code "{")) _ v (length s) (λ p. list-found s _ v p) q) (sym e ∙ h)
 
 entries-length : (s : List ℕ) (first : Bool) (ks : List ℕ) → length (entriesAt s first ks) ≡ length ks
 unfolding entriesAt
@@ -160,19 +150,19 @@ module _ (s out : List ℕ) {x : Skip} (e : x ≡ listPlace s) where
   unfolding entriesOf entriesFrom readOf pileBytes
   read-none h = rw (sym e ∙ h) (refl, refl)
 
-  module _ {v : ℕ} (h : x ≡ Past v) {t : Bool} (a : t ≡ allOf s true (elementsOf s 14 v)) where
+  module _ {v : ℕ} (h : x ≡ Past v) {t : Bool} (a : t ≡ allOf s true (elementsOf s inList v)) where
     pub read-bad : not t ≡ true
         → (Refused (refusal 24) ≡ readOf (entriesOf s) (length out)) × (out ≡ written 24 (pileBytes (entriesOf s)) out)
     unfolding entriesOf entriesFrom readOf pileBytes pick
     read-bad g = rw (sym e ∙ h) (rw (sym a ∙ not-true t g) (refl, refl))
 
-    module _ (g : not t ≡ false) {n : ℕ} (c : n ≡ length (elementsOf s 14 v)) where
-      are : entriesOf s ≡ these (entriesAt s true (elementsOf s 14 v))
+    module _ (g : not t ≡ false) {n : ℕ} (c : n ≡ length (elementsOf s inList v)) where
+      are : entriesOf s ≡ these (entriesAt s true (elementsOf s inList v))
       unfolding entriesOf entriesFrom pick
       are = rw (sym e ∙ h) (rw (sym a ∙ not-false t g) refl)
 
-      many : n ≡ length (entriesAt s true (elementsOf s 14 v))
-      many = c ∙ sym (entries-length s true (elementsOf s 14 v))
+      many : n ≡ length (entriesAt s true (elementsOf s inList v))
+      many = c ∙ sym (entries-length s true (elementsOf s inList v))
 
       pub read-few : n ≡ 0
           → (Refused (refusal 25) ≡ readOf (entriesOf s) (length out)) × (out ≡ written 25 (pileBytes (entriesOf s)) out)
@@ -186,60 +176,60 @@ module _ (s out : List ℕ) {x : Skip} (e : x ≡ listPlace s) where
         read-many m =
             rw are (
               miss-eq _ many z
-                  (hit _ refl (lt-ltb 16 (length (entriesAt s true (elementsOf s 14 v))) (omega (arith, many))) refl),
+                  (hit _ refl (lt-ltb 16 (length (entriesAt s true (elementsOf s inList v))) (omega (arith, many))) refl),
               refl,
             )
 
-        module _ (m : n ≤ 16) {b : Bool} (w : b ≡ anyBig (entriesAt s true (elementsOf s 14 v))) where
+        module _ (m : n ≤ 16) {b : Bool} (w : b ≡ anyBig (entriesAt s true (elementsOf s inList v))) where
           pub read-big : b ≡ true
               → (Refused (refusal 25) ≡ readOf (entriesOf s) (length out)) × (out ≡ written 25 (pileBytes (entriesOf s)) out)
           unfolding readOf pileBytes
           read-big i =
               rw are (
                 miss-eq _ many z
-                    (miss _ refl (le-ltb 16 (length (entriesAt s true (elementsOf s 14 v))) (omega (
+                    (miss _ refl (le-ltb 16 (length (entriesAt s true (elementsOf s inList v))) (omega (
                       arith,
                       many,
                     ))) (hit _ w i refl)),
                 refl,
               )
 
-          pub read-short : b ≡ false → length out < n * 4096
+          pub read-short : b ≡ false → length out < n * RECORD
               → (Refused (refusal 19) ≡ readOf (entriesOf s) (length out)) × (out ≡ written 19 (pileBytes (entriesOf s)) out)
           unfolding readOf pileBytes
           read-short i l = rw are (
-            miss-eq _ many z (miss _ refl (le-ltb 16 (length (entriesAt s true (elementsOf s 14 v))) (omega (
+            miss-eq _ many z (miss _ refl (le-ltb 16 (length (entriesAt s true (elementsOf s inList v))) (omega (
               arith,
               many,
             )))
                 (miss _ w i
-                (hit _ refl (lt-ltb (length out) (length (entriesAt s true (elementsOf s 14 v)) * 4096) (omega (
+                (hit _ refl (lt-ltb (length out) (length (entriesAt s true (elementsOf s inList v)) * RECORD) (omega (
                   arith,
                   many,
                 ))) refl))),
             refl,
           )
 
-          pub read-room : b ≡ false → n * 4096 ≤ length out
-              → length (recordsOf (entriesAt s true (elementsOf s 14 v))) ≤ length out
+          pub read-room : b ≡ false → n * RECORD ≤ length out
+              → length (recordsOf (entriesAt s true (elementsOf s inList v))) ≤ length out
           read-room i l = omega (
             arith,
             c,
-            records-length s true (elementsOf s 14 v) (sym a ∙ not-false t g) (sym w
+            records-length s true (elementsOf s inList v) (sym a ∙ not-false t g) (sym w
                 ∙ i),
           )
 
-          pub read-done : {to : List ℕ} → b ≡ false → n * 4096 ≤ length out
-              → to ≡ fronted (recordsOf (entriesAt s true (elementsOf s 14 v))) out
+          pub read-done : {to : List ℕ} → b ≡ false → n * RECORD ≤ length out
+              → to ≡ fronted (recordsOf (entriesAt s true (elementsOf s inList v))) out
               → (Records n ≡ readOf (entriesOf s) (length out)) × (to ≡ written 0 (pileBytes (entriesOf s)) out)
           unfolding readOf pileBytes
           read-done i l q = rw are (
-            miss-eq _ many z (miss _ refl (le-ltb 16 (length (entriesAt s true (elementsOf s 14 v))) (omega (
+            miss-eq _ many z (miss _ refl (le-ltb 16 (length (entriesAt s true (elementsOf s inList v))) (omega (
               arith,
               many,
             )))
                 (miss _ w i
-                (miss _ refl (le-ltb (length out) (length (entriesAt s true (elementsOf s 14 v)) * 4096) (omega (
+                (miss _ refl (le-ltb (length out) (length (entriesAt s true (elementsOf s inList v)) * RECORD) (omega (
                   arith,
                   many,
                 ))) (ap Records many)))),

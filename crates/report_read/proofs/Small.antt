@@ -1,4 +1,5 @@
 -- Laws for the returns of the small readers: conjunctions by tests, and a member's string.
+use Prim.Native.Char.{code}
 use Prim.Native.Nat.{ℕ, _+_, _≤_, _<_}
 use mathlib.Core.Path.{_≡_, refl, sym, _∙_, ap}
 use mathlib.Core.Bool.{Bool, true, false, not}
@@ -118,7 +119,7 @@ pub ruleset sizes = (size-32, size-no-32, size-good, size-no-good, size-length, 
 
 -- ---- A member that was found.
 module _ (s : List ℕ) {x y : Found} (e : x ≡ y) where
-  pub string-at : {v : ℕ} {r : Skip} → x ≡ At v → r ≡ pick (eqb (getD s v 0) 34) (Past (v + 1)) Bad → r ≡ stringOf s y
+  pub string-at : {v : ℕ} {r : Skip} → x ≡ At v → r ≡ pick (eqb (getD s v 0) (code "\"")) (Past (v + 1)) Bad → r ≡ stringOf s y
   unfolding stringOf
   string-at h g = rw (sym e ∙ h) g
 
@@ -130,7 +131,7 @@ module _ (s : List ℕ) {x y : Found} (e : x ≡ y) where
   unfolding stringOf
   string-twice h = rw (sym e ∙ h) refl
 
-  pub list-at : {v : ℕ} {r : Skip} → x ≡ At v → r ≡ pick (eqb (getD s v 0) 91) (Past v) Bad → r ≡ listOf s y
+  pub list-at : {v : ℕ} {r : Skip} → x ≡ At v → r ≡ pick (eqb (getD s v 0) (code "[")) (Past v) Bad → r ≡ listOf s y
   unfolding listOf
   list-at h g = rw (sym e ∙ h) g
 

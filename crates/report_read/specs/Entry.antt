@@ -2,7 +2,8 @@
 -- `responses`. Its value is a list of response objects ..
 -- Each response object contains the keys `rand`, `publicKey`, `request`, and `response`. The values of all four keys
 -- are represented as base64-encoded strings."
-use Prim.Native.Nat.{ℕ, suc, _+_}
+use Prim.Native.Char.{code}
+use Prim.Native.Nat.{ℕ, suc, _+_, _-_}
 use mathlib.Core.Bool.{Bool, true, false}
 use mathlib.Core.List.{List, [], _∷_}
 use lib.Dec.{eqb}
@@ -16,7 +17,7 @@ use Rattle.json.specs.declared.Found.the-variants.{At, Nothing, Twice}
 use Rattle.json_tokens.specs.Scan.{pastWhile, blank}
 use Rattle.json_tokens.specs.Walk.{starts}
 use Rattle.json_strings.specs.Text.{contentAt}
-use Rattle.json.specs.Value.{valueAt, itemStep, isText}
+use Rattle.json.specs.Value.{valueAt, itemStep, deepest, isText}
 use Rattle.json.specs.Members.{foundOf}
 use Rattle.base64.specs.Decode.{Decoded, bytes, none, decode64}
 use Rattle.json_base64.specs.declared.Size.{Size}
@@ -45,16 +46,26 @@ responseName = ascii "response"
 abbrev pub responsesName : List ℕ
 responsesName = ascii "responses"
 
+-- What is left of the depth to which values may nest: for those in the outermost object, for those in the list of
+-- response objects there, and for those in a response object
+abbrev pub inReport : ℕ
+inReport = deepest - 1
+
+abbrev pub inList : ℕ
+inList = deepest - 2
+
+abbrev pub inEntry : ℕ
+inEntry = deepest - 3
+
 -- the characters of the string that is the value of the one member that was found
 unfoldable pub stringOf : List ℕ → Found → Skip
-stringOf s (At v) = pick (eqb (getD s v 0) 34) (Past (v + 1)) Bad
+stringOf s (At v) = pick (eqb (getD s v 0) (code "\"")) (Past (v + 1)) Bad
 stringOf s Nothing = Bad
 stringOf s Twice = Bad
 
--- the same by the member's name, in the response object at a place: its values may nest 13 deep, as it stands in a list
--- in the outermost object
+-- the same by the member's name, in the response object at a place
 unfoldable pub textPlace : List ℕ → ℕ → List ℕ → Skip
-textPlace s at w = stringOf s (foundOf s w 13 at)
+textPlace s at w = stringOf s (foundOf s w inEntry at)
 
 abbrev pub decodedAt : List ℕ → Skip → Decoded
 decodedAt s (Past p) = decode64 (contentAt s p)
@@ -86,7 +97,7 @@ randGood s first at = either first (is32 (memberOf s at randName))
 -- an object that has what a response object needs
 unfoldable pub hasAll : List ℕ → Bool → ℕ → Bool
 hasAll s first at =
-    both (eqb (getD s at 0) 123) (both (randGood s first at) (both (is32 (memberOf s at keyName))
+    both (eqb (getD s at 0) (code "{")) (both (randGood s first at) (both (is32 (memberOf s at keyName))
     (both (is64 (memberOf s at requestName)) (is64 (memberOf s at responseName)))))
 
 -- its four byte strings; 32 zeros for the first one's rand
@@ -101,7 +112,7 @@ entryAt s first at = record {
 -- the places of the elements of the list at a place, whose elements are nested at most d deep
 unfoldable pub elementsOf : List ℕ → ℕ → ℕ → List ℕ
 elementsOf s d at =
-    pick (eqb (getD s (pastWhile blank s (at + 1)) 0) 93) []
+    pick (eqb (getD s (pastWhile blank s (at + 1)) 0) (code "]")) []
     (starts (suc (length s)) (itemStep s (valueAt s d)) (pastWhile blank s (at + 1)))
 
 -- over the elements; `first` says whether the first of them is the list's first
@@ -116,14 +127,14 @@ entriesAt s first (k ∷ ks) = entryAt s first k ∷ entriesAt s false ks
 -- the place of the list of response objects, where the text is JSON and an object with just one member "responses", a
 -- list
 unfoldable pub listOf : List ℕ → Found → Skip
-listOf s (At v) = pick (eqb (getD s v 0) 91) (Past v) Bad
+listOf s (At v) = pick (eqb (getD s v 0) (code "[")) (Past v) Bad
 listOf s Nothing = Bad
 listOf s Twice = Bad
 
 unfoldable pub listPlace : List ℕ → Skip
 listPlace s =
     pick (isText s)
-    (pick (eqb (getD s (pastWhile blank s 0) 0) 123) (listOf s (foundOf s responsesName 15 (pastWhile blank s 0))) Bad)
+    (pick (eqb (getD s (pastWhile blank s 0) 0) (code "{")) (listOf s (foundOf s responsesName inReport (pastWhile blank s 0))) Bad)
     Bad
 
 -- the entries of a report, or that the text is none
@@ -132,7 +143,7 @@ pub data Entries : Type 0 where
   unread : Entries
 
 unfoldable pub entriesFrom : List ℕ → Skip → Entries
-entriesFrom s (Past v) = pick (allOf s true (elementsOf s 14 v)) (these (entriesAt s true (elementsOf s 14 v))) unread
+entriesFrom s (Past v) = pick (allOf s true (elementsOf s inList v)) (these (entriesAt s true (elementsOf s inList v))) unread
 entriesFrom s Bad = unread
 
 unfoldable pub entriesOf : List ℕ → Entries

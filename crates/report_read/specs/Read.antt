@@ -1,11 +1,12 @@
 -- What the reader answers, and what it writes (request P7). Order: 24, 25, 19.
 use Prim.Native.Nat.{ℕ, _*_}
 use mathlib.Core.Bool.{Bool, false}
-use mathlib.Core.List.{List, [], _∷_, _++_}
+use mathlib.Core.List.{List, [], _∷_}
 use lib.Dec.{eqb, ltb}
 use lib.ListN.{length}
 use Rattle.laws.specs.Pick.{pick, either}
 use Rattle.refusal.specs.Refusal.{refusal}
+use Rattle.pile.specs.Layout.{RECORD, AREA}
 use Rattle.report_read.specs.declared.Read.{Read}
 use Rattle.report_read.specs.declared.Read.the-variants.{Records, Refused}
 use Rattle.report_read.specs.Entry.{Entry, Entries, these, unread}
@@ -18,7 +19,7 @@ readNumber (Refused why) = why .code
 
 -- a packet above 2,000 bytes
 unfoldable pub isBig : Entry → Bool
-isBig e = either (ltb 2000 (length (e .request))) (ltb 2000 (length (e .response)))
+isBig e = either (ltb AREA (length (e .request))) (ltb AREA (length (e .response)))
 
 unfoldable pub anyBig : List Entry → Bool
 anyBig [] = false
@@ -31,7 +32,7 @@ readOf (these es) room =
     pick (eqb (length es) 0) (Refused (refusal 25))
     (pick (ltb 16 (length es)) (Refused (refusal 25))
     (pick (anyBig es) (Refused (refusal 25))
-    (pick (ltb room (length es * 4096)) (Refused (refusal 19)) (Records (length es)))))
+    (pick (ltb room (length es * RECORD)) (Refused (refusal 19)) (Records (length es)))))
 readOf unread room = Refused (refusal 24)
 
 -- what is written where nothing is refused

@@ -9,6 +9,7 @@ use super::members::bytes_of;
 use super::members::is_32;
 use super::members::is_base64;
 use json_tokens::byte;
+use pile::layout::AREA;
 
 // The first entry's rand is not looked at; any other is 32 bytes.
 fn rand_good(s: &[u8], at: usize, first: bool) -> bool
@@ -26,7 +27,7 @@ pub fn has_all(s: &[u8], at: usize, first: bool) -> bool
     ensures { λ r. ⌜ r ≡ hasAll (now (s .entry)) first at ⌝ }
 {
     let b = byte(s, at);
-    if b != 123 {
+    if b != b'{' {
         return false;
     }
     if !rand_good(s, at, first) {
@@ -47,9 +48,9 @@ pub fn is_big(s: &[u8], at: usize, first: bool) -> bool
     ensures { λ r. ⌜ r ≡ isBig (entryAt (now (s .entry)) first at) ⌝ }
 {
     let q = bytes_of(s, at, b"request");
-    if 2000 < q {
+    if AREA < q {
         return true;
     }
     let a = bytes_of(s, at, b"response");
-    2000 < a
+    AREA < a
 }

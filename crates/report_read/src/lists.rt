@@ -3,9 +3,13 @@ ghost use mathlib.Core.Path.{_≡_};
 ghost use mathlib.Core.Bool.{true, false};
 ghost use Prim.Native.Nat.{_+_, _<_};
 ghost use lib.ListN.{length};
-ghost use Rattle.report_read.specs.Entry.{elementsOf, allOf, entriesAt, listOf, listPlace, responsesName};
+ghost use Rattle.report_read.specs.Entry.{inReport, inList, elementsOf, allOf, entriesAt, listOf, listPlace, responsesName};
 ghost use Rattle.json.specs.Members.{foundOf};
 ghost use Rattle.report_read.specs.Read.{anyBig};
+ghost use Rattle.report_read.specs.Ready.{Opens, Turns};
+use super::Element;
+use super::IN_LIST;
+use super::IN_REPORT;
 use super::entries::has_all;
 use super::entries::is_big;
 use json::Found;
@@ -20,12 +24,12 @@ use json_tokens::byte;
 // The list of response objects of the object at a place.
 fn list_in(s: &[u8], root: usize) -> Skip
     requires { ⌜ root < length (now s) ⌝ }
-    ensures { λ r. ⌜ r ≡ listOf (now (s .entry)) (foundOf (now (s .entry)) responsesName 15 root) ⌝ }
+    ensures { λ r. ⌜ r ≡ listOf (now (s .entry)) (foundOf (now (s .entry)) responsesName inReport root) ⌝ }
 {
-    match find(s, root, 15, b"responses") {
+    match find(s, root, IN_REPORT, b"responses") {
         Found::At(v) => {
             let b = byte(s, v);
-            if b == 91 { Skip::Past(v) } else { Skip::Bad }
+            if b == b'[' { Skip::Past(v) } else { Skip::Bad }
         }
         Found::Nothing => Skip::Bad,
         Found::Twice => Skip::Bad,
@@ -41,99 +45,88 @@ pub fn list_place(s: &[u8]) -> Skip
     }
     let root = blanks(s, 0);
     let b = byte(s, root);
-    if b == 123 {
+    if b == b'{' {
         list_in(s, root)
     } else {
         Skip::Bad
     }
 }
 
-// Each element is a response object.
-pub fn all_of(s: &[u8], v: usize) -> bool
+// The first element of the list at a place, or that it has none.
+pub fn first_item(s: &[u8], v: usize) -> Element
     requires { ⌜ v < length (now s) ⌝ }
-    ensures { λ r. ⌜ r ≡ allOf (now (s .entry)) true (elementsOf (now (s .entry)) 14 v) ⌝ }
+    ensures { λ r. ⌜ Opens (now (s .entry)) v r ⌝ }
 {
     let start = blanks(s, v + 1);
     let b = byte(s, start);
-    if b == 93 {
-        return true;
+    if b == b']' {
+        Element::Done
+    } else {
+        Element::At(start)
     }
-    let mut k = start;
+}
+
+// The element behind the one at a place, or that it is the last.
+pub fn next_item(s: &[u8], k: usize) -> Element
+    ensures { λ r. ⌜ Turns (now (s .entry)) k r ⌝ }
+{
+    match item(s, k, IN_LIST) {
+        Step::More(j) => Element::At(j),
+        Step::End(_) => Element::Done,
+        Step::Wrong => Element::Done,
+    }
+}
+
+// Each element is a response object.
+pub fn all_of(s: &[u8], v: usize) -> bool
+    requires { ⌜ v < length (now s) ⌝ }
+    ensures { λ r. ⌜ r ≡ allOf (now (s .entry)) true (elementsOf (now (s .entry)) inList v) ⌝ }
+{
+    let mut at = first_item(s, v);
     let mut first = true;
     loop {
+        let Element::At(k) = at else {
+            return true;
+        };
         if !has_all(s, k, first) {
             return false;
         }
         first = false;
-        match item(s, k, 14) {
-            Step::More(j) => {
-                k = j;
-            }
-            Step::End(_) => {
-                return true;
-            }
-            Step::Wrong => {
-                return true;
-            }
-        }
+        at = next_item(s, k);
     }
 }
 
 // How many elements there are.
 pub fn count(s: &[u8], v: usize) -> usize
     requires { ⌜ v < length (now s) ⌝ }
-    ensures { λ r. ⌜ r ≡ length (elementsOf (now (s .entry)) 14 v) ⌝ }
+    ensures { λ r. ⌜ r ≡ length (elementsOf (now (s .entry)) inList v) ⌝ }
 {
-    let start = blanks(s, v + 1);
-    let b = byte(s, start);
-    if b == 93 {
-        return 0;
-    }
-    let mut k = start;
-    let mut n = 1;
+    let mut at = first_item(s, v);
+    let mut n = 0;
     loop {
-        match item(s, k, 14) {
-            Step::More(j) => {
-                k = j;
-                n += 1;
-            }
-            Step::End(_) => {
-                return n;
-            }
-            Step::Wrong => {
-                return n;
-            }
-        }
+        let Element::At(k) = at else {
+            return n;
+        };
+        n += 1;
+        at = next_item(s, k);
     }
 }
 
 // Whether some packet is above 2,000 bytes.
 pub fn any_big(s: &[u8], v: usize) -> bool
-    requires { ⌜ (v < length (now s)) × (allOf (now s) true (elementsOf (now s) 14 v) ≡ true) ⌝ }
-    ensures { λ r. ⌜ r ≡ anyBig (entriesAt (now (s .entry)) true (elementsOf (now (s .entry)) 14 v)) ⌝ }
+    requires { ⌜ (v < length (now s)) × (allOf (now s) true (elementsOf (now s) inList v) ≡ true) ⌝ }
+    ensures { λ r. ⌜ r ≡ anyBig (entriesAt (now (s .entry)) true (elementsOf (now (s .entry)) inList v)) ⌝ }
 {
-    let start = blanks(s, v + 1);
-    let b = byte(s, start);
-    if b == 93 {
-        return false;
-    }
-    let mut k = start;
+    let mut at = first_item(s, v);
     let mut first = true;
     loop {
+        let Element::At(k) = at else {
+            return false;
+        };
         if is_big(s, k, first) {
             return true;
         }
         first = false;
-        match item(s, k, 14) {
-            Step::More(j) => {
-                k = j;
-            }
-            Step::End(_) => {
-                return false;
-            }
-            Step::Wrong => {
-                return false;
-            }
-        }
+        at = next_item(s, k);
     }
 }

@@ -4,6 +4,7 @@ ghost use mathlib.Core.Bool.{true, false};
 ghost use Prim.Native.Nat.{_+_, _<_};
 ghost use lib.ListN.{length};
 ghost use Rattle.report_read.specs.Entry.{textPlace, memberOf, is64, sizeIn, held, is32};
+use super::IN_ENTRY;
 use json::Found;
 use json::find;
 use json_base64::Size;
@@ -16,10 +17,10 @@ pub fn text_place(s: &[u8], at: usize, w: &[u8]) -> Skip
     requires { ⌜ at < length (now s) ⌝ }
     ensures { λ r. ⌜ r ≡ textPlace (now (s .entry)) at (now (w .entry)) ⌝ }
 {
-    match find(s, at, 13, w) {
+    match find(s, at, IN_ENTRY, w) {
         Found::At(v) => {
             let b = byte(s, v);
-            if b == 34 {
+            if b == b'"' {
                 Skip::Past(v + 1)
             } else {
                 Skip::Bad

@@ -4,21 +4,20 @@ ghost use mathlib.Core.Bool.{true, false};
 ghost use Prim.Native.Nat.{_+_, _*_, _≤_, _<_};
 ghost use lib.ListN.{length};
 ghost use Rattle.laws.specs.Pasted.{fronted};
-ghost use Rattle.report_read.specs.Entry.{elementsOf, allOf, entriesAt, entriesOf};
+ghost use Rattle.report_read.specs.Entry.{inList, elementsOf, allOf, entriesAt, entriesOf};
 ghost use Rattle.report_read.specs.Record.{recordsOf};
 ghost use Rattle.report_read.specs.Read.{anyBig, readOf, readNumber, pileBytes};
 ghost use Rattle.laws.specs.Written.{written};
+use super::Element;
 use super::Read;
 use super::lists::all_of;
 use super::lists::any_big;
 use super::lists::count;
+use super::lists::first_item;
 use super::lists::list_place;
+use super::lists::next_item;
 use super::records::put_record;
-use json::item;
 use json_tokens::Skip;
-use json_tokens::Step;
-use json_tokens::blanks;
-use json_tokens::byte;
 use pile::RECORD;
 use refusal::codes;
 use refusal::refuse;
@@ -26,38 +25,26 @@ use refusal::refuse;
 // The records of all.
 fn put_all(s: &[u8], v: usize, out: &mut [u8])
     requires { ⌜
-        (v < length (now s)) × ((allOf (now s) true (elementsOf (now s) 14 v) ≡ true)
-        × ((anyBig (entriesAt (now s) true (elementsOf (now s) 14 v)) ≡ false)
-        × (length (recordsOf (entriesAt (now s) true (elementsOf (now s) 14 v))) ≤ length (now out))))
+        (v < length (now s)) × ((allOf (now s) true (elementsOf (now s) inList v) ≡ true)
+        × ((anyBig (entriesAt (now s) true (elementsOf (now s) inList v)) ≡ false)
+        × (length (recordsOf (entriesAt (now s) true (elementsOf (now s) inList v))) ≤ length (now out))))
         ⌝ }
     ensures { λ _. ⌜
         now (out .exit)
-        ≡ fronted (recordsOf (entriesAt (now (s .entry)) true (elementsOf (now (s .entry)) 14 v))) (now (out .entry))
+        ≡ fronted (recordsOf (entriesAt (now (s .entry)) true (elementsOf (now (s .entry)) inList v))) (now (out .entry))
         ⌝ }
 {
-    let start = blanks(s, v + 1);
-    let b = byte(s, start);
-    if b == 93 {
-        return;
-    }
-    let mut k = start;
+    let mut item = first_item(s, v);
     let mut first = true;
     let mut at = 0;
     loop {
+        let Element::At(k) = item else {
+            return;
+        };
         put_record(s, k, first, out, at);
         first = false;
         at += RECORD;
-        match item(s, k, 14) {
-            Step::More(j) => {
-                k = j;
-            }
-            Step::End(_) => {
-                return;
-            }
-            Step::Wrong => {
-                return;
-            }
-        }
+        item = next_item(s, k);
     }
 }
 

@@ -1,13 +1,14 @@
 // The record of an entry.
 ghost use mathlib.Core.Path.{_≡_};
 ghost use mathlib.Core.List.{_++_};
-ghost use Prim.Native.Nat.{_+_, _≤_, _<_};
+ghost use Prim.Native.Nat.{_+_, _*_, _≤_, _<_};
 ghost use lib.ListN.{length};
 ghost use Rattle.laws.specs.Pasted.{pasted};
 ghost use Rattle.report_read.specs.Entry.{memberOf, held, entryAt};
 ghost use Rattle.report_read.specs.Ready.{Ready};
 ghost use Rattle.report_read.specs.Record.{recordOf};
 ghost use Rattle.laws.specs.Numbers.{leBytes};
+ghost use Rattle.pile.specs.Layout.{REQUEST-LENGTH, RECORD, AREA};
 ghost use Rattle.pile.specs.Recording.{padded};
 use super::members::bytes_of;
 use super::members::text_place;
@@ -17,6 +18,11 @@ use octets::clear;
 use octets::le32_bytes;
 use octets::put;
 use octets::zero;
+use pile::layout::AREA;
+use pile::layout::RAND;
+use pile::layout::REQUEST;
+use pile::layout::REQUEST_LENGTH;
+use pile::layout::ZEROS;
 
 // The bytes that a member stands for, and zeros past them.
 fn fill_member(s: &[u8], k: usize, w: &[u8], out: &mut [u8])
@@ -72,7 +78,7 @@ fn put_sizes(out: &mut [u8], at: usize, request: u32, response: u32)
 
 // The key and the rand.
 fn put_names(s: &[u8], k: usize, first: bool, out: &mut [u8], at: usize)
-    requires { ⌜ Ready (now s) first k × (at + 64 ≤ length (now out)) ⌝ }
+    requires { ⌜ Ready (now s) first k × (at + REQUEST-LENGTH ≤ length (now out)) ⌝ }
     ensures { λ _. ⌜
         now (out .exit)
         ≡ pasted (now (out .entry)) at
@@ -80,32 +86,32 @@ fn put_names(s: &[u8], k: usize, first: bool, out: &mut [u8], at: usize)
         ⌝ }
 {
     put_member(s, k, b"publicKey", out, at, 32);
-    put_rand(s, k, first, out, at + 32);
+    put_rand(s, k, first, out, at + RAND);
 }
 
 // The two areas.
 fn put_packets(s: &[u8], k: usize, first: bool, out: &mut [u8], at: usize)
-    requires { ⌜ Ready (now s) first k × (at + 4000 ≤ length (now out)) ⌝ }
+    requires { ⌜ Ready (now s) first k × (at + 2 * AREA ≤ length (now out)) ⌝ }
     ensures { λ _. ⌜
         now (out .exit)
         ≡ pasted (now (out .entry)) at
-        (padded 2000 (entryAt (now (s .entry)) first k .request)
-        ++ padded 2000 (entryAt (now (s .entry)) first k .response))
+        (padded AREA (entryAt (now (s .entry)) first k .request)
+        ++ padded AREA (entryAt (now (s .entry)) first k .response))
         ⌝ }
 {
-    put_member(s, k, b"request", out, at, 2000);
-    put_member(s, k, b"response", out, at + 2000, 2000);
+    put_member(s, k, b"request", out, at, AREA);
+    put_member(s, k, b"response", out, at + AREA, AREA);
 }
 
 // The record of a response object.
 pub fn put_record(s: &[u8], k: usize, first: bool, out: &mut [u8], at: usize)
-    requires { ⌜ Ready (now s) first k × (at + 4096 ≤ length (now out)) ⌝ }
+    requires { ⌜ Ready (now s) first k × (at + RECORD ≤ length (now out)) ⌝ }
     ensures { λ _. ⌜ now (out .exit) ≡ pasted (now (out .entry)) at (recordOf (entryAt (now (s .entry)) first k)) ⌝ }
 {
     let q = bytes_of(s, k, b"request");
     let a = bytes_of(s, k, b"response");
     put_names(s, k, first, out, at);
-    put_sizes(out, at + 64, q as u32, a as u32);
-    zero(out, at + 72, at + 96);
-    put_packets(s, k, first, out, at + 96);
+    put_sizes(out, at + REQUEST_LENGTH, q as u32, a as u32);
+    zero(out, at + ZEROS, at + REQUEST);
+    put_packets(s, k, first, out, at + REQUEST);
 }

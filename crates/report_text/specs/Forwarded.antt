@@ -13,6 +13,7 @@ use Rattle.report_read.specs.declared.Read.{Read}
 use Rattle.report_read.specs.declared.Read.the-variants as read
 use Rattle.report_write.specs.Entries.{textOf}
 use Rattle.laws.specs.Pasted.{part}
+use Rattle.pile.specs.Layout.{RECORD}
 use Rattle.pile_report.specs.Taking.{Takes}
 use Rattle.pile_report.specs.declared.Taken.{Taken}
 use Rattle.pile_report.specs.declared.Taken.the-variants as taken
@@ -27,7 +28,7 @@ roomed i j text room = cond (ltb room (length text)) (Refused (refusal 19)) (Tex
 -- the answer, from what the cutter says of a pile where it has room enough: the text of the run is that of its records
 -- as they stand, since the rand of the first is not written
 abbrev pub cutOf : List ℕ → ℕ → Taken → Forwarded
-cutOf pile room (taken.Run i j) = roomed i j (textOf (part (4096 * i) (4096 * j + 4096) pile)) room
+cutOf pile room (taken.Run i j) = roomed i j (textOf (part (RECORD * i) (RECORD * j + RECORD) pile)) room
 cutOf pile room (taken.Refused why) = Refused why
 
 pub record CutsText (pile answers : List ℕ) (room : ℕ) (r : Forwarded) : Type 0 where
@@ -54,5 +55,5 @@ forwardedNumber (Refused why) = why .code
 
 -- what is written, by the answer
 abbrev pub forwardedBytes : Forwarded → List ℕ → List ℕ
-forwardedBytes (Text i j n) pile = textOf (part (4096 * i) (4096 * j + 4096) pile)
+forwardedBytes (Text i j n) pile = textOf (part (RECORD * i) (RECORD * j + RECORD) pile)
 forwardedBytes (Refused why) pile = []

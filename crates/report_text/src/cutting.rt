@@ -4,6 +4,7 @@ ghost use Prim.Native.Nat.{_+_, _*_, _≤_};
 ghost use lib.ListN.{length};
 ghost use Rattle.laws.specs.Pasted.{part};
 ghost use Rattle.laws.specs.Written.{written};
+ghost use Rattle.pile.specs.Layout.{RECORD};
 ghost use Rattle.report_write.specs.Entries.{textOf};
 ghost use Rattle.report_write.specs.Pieces.{Writable};
 ghost use Rattle.pile_signed.specs.OwnAnswers.{ownAnswers};
@@ -25,14 +26,14 @@ use report_write::put_report;
 // The text of records i to j, at the front of out. The rand of the first is not written, so that it need not be zero.
 fn put_cut(pile: &[u8], i: usize, j: usize, out: &mut [u8]) -> Forwarded
     requires { ⌜
-        (i ≤ j) × ((4096 * j + 4096 ≤ length (now pile)) × Writable (part (4096 * i) (4096 * j + 4096) (now pile)))
+        (i ≤ j) × ((RECORD * j + RECORD ≤ length (now pile)) × Writable (part (RECORD * i) (RECORD * j + RECORD) (now pile)))
         ⌝ }
     ensures { λ r. ⌜
-        r ≡ roomed i j (textOf (part (4096 * i) (4096 * j + 4096) (now (pile .entry)))) (length (now (out .entry)))
+        r ≡ roomed i j (textOf (part (RECORD * i) (RECORD * j + RECORD) (now (pile .entry)))) (length (now (out .entry)))
         ⌝ }
     ensures { λ r. ⌜
         now (out .exit)
-        ≡ written (forwardedNumber r) (textOf (part (4096 * i) (4096 * j + 4096) (now (pile .entry))))
+        ≡ written (forwardedNumber r) (textOf (part (RECORD * i) (RECORD * j + RECORD) (now (pile .entry))))
         (now (out .entry))
         ⌝ }
 {

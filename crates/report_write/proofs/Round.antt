@@ -33,7 +33,8 @@ use Rattle.base64.proofs.Codec.{decode-encode}
 use Rattle.report_read.specs.Entry.{Entry, randName, keyName, requestName, responseName, responsesName, stringOf, textPlace}
 use Rattle.report_read.specs.Entry.{memberOf, is64, is32, held, randGood, hasAll, entryAt, elementsOf, allOf, entriesAt}
 use Rattle.report_read.specs.Entry.{listOf, listPlace, these, entriesFrom, entriesOf}
-use Rattle.report_read.proofs.Elements.{from, elements-from, from-more, from-end}
+use Rattle.report_read.specs.Ready.{from}
+use Rattle.report_read.proofs.Elements.{elements-from, from-more, from-end}
 use Rattle.report_write.specs.Text.{restText, entryText, entriesText, jsonOf}
 use Rattle.report_write.proofs.Letters.{each-encode, rand-each, key-each, request-each, response-each, responses-each}
 

@@ -1,4 +1,5 @@
 -- For the private functions: the pieces that are put one behind the other, and the records that can be written.
+use Prim.Native.Char.{code}
 use Prim.Native.Nat.{ℕ, zero, suc, _+_, _*_, _≤_, _<_}
 use mathlib.Core.Bool.{Bool, true, false}
 use mathlib.Core.List.{List, [], _∷_, _++_}
@@ -7,6 +8,7 @@ use lib.ListN.{length}
 use Rattle.base64.specs.Encode.{encode64}
 use Rattle.report_read.specs.Entry.{Entry}
 use Rattle.laws.specs.Ascii.{ascii}
+use Rattle.pile.specs.Layout.{RECORD, AREA}
 use Rattle.pile.specs.Pile.{recordsIn, recordAt, requestLength, responseLength}
 use Rattle.report_write.specs.Entries.{entryOf, entriesIn}
 use Rattle.report_write.specs.Text.{entriesText}
@@ -40,22 +42,22 @@ packetsOf e = piece requestWord (e .request) ++ piece responseWord (e .response)
 
 -- an entry's object: its head, its packets, and `"}`
 unfoldable pub objectText : Bool → Entry → List ℕ
-objectText first e = headOf first e ++ packetsOf e ++ (34 ∷ 125 ∷ [])
+objectText first e = headOf first e ++ packetsOf e ++ ascii "\"}"
 
 -- the objects of n records from record k on, with commas between them, the closing bracket and brace
 unfoldable pub listText : List ℕ → Bool → ℕ → ℕ → List ℕ
 listText p first zero k = []
-listText p first (suc m) k = entriesText first (entryOf (recordAt p k)) (entriesIn m p (k + 1)) (125 ∷ [])
+listText p first (suc m) k = entriesText first (entryOf (recordAt p k)) (entriesIn m p (k + 1)) (code "}" ∷ [])
 
 -- a record whose packets lie within their areas
 pub record Fits (r : List ℕ) : Type 0 where
-  pub long : length r ≡ 4096
-  pub request : requestLength r ≤ 2000
-  pub response : responseLength r ≤ 2000
+  pub long : length r ≡ RECORD
+  pub request : requestLength r ≤ AREA
+  pub response : responseLength r ≤ AREA
 
 -- such a record stands at place k of a pile
 pub record Recorded (p : List ℕ) (k : ℕ) : Type 0 where
-  pub inside : 4096 * k + 4096 ≤ length p
+  pub inside : RECORD * k + RECORD ≤ length p
   pub fits : Fits (recordAt p k)
 
 -- n such records stand there from place k on, one at least

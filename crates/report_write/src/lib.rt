@@ -8,6 +8,12 @@ pub use publishing::put_report;
 pub use publishing::write_report;
 use refusal::Refusal;
 
+// The lengths of {"responses":[ before the first object,
+const OPENING: usize = 14;
+
+// and of ]} behind the last.
+const CLOSING: usize = 2;
+
 // The length of the longest text there can be: of 16 records whose packets have 2,000 bytes each.
 pub const LONGEST: usize = 87_609;
 

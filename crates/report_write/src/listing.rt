@@ -7,6 +7,7 @@ ghost use Rattle.laws.specs.Pasted.{fronted};
 ghost use Rattle.report_write.specs.Entries.{entriesIn};
 ghost use Rattle.report_write.specs.Pieces.{listText, Piled};
 ghost use Rattle.report_write.specs.Text.{jsonOf};
+use super::OPENING;
 use super::pieces::put_object;
 use octets::put;
 use pile::record_at;
@@ -41,5 +42,5 @@ pub fn put_text(out: &mut [u8], p: &[u8], n: usize)
     ensures { λ _. ⌜ now (out .exit) ≡ fronted (jsonOf (entriesIn n (now (p .entry)) 0)) (now (out .entry)) ⌝ }
 {
     put(out, 0, b"{\"responses\":[");
-    put_list(&mut out[14..], p, n);
+    put_list(&mut out[OPENING..], p, n);
 }

@@ -4,10 +4,13 @@ ghost use Prim.Native.Nat.{_+_, _≤_};
 ghost use lib.ListN.{length};
 ghost use Rattle.base64.specs.Encode.{encode64};
 ghost use Rattle.laws.specs.Written.{Puts};
+ghost use Rattle.pile.specs.Layout.{RECORD};
 ghost use Rattle.report_write.specs.Entries.{entryOf};
 ghost use Rattle.report_write.specs.Pieces.{piece, headOf, packetsOf, objectText, Fits};
 use base64::encode;
 use octets::put;
+use pile::key_of;
+use pile::rand_of;
 use pile::request_of;
 use pile::response_of;
 
@@ -32,14 +35,14 @@ fn put_piece(out: &mut [u8], at: usize, w: &[u8], s: &[u8]) -> usize
 
 // The rand and the key; of the first object the key alone.
 fn put_head(out: &mut [u8], at: usize, r: &[u8], first: bool) -> usize
-    requires { ⌜ (length (now r) ≡ 4096) × (at + length (headOf first (entryOf (now r))) ≤ length (now out)) ⌝ }
+    requires { ⌜ (length (now r) ≡ RECORD) × (at + length (headOf first (entryOf (now r))) ≤ length (now out)) ⌝ }
     ensures { λ x. ⌜ Puts (now (out .entry)) at (headOf first (entryOf (now (r .entry)))) (now (out .exit)) x ⌝ }
 {
     if first {
-        return put_piece(out, at, b"{\"publicKey\":\"", &r[0..32]);
+        return put_piece(out, at, b"{\"publicKey\":\"", key_of(r));
     }
-    let k = put_piece(out, at, b"{\"rand\":\"", &r[32..64]);
-    put_piece(out, k, b"\",\"publicKey\":\"", &r[0..32])
+    let k = put_piece(out, at, b"{\"rand\":\"", rand_of(r));
+    put_piece(out, k, b"\",\"publicKey\":\"", key_of(r))
 }
 
 // The two packets.

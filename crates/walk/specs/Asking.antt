@@ -7,13 +7,13 @@ use lib.Dec.{eqb, ltb}
 use Rattle.refusal.specs.Refusal.{first, when, passed}
 use Rattle.refusal.specs.declared.Refusal.{Refusal}
 use Rattle.wire_packet.specs.Blank.{zeros32}
-use Rattle.walk.specs.State.{overOf, serverOf}
+use Rattle.walk.specs.State.{ASKED, overOf, serverOf}
 use Rattle.walk.specs.declared.Walk.{Walk}
 use Rattle.walk.specs.declared.Asked.{Asked}
 
--- with a buffer of room bytes; our request has 1,036
+-- with a buffer of room bytes
 unfoldable pub askCode : Walk → ℕ → Refusal
-askCode w room = first (when (overOf w) 28 ∷ when (ltb room 1036) 19 ∷ [])
+askCode w room = first (when (overOf w) 28 ∷ when (ltb room ASKED) 19 ∷ [])
 
 unfoldable pub askedOf : Walk → ℕ → Asked
 askedOf w room =

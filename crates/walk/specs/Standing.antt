@@ -5,6 +5,7 @@ use mathlib.Core.Path.{_≡_}
 use mathlib.Core.Bool.{true, false}
 use mathlib.Core.List.{List}
 use lib.ListN.{length, take, replicate}
+use Rattle.pile.specs.Layout.{RECORD}
 use Rattle.hash.specs.Hashes.{linkOf}
 use Rattle.laws.specs.Pasted.{fronted}
 use Rattle.wire_message.specs.Tags.{NONC}
@@ -41,7 +42,7 @@ pub record InStep (keys nonce : List ℕ) (most : ℕ) (w : Walk) (buffer : List
   pub whole : length keys ≡ 32 * w .count
   pub up-to : w .step ≤ 2 * w .count
   -- the buffer has room for all records
-  pub room : 8192 * w .count ≤ length buffer
+  pub room : 2 * RECORD * w .count ≤ length buffer
   pub nonce-long : length (w .nonce) ≡ 32
   pub rand-long : length (w .rand) ≡ 32
   -- record k is of server k of the first round, or of the second

@@ -4,6 +4,7 @@ use mathlib.Core.Bool.{Bool, not, cond}
 use mathlib.Core.List.{List, [], _∷_}
 use lib.Dec.{eqb, ltb}
 use lib.ListN.{length, replicate}
+use Rattle.pile.specs.Layout.{RECORD}
 use Rattle.laws.specs.Any.{any}
 use Rattle.laws.specs.Least.{somewhere}
 use Rattle.laws.specs.Pasted.{fronted}
@@ -37,7 +38,7 @@ keysBad keys =
 
 -- 31, then 19: the buffer, of room bytes, is under two records a server
 unfoldable pub startCode : List ℕ → ℕ → Refusal
-startCode keys room = first (when (keysBad keys) 31 ∷ when (ltb room (8192 * serversIn keys)) 19 ∷ [])
+startCode keys room = first (when (keysBad keys) 31 ∷ when (ltb room (2 * RECORD * serversIn keys)) 19 ∷ [])
 
 -- what a refused start hands out: it has no servers, so that every call on it is a call after the end
 unfoldable pub blankWalk : Walk

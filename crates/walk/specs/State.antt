@@ -30,6 +30,10 @@ serverOf w = w .step % w .count
 unfoldable pub keyOf : Walk → List ℕ
 keyOf w = keyAt (w .keys) (serverOf w)
 
+-- how long our request is (document 01, "Our written request")
+abbrev pub ASKED : ℕ
+ASKED = 1036
+
 -- the request that is asked is the one that we write
 unfoldable pub requestNow : Walk → List ℕ
 requestNow w = requestBytes (keyOf w) (w .nonce)

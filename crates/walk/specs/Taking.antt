@@ -8,6 +8,7 @@ use lib.ListN.{length, take, replicate}
 use Rattle.hash.specs.Hashes.{linkOf}
 use Rattle.laws.specs.Any.{any}
 use Rattle.laws.specs.Pasted.{pasted}
+use Rattle.pile.specs.Layout.{RECORD}
 use Rattle.pile.specs.Recording.{recordBytes}
 use Rattle.refusal.specs.Refusal.{first, when}
 use Rattle.refusal.specs.declared.Refusal.{Refusal}
@@ -42,7 +43,7 @@ unfoldable pub takeCode : Walk → Heard → List ℕ → ℕ → Refusal
 takeCode w h response room =
     first
     (when (overOf w) 28
-    ∷ when (ltb room (8192 * w .count)) 19
+    ∷ when (ltb room (2 * RECORD * w .count)) 19
     ∷ when (clockWrong w h) 26
     ∷ when (tooSlow w h) 27
     ∷ responseCodeNow w h response
@@ -60,7 +61,7 @@ recordNow w response = recordBytes (keyOf w) (w .rand) (requestNow w) response
 
 -- the buffer with that record behind those before it; every other byte stays
 abbrev pub recorded : Walk → List ℕ → List ℕ → List ℕ
-recorded w response buffer = pasted buffer (4096 * w .step) (recordNow w response)
+recorded w response buffer = pasted buffer (RECORD * w .step) (recordNow w response)
 
 -- the state behind it: the next nonce is H(response, rand)
 unfoldable pub movedOn : Walk → Heard → List ℕ → Walk
@@ -79,7 +80,7 @@ movedOn w h response =
 
 -- the pile of n records at the front of a buffer, and as many answers: all yes
 abbrev pub pileOf : ℕ → List ℕ → List ℕ
-pileOf n buffer = take (4096 * n) buffer
+pileOf n buffer = take (RECORD * n) buffer
 
 abbrev pub allYes : ℕ → List ℕ
 allYes n = replicate (2 * n) 1

@@ -13,6 +13,9 @@ use refusal::codes;
 use refusal::refuse;
 use wire_request::write_request;
 
+// How long our request is (document 01, "Our written request").
+pub const ASKED: usize = 1036;
+
 // The request of this step, at the front of out. The state is not changed, so that asking again gives the same.
 pub fn ask(w: Walk, out: &mut [u8]) -> Asked
     ensures { λ r. ⌜ r ≡ askedOf w (length (now (out .entry))) ⌝ }
@@ -43,7 +46,7 @@ fn ask_code(w: Walk, room: usize) -> Refusal
     if over(w) {
         return refuse(codes::ENDED);
     }
-    if room < 1036 {
+    if room < ASKED {
         return refuse(codes::ROOM);
     }
     PASSED
@@ -73,13 +76,13 @@ pub fn key_of(w: Walk) -> [u8; 32]
 }
 
 // The request that is asked.
-pub fn request_now(w: Walk) -> [u8; 1036]
+pub fn request_now(w: Walk) -> [u8; ASKED]
     requires { ⌜ Going w ⌝ }
     ensures { λ r. ⌜ r ≡ requestNow w ⌝ }
 {
     let key = key_of(w);
     let nonce = w.nonce;
-    let mut q = [0u8; 1036];
+    let mut q = [0u8; ASKED];
     write_request(key, nonce, &mut q);
     q
 }

@@ -4,6 +4,7 @@ ghost use Prim.Native.Nat.{_*_, _≤_};
 ghost use lib.ListN.{length};
 ghost use Rattle.wire_packet.specs.Packet.{body};
 ghost use Rattle.check_response.specs.Check.{windowIn, verdictOf};
+ghost use Rattle.pile.specs.Layout.{RECORD};
 ghost use Rattle.walk.specs.State.{Going, requestNow};
 ghost use Rattle.walk.specs.Taking.{clockWrong, takeCode, takeVerdict, movedOn, SaidOf, Takes};
 ghost use Rattle.walk.specs.Taking.{saidNumber, walkAfter, pileAfter};
@@ -118,7 +119,7 @@ fn verdict_now(w: Walk, h: Heard, response: &[u8]) -> Verdict
 // What is said of a response with this window once its record is written: the last one ends the walk, with what the
 // report check says of the pile.
 fn said_of(w: Walk, window: Window, pile: &[u8]) -> Said
-    requires { ⌜ Going w × (8192 * w .count ≤ length (now pile)) ⌝ }
+    requires { ⌜ Going w × (2 * RECORD * w .count ≤ length (now pile)) ⌝ }
     ensures { λ r. ⌜ SaidOf w window (now (pile .entry)) r ⌝ }
 {
     let n = 2 * w.count;

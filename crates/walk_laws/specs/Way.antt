@@ -6,6 +6,7 @@ use mathlib.Core.Path.{_≡_}
 use mathlib.Core.List.{List}
 use lib.ListN.{length, take}
 use Rattle.laws.specs.Written.{written}
+use Rattle.pile.specs.Layout.{RECORD}
 use Rattle.pile.specs.Pile.{recordsIn}
 use Rattle.pile_report.specs.Report.{Reports}
 use Rattle.pile_report.specs.Taking.{runBytes}
@@ -58,8 +59,8 @@ pub record Accepted (pile : List ℕ) (i j : ℕ) : Type 0 where
 -- what stands there
 pub record Arrived (pile : List ℕ) (i j : ℕ) (x : Read) (left : List ℕ) : Type 0 where
   pub answer : x ≡ Records (recordsIn pile)
-  pub same : take (4096 * recordsIn pile) left ≡ pile
-  pub accepted : Accepted (take (4096 * recordsIn pile) left) i j
+  pub same : take (RECORD * recordsIn pile) left ≡ pile
+  pub accepted : Accepted (take (RECORD * recordsIn pile) left) i j
 
 -- the text is a report in draft 19's words (8.4.1), with an entry a record, and the pile arrives at whoever reads it;
 -- 65,536 bytes are room for 16 records

@@ -18,8 +18,8 @@ pub enum Existing {
     Replaced,
 }
 
-/// Writes a file. Where it exists and is to be kept, the error is `AlreadyExists`, also where
-/// somebody else made it in the meantime.
+/// Writes a file. Where it exists and is to be kept, the error is `AlreadyExists`; also where
+/// somebody else made it in the meantime, where the file system has hard links.
 pub fn write(file: &Path, bytes: &[u8], existing: Existing) -> io::Result<()> {
     match fs::metadata(file) {
         Ok(_) if existing == Existing::Kept => Err(ErrorKind::AlreadyExists.into()),

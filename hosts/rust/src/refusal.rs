@@ -8,7 +8,7 @@ use core::fmt;
 /// DELE, each by codes 4 to 7, and 8 comes after them all.
 #[derive(Clone, Copy, Debug, PartialEq, Eq, Hash)]
 #[must_use]
-// Between the two marks stands what tools/codes makes of the library's own table.
+// Between the two marks stands what cargo xtask codes makes of the library's own table.
 // codes: begin
 pub enum Refusal {
     /// the packet has under 12 or over 2,000 bytes

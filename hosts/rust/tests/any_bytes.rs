@@ -39,11 +39,15 @@ mod any_trial;
 mod any_walks;
 #[path = "support/any_wrong.rs"]
 mod any_wrong;
+#[path = "../shared/whole.rs"]
+mod whole;
 
 use any_run::{Plan, Run, KEPT_SEED};
 use std::collections::{BTreeMap, BTreeSet};
+use std::io::Read;
 use std::path::{Path, PathBuf};
 use std::{env, fs};
+use whole::Existing;
 
 #[test]
 fn every_export_of_the_header_is_in_the_table() {
@@ -114,8 +118,29 @@ fn lines(run: &Run) -> impl Iterator<Item = (String, String)> + '_ {
 fn keep(runs: &[Run]) {
     let text: String =
         runs.iter().flat_map(lines).map(|(of, digest)| format!("{of} {digest}\n")).collect();
-    fs::write(file(), text).unwrap_or_else(|error| panic!("the digests: {error}"));
+    put(&file(), &text);
     println!("the digests of this run are kept from now on");
+}
+
+/// Whole or not at all, lest half of them be kept.
+fn put(file: &Path, text: &str) {
+    whole::write(file, text.as_bytes(), Existing::Replaced)
+        .unwrap_or_else(|error| panic!("the digests: {error}"));
+}
+
+/// Who reads the old ones meanwhile reads them to their end: nothing is written over.
+#[test]
+fn what_is_kept_takes_the_place_of_the_old_in_one_step() {
+    let folder = Path::new(env!("CARGO_TARGET_TMPDIR")).join("kept digests");
+    fs::create_dir_all(&folder).expect("the folder of a test");
+    let file = folder.join("digest");
+    put(&file, "the old ones");
+    let mut reader = fs::File::open(&file).expect("they are there");
+    put(&file, "new");
+    let mut old = String::new();
+    reader.read_to_string(&mut old).expect("it is text");
+    assert_eq!((&old[..], fs::read_to_string(&file).unwrap()), ("the old ones", "new".into()));
+    assert_eq!(fs::read_dir(&folder).expect("it is there").count(), 1);
 }
 
 fn as_kept(runs: &[Run], whole: bool) {

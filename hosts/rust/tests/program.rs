@@ -44,13 +44,13 @@ fn printed(room: &Room, flags: &[&str], files: &[String], each: usize) -> String
 #[test]
 fn files_alone_are_told_of_by_the_proved_program() {
     let room = Room::new("plain");
-    assert_eq!(printed(&room, &[], &arguments("cases"), 2), due("cases"));
-    assert_eq!(printed(&room, &[], &arguments("alone"), 1), due("alone"));
+    assert_eq!(printed(&room, &[], &arguments("trawl_cases"), 2), due("trawl_cases"));
+    assert_eq!(printed(&room, &[], &arguments("trawl_alone"), 1), due("trawl_alone"));
     assert_eq!(printed(&room, &["--"], &arguments("trawl"), 2), due("trawl"));
     let sample = room.run::<&str>(&[]);
     assert_eq!((sample.out, sample.status), (due("trawl"), Some(0)));
     assert!(sample.said.starts_with("trawl: no pile is named"), "{}", sample.said);
-    let files = arguments("cases").len() / 2 + arguments("alone").len();
+    let files = arguments("trawl_cases").len() / 2 + arguments("trawl_alone").len();
     println!("the command: {files} sets of files, by the proved program as it is installed");
 }
 
@@ -64,7 +64,7 @@ fn judging_prints_the_same_lines() {
             files.chunks(each).filter(|set| set.iter().all(|file| Path::new(file).is_file()));
         sets.flatten().cloned().collect::<Vec<String>>()
     };
-    for (files, each) in [(there("alone", 1), 1), (there("cases", 2), 2)] {
+    for (files, each) in [(there("trawl_alone", 1), 1), (there("trawl_cases", 2), 2)] {
         let ours = printed(&room, &["--judge"], &files, each);
         assert_eq!(ours, printed(&room, &[], &files, each));
         println!("judging: {} sets of files as the proved program", files.len() / each);
@@ -313,15 +313,18 @@ fn what_follows_two_dashes_are_files() {
 #[test]
 fn a_pipe_is_read_once() {
     let room = Room::new("pipe");
-    let pile =
-        fs::File::open(format!("{ROOT}/crates/trawl_alone/data/appendix.pile")).expect("it is kept");
+    let pile = fs::File::open(format!("{ROOT}/crates/trawl_alone/data/appendix.pile"))
+        .expect("it is kept");
     let mut cat = Command::new("cat").stdin(pile).stdout(Stdio::piped()).spawn().expect("cat runs");
     let mut command = room.command(&["/dev/stdin"]);
-    let ran = command.stdin(cat.stdout.take().expect("it is piped")).output().expect("it runs");
+    let ran = command.stdin(cat.stdout.take().expect("it is piped")).output().map(Ran::of);
+    let ran = ran.expect("it runs");
     cat.wait().expect("cat ends");
-    let due: String = due("alone").lines().take(5).map(|line| format!("{line}\n")).collect();
-    assert_eq!(String::from_utf8(ran.stdout), Ok(due));
-    assert_eq!((ran.stderr, ran.status.code()), (vec![], Some(0)));
+    let due: String = due("trawl_alone").lines().take(5).map(|line| format!("{line}\n")).collect();
+    assert_eq!((ran.out, ran.status), (due, Some(0)));
+    // Of what cannot be read again nothing is said but this.
+    assert!(ran.said.starts_with("trawl: whose keys these are nobody"), "{}", ran.said);
+    assert_eq!(ran.said.lines().count(), 1, "{}", ran.said);
 }
 
 /// A pipe that has a name, and one that has none, for each action.

@@ -111,6 +111,26 @@ fn a_key_in_no_list_has_a_status_of_its_own() {
     assert!(told.said.contains("nobody has looked up; --servers LIST does"), "{}", told.said);
 }
 
+/// The proved program takes no list, and what it prints names no key: that is said beside it, where
+/// a run convicts and nowhere else.
+#[test]
+fn of_files_alone_it_is_said_that_nobody_looked() {
+    let room = Room::new("alone");
+    let said =
+        "trawl: whose keys these are nobody has looked up; --judge PILE --servers LIST does\n";
+    let whole = appendix::pile().pile;
+    let (pile, one) = (room.put("pile", &whole), room.put("one", &whole[..4096]));
+    let answers = room.put("answers", &[1; 6]);
+    for words in [&[pile][..], &[pile, "--status"], &[pile, answers, "--status"]] {
+        let told = room.run(words);
+        assert_eq!((told.status, &told.said[..]), (Some(0), said), "{words:?}");
+    }
+    for (words, due) in [(&[one][..], 0), (&[one, "--status"][..], 3)] {
+        let told = room.run(words);
+        assert_eq!((told.status, &told.said[..]), (Some(due), ""), "{words:?}");
+    }
+}
+
 /// Such a report as an attacker makes: everything in it verifies, under keys that he made.
 #[test]
 fn a_forged_report_convicts_by_its_keys_alone() {

@@ -1,8 +1,10 @@
 //! The whole of a check with a real Ed25519, OpenSSL's: the signatures of draft 19's report verify
 //! under its keys, over the texts and with the parts that the library hands out, and nothing else
-//! does.
+//! does. The examples that ask OpenSSL are tried here, too, where they cannot write what they found.
 
 mod openssl;
+#[path = "support/written.rs"]
+mod written;
 
 use independent::appendix::{self, Entry};
 use openssl::{by_the_parts, text, verifies, Signer};
@@ -112,4 +114,10 @@ fn a_library_that_fails_has_said_no() {
         assert_eq!(code(1, no), Refusal::Signature.code());
         assert_eq!(code(no, no), Refusal::Delegation.code());
     }
+}
+
+#[test]
+fn the_examples_write_or_are_no_success() {
+    written::or_no_success("console", &[]);
+    written::or_no_success("server", &["1773685571"]);
 }

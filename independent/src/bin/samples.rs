@@ -9,8 +9,10 @@ use independent::pieces::{put, Pieces};
 use independent::pile::RECORD;
 use independent::signing::{self, Keys};
 use independent::tag::{MAXT, NONC, ROOT, SIG, TYPE};
+use std::fs::{self, File};
+use std::io::{self, Write};
 use std::path::Path;
-use std::{env, fs, io, process};
+use std::{env, process};
 
 /// Changes what a response says so that it is refused with this code, where that is its own fault.
 fn spoil_pieces(code: u8, pieces: &mut Pieces) {
@@ -247,15 +249,28 @@ fn samples() -> Vec<(&'static str, Made)> {
     ]
 }
 
+/// Writes a file whole or not at all: as long as it is not whole and on the disk, it has another
+/// name.
+fn put_file(file: &Path, bytes: &[u8]) -> io::Result<()> {
+    let beside = file.with_extension("new");
+    let fill = |mut new: File| new.write_all(bytes).and_then(|()| new.sync_all());
+    let put = File::create(&beside).and_then(fill).and_then(|()| fs::rename(&beside, file));
+    if put.is_err() {
+        // It was made here, or is not there.
+        let _ = fs::remove_file(&beside);
+    }
+    put
+}
+
 fn write(folder: &Path) -> io::Result<()> {
     fs::create_dir_all(folder)?;
     for (name, Made { pile, answers }) in samples() {
-        fs::write(folder.join(format!("{name}.pile")), pile)?;
-        fs::write(folder.join(format!("{name}.answers")), answers)?;
+        put_file(&folder.join(format!("{name}.pile")), &pile)?;
+        put_file(&folder.join(format!("{name}.answers")), &answers)?;
         println!("{name}.pile {name}.answers");
     }
     for (name, pile) in signed_samples() {
-        fs::write(folder.join(format!("{name}.pile")), pile)?;
+        put_file(&folder.join(format!("{name}.pile")), &pile)?;
         println!("{name}.pile");
     }
     Ok(())
@@ -269,5 +284,31 @@ fn main() {
     if let Err(error) = write(Path::new(&folder)) {
         eprintln!("samples: {error}");
         process::exit(1);
+    }
+}
+
+#[cfg(test)]
+mod tests {
+    use super::*;
+    use std::io::Read;
+
+    /// Who reads the old file meanwhile reads it to its end; and what cannot be put leaves nothing.
+    #[test]
+    fn a_file_is_put_in_one_step() {
+        let folder = env::temp_dir().join(format!("samples-{}", process::id()));
+        fs::create_dir(&folder).expect("the folder of a test");
+        let file = folder.join("one.pile");
+        put_file(&file, b"the old one").expect("it can be written");
+        let mut reader = File::open(&file).expect("it is there");
+        put_file(&file, b"new").expect("it can be written");
+        let mut old = Vec::new();
+        reader.read_to_end(&mut old).expect("it can be read");
+        let new = fs::read(&file).expect("it is there");
+        fs::create_dir(folder.join("two.pile")).expect("it can be made");
+        let refused = put_file(&folder.join("two.pile"), b"no file");
+        let left = fs::read_dir(&folder).expect("it is there").count();
+        fs::remove_dir_all(&folder).expect("it is the test's");
+        assert_eq!((&old[..], &new[..]), (&b"the old one"[..], &b"new"[..]));
+        assert!(refused.is_err() && left == 2, "{left} names are left");
     }
 }

@@ -17,11 +17,14 @@ mod serving;
 #[allow(dead_code)]
 #[path = "../../tests/openssl/signer.rs"]
 mod signer;
+#[path = "../time/told.rs"]
+mod told;
 
 use serving::{is_meant, Batch, Delegated, Sign};
 use signer::Signer;
 use std::process::ExitCode;
 use std::time::{SystemTime, UNIX_EPOCH};
+use told::told;
 use trawlbeacon::{Checked, PacketRefusal, LONGEST_PACKET, LONGEST_TEXT, REQUEST_LENGTH};
 
 /// How many requests one batch has, and how many others come with them.
@@ -102,13 +105,10 @@ fn main() -> ExitCode {
         return ExitCode::from(2);
     };
     match serve(now) {
-        Ok(said) => {
-            println!("{said}");
-            ExitCode::SUCCESS
-        }
+        Ok(said) => told(&said, ExitCode::SUCCESS),
         Err(refusal) => {
-            println!("refused with code {}: {refusal}", refusal.code());
-            ExitCode::FAILURE
+            let line = format!("refused with code {}: {refusal}", refusal.code());
+            told(&line, ExitCode::FAILURE)
         }
     }
 }

@@ -1,9 +1,13 @@
 //! What both programs that ask a server for the time share: which server, nonce and answer their
 //! arguments name, and what is printed.
 
+#[path = "told.rs"]
+mod told;
+
 use independent::appendix;
 use std::process::ExitCode;
 use std::{env, fs};
+use told::told;
 use trawlbeacon::{Checked, PacketRefusal, Window, REQUEST_LENGTH};
 
 /// What is said of the response to a request, from the server with this long-term key.
@@ -54,17 +58,16 @@ pub fn tell(check: Check) -> ExitCode {
         }
     };
     let mut request = [0; REQUEST_LENGTH];
-    let told = trawlbeacon::write_request(&key, &nonce, &mut request)
+    let checked = trawlbeacon::write_request(&key, &nonce, &mut request)
         .map_err(PacketRefusal::from)
         .and_then(|_| check(&key, &request, &response));
-    match told {
+    match checked {
         Ok(Checked { window: Window { low, high, .. }, .. }) => {
-            println!("the time is from {low} to {high}");
-            ExitCode::SUCCESS
+            told(&format!("the time is from {low} to {high}"), ExitCode::SUCCESS)
         }
         Err(refusal) => {
-            println!("refused with code {}: {refusal}", refusal.code());
-            ExitCode::FAILURE
+            let line = format!("refused with code {}: {refusal}", refusal.code());
+            told(&line, ExitCode::FAILURE)
         }
     }
 }

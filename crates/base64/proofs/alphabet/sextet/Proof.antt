@@ -1,12 +1,14 @@
 use Rattle.laws.proofs.Picks.{choices}
 use Rattle.base64.specs.Alphabet.{sextetOf}
 use borrow.Author.Needs.{needs}
+use mathlib.Core.Path.{sym}
+use native.Mathlib.Omega.{arith}
+use Rattle.base64.proofs.Tables.{sextet-over}
 use Rattle.base64.proofs.alphabet.sextet.Statement.{statement}
 use Rattle.base64.proofs.alphabet.sextet.Tie as tie
 
 returns : tie.Need-returns
-unfolding sextetOf
-returns c = (search (choices, needs) depth 12, search needs)
+returns c = (sym (sextet-over (c .before .args .c) (omega arith)), search needs)
 
 returns-2 : tie.Need-returns-2
 unfolding sextetOf
@@ -40,21 +42,24 @@ returns-9 : tie.Need-returns-9
 unfolding sextetOf
 returns-9 c = (search (choices, needs) depth 12, search needs)
 
+returns-10 : tie.Need-returns-10
+unfolding sextetOf
+returns-10 c = (search (choices, needs) depth 12, search needs)
+
 pub sextet-spec : {M : Type 1} → statement M
 sextet-spec =
     tie.close
     (tie.spec
     returns
+    (λ c. search needs)
     returns-2
     returns-3
-    (λ c. search needs)
-    (λ c. search needs)
     returns-4
-    returns-5
     (λ c. search needs)
+    returns-5
     returns-6
     returns-7
-    (λ c. search needs)
-    (λ c. search needs)
     returns-8
-    returns-9)
+    (λ c. search needs)
+    returns-9
+    returns-10)

@@ -48,6 +48,8 @@ group-of-spec =
     returns
     (λ c κs. search needs)
     returns-2
+    (λ c. search needs)
+    (λ c. search needs)
     (λ c κs. search needs)
     (λ c κs. search needs)
     (λ c κs. search needs)

@@ -8,7 +8,7 @@ use Rattle.check_response.specs.declared.Verdict.{Verdict}
 use Rattle.pile.specs.declared.Judgement.{Judgement}
 use Rattle.pile_report.specs.Report.{judged}
 use Rattle.laws.specs.Written.{Puts}
-use Rattle.lines.specs.Line.{recordLine}
+use Rattle.console_lines.specs.Line.{recordLine}
 use Rattle.console.specs.Text.{recordLines}
 use Rattle.laws.proofs.Written.{puts-none, puts-length, puts-more, puts-as}
 use borrow.Author.Needs.{needs}

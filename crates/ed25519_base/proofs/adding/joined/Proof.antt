@@ -1,4 +1,4 @@
--- `basepoint::adding::joined` meets its contract.
+-- `ed25519_base::adding::joined` meets its contract.
 use mathlib.Core.Path.{_∙_}
 use Rattle.ed25519_field.proofs.Raise.{up}
 use Rattle.ed25519_base.proofs.adding.joined.Statement.{statement}

@@ -1,4 +1,4 @@
--- `basepoint::adding::picked` meets its contract.
+-- `ed25519_base::adding::picked` meets its contract.
 use borrow.Author.Tests.{eq-eqb, ne-eqb}
 use Rattle.ed25519_base.proofs.adding.picked.Statement.{statement}
 use Rattle.ed25519_base.proofs.adding.picked.Tie as tie

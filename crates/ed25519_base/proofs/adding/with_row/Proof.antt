@@ -1,4 +1,4 @@
--- `basepoint::adding::with_row` meets its contract.
+-- `ed25519_base::adding::with_row` meets its contract.
 use Prim.Native.Nat.{_+_, _-_, _*_}
 use mathlib.Core.Path.{_≡_, ap, _∙_}
 use lib.ListN.{length}

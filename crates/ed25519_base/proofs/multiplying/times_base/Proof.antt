@@ -1,4 +1,4 @@
--- `basepoint::multiplying::times_base` meets its contract.
+-- `ed25519_base::multiplying::times_base` meets its contract.
 use borrow.Author.Needs.{needs}
 use Rattle.ed25519_base.proofs.multiplying.times_base.Statement.{statement}
 use Rattle.ed25519_base.proofs.multiplying.times_base.Tie as tie

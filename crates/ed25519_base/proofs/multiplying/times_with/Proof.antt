@@ -1,4 +1,4 @@
--- `basepoint::multiplying::times_with` meets its contract.
+-- `ed25519_base::multiplying::times_with` meets its contract.
 use mathlib.Core.Bool.{cond}
 use Prim.Native.Nat.{_/_, _^_, _≤_, _-_}
 use mathlib.Core.Path.{_≡_, ap, _∙_}

@@ -1,4 +1,4 @@
--- `basepoint::rows::limbs` meets its contract.
+-- `ed25519_base::rows::limbs` meets its contract.
 use Prim.Native.Nat.{ℕ, _+_, _-_, _≤_, _<_}
 use mathlib.Core.Path.{_≡_, refl}
 use native.Mathlib.Omega.{arith}

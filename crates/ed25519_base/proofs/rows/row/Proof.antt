@@ -1,4 +1,4 @@
--- `basepoint::rows::row` meets its contract.
+-- `ed25519_base::rows::row` meets its contract.
 use native.Mathlib.Omega.{arith}
 use borrow.Author.Needs.{needs}
 use Rattle.ed25519_base.proofs.rows.row.Statement.{statement}

@@ -1,4 +1,4 @@
--- `curve::adding::add_with` meets its contract.
+-- `ed25519_curve::adding::add_with` meets its contract.
 use mathlib.Core.Path.{_∙_}
 use Rattle.ed25519_field.proofs.Raise.{up}
 use Rattle.ed25519_curve.proofs.adding.add_with.Statement.{statement}

@@ -1,4 +1,4 @@
--- `curve::adding::double_with` meets its contract.
+-- `ed25519_curve::adding::double_with` meets its contract.
 use mathlib.Core.Path.{_∙_}
 use Rattle.ed25519_field.proofs.Raise.{up}
 use Rattle.ed25519_curve.proofs.adding.double_with.Statement.{statement}

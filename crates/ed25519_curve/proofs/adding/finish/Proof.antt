@@ -1,4 +1,4 @@
--- `curve::adding::finish` meets its contract.
+-- `ed25519_curve::adding::finish` meets its contract.
 use borrow.Author.Needs.{needs}
 use Rattle.ed25519_curve.proofs.adding.finish.Statement.{statement}
 use Rattle.ed25519_curve.proofs.adding.finish.Tie as tie

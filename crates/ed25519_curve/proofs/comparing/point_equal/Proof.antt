@@ -1,4 +1,4 @@
--- `curve::comparing::point_equal` meets its contract.
+-- `ed25519_curve::comparing::point_equal` meets its contract.
 use mathlib.Core.Path.{_≡_, ap₂, _∙_}
 use lib.Dec.{eqb}
 use Rattle.ed25519_field.specs.Limbs.{num}

@@ -1,4 +1,4 @@
--- `curve::multiplying::times` meets its contract. The loop's invariant: what is left to do from here gives the whole.
+-- `ed25519_curve::multiplying::times` meets its contract. The loop's invariant: what is left to do from here gives the whole.
 use mathlib.Core.Bool.{cond}
 use Prim.Native.Nat.{_/_, _^_, _≤_, _-_}
 use mathlib.Core.Path.{_≡_, ap, _∙_}
@@ -37,7 +37,7 @@ loop-again : tie.Need-loop-again Inv-loop μ-loop
 loop-again c =
     let l = c .before .before .before .before .loop in
     let v = l .inv in
-    let d = c .double .ensures in
+    let d = c .point-double .ensures in
     let k = c .before .picked .ensures in
     let b = c .before .before .bit in
     let e = k .0 ∙ ap (λ n. cond (eqb n 1) (pointAdd (ptOf (l .q)) (ptOf (l .p))) (ptOf (l .q))) (b .ensures) in

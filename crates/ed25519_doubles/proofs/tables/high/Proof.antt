@@ -1,4 +1,4 @@
--- `doubles::tables::high` meets its contract.
+-- `ed25519_doubles::tables::high` meets its contract.
 use mathlib.Core.Path.{refl}
 use Rattle.ed25519_doubles.specs.Tables.{highTable}
 use Rattle.ed25519_doubles.proofs.tables.high.Statement.{statement}

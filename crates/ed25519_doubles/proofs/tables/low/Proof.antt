@@ -1,4 +1,4 @@
--- `doubles::tables::low` meets its contract.
+-- `ed25519_doubles::tables::low` meets its contract.
 use mathlib.Core.Path.{refl}
 use Rattle.ed25519_doubles.specs.Tables.{lowTable}
 use Rattle.ed25519_doubles.proofs.tables.low.Statement.{statement}

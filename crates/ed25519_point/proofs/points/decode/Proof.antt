@@ -1,4 +1,4 @@
--- `decode::points::decode` meets its contract.
+-- `ed25519_point::points::decode` meets its contract.
 use native.Mathlib.Nat.{mod-lt}
 use native.Mathlib.Omega.{arith}
 use borrow.Author.Needs.{needs}

@@ -1,4 +1,4 @@
--- `decode::points::no_point` meets its contract.
+-- `ed25519_point::points::no_point` meets its contract.
 use borrow.Author.Needs.{needs}
 use Rattle.ed25519_point.proofs.points.no_point.Statement.{statement}
 use Rattle.ed25519_point.proofs.points.no_point.Tie as tie

@@ -1,4 +1,4 @@
--- `decode::points::with_x` meets its contract.
+-- `ed25519_point::points::with_x` meets its contract.
 use borrow.Author.Needs.{needs}
 use Rattle.ed25519_field.specs.Limbs.{num}
 use Rattle.ed25519_field.proofs.Raise.{up}

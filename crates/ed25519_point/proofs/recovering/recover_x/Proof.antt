@@ -1,4 +1,4 @@
--- `decode::recovering::recover_x` meets its contract.
+-- `ed25519_point::recovering::recover_x` meets its contract.
 use Prim.Native.Nat.{ℕ}
 use mathlib.Core.Path.{_≡_, refl, _∙_}
 use borrow.Author.Needs.{needs}

@@ -1,4 +1,4 @@
--- `decode::recovering::signed` meets its contract.
+-- `ed25519_point::recovering::signed` meets its contract.
 use Prim.Native.Nat.{_%_}
 use mathlib.Core.Path.{_≡_, sym, ap, _∙_}
 use native.Mathlib.Omega.{arith}
@@ -6,7 +6,7 @@ use borrow.Author.Needs.{needs}
 use borrow.Author.Tests.{eqb-true, eqb-false}
 use lib.Dec.{eqb}
 use Rattle.ed25519_field.specs.Limbs.{num}
-use Rattle.ed25519_residue.proofs.Reducing.{num-lt}
+use Rattle.ed25519_field.proofs.Reducing.{num-lt}
 use Rattle.ed25519_point.proofs.Ways.{signed-1, signed-2, signed-3, signed-4}
 use Rattle.ed25519_point.proofs.recovering.signed.Statement.{statement}
 use Rattle.ed25519_point.proofs.recovering.signed.Tie as tie

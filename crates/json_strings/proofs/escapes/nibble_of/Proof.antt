@@ -37,11 +37,14 @@ nibble-of-spec =
     tie.close
     (tie.spec
     returns
+    (λ c. search needs)
     returns-2
     returns-3
     (λ c. search needs)
+    (λ c. search needs)
     returns-4
     returns-5
+    (λ c. search needs)
     (λ c. search needs)
     returns-6
     returns-7)

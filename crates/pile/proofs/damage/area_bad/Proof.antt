@@ -6,6 +6,7 @@ use native.Mathlib.Omega.{arith}
 use lib.ListN.{length, drop, length-drop}
 use lib.Seq.{take-all}
 use Rattle.laws.specs.Zeros.{zeros}
+use Rattle.pile.specs.Layout.{AREA}
 use Rattle.pile.specs.Valid.{areaBad}
 use Rattle.laws.proofs.Rows.{hit-lt, past-lt, only}
 use borrow.Author.Needs.{needs}
@@ -14,7 +15,7 @@ use Rattle.pile.proofs.damage.area_bad.Tie as tie
 
 returns : tie.Need-returns
 unfolding areaBad
-returns c = hit-lt 2000 (c .before .before .args .n) _ refl (omega arith)
+returns c = hit-lt AREA (c .before .before .args .n) _ refl (omega arith)
 
 returns-2 : tie.Need-returns-2
 unfolding areaBad
@@ -22,7 +23,7 @@ returns-2 c =
     let a = c .before .before .before .before .args in
     let l = drop (a .n) (a .area .now) in
     let rest = take-all (length (a .area .now) - a .n) l (omega (arith, length-drop (a .n) (a .area .now))) in
-    past-lt 2000 (a .n) _ refl (omega arith) (only (ap not (c .all-zero .ensures ∙ ap zeros rest)))
+    past-lt AREA (a .n) _ refl (omega arith) (only (ap not (c .all-zero .ensures ∙ ap zeros rest)))
 
 pub area-bad-spec : {M : Type 1} → statement M
 area-bad-spec =

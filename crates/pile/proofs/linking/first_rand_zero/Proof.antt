@@ -1,5 +1,5 @@
 -- `pile::linking::first_rand_zero` meets its contract.
-use mathlib.Core.Path.{_≡_, sym, _∙_}
+use mathlib.Core.Path.{_≡_, sym, ap, _∙_}
 use denote.Ref.{now}
 use Rattle.laws.specs.Zeros.{zeros}
 use Rattle.pile.specs.Pile.{randIn}
@@ -21,7 +21,8 @@ unfolding firstRandZero
 returns-2 c =
     let t = c .before .before .before in
     let r = now (c .before .before .record-at .result) in
-    let e : c .all-zero .result ≡ zeros (randIn r) = c .all-zero .ensures in
+    let e : c .all-zero .result ≡ zeros (randIn r) =
+    c .all-zero .ensures ∙ ap zeros (c .before .rand-of .ensures) in
     rw (sym (t .before .length-bad .ensures) ∙ t .if1 .left, ← c .before .before .record-at .ensures .0) e
 
 pub first-rand-zero-spec : {M : Type 1} → statement M
@@ -31,8 +32,6 @@ first-rand-zero-spec =
     (λ c κs. search needs)
     returns
     record-at-requires
-    (λ c. search needs)
-    (λ c. search needs)
-    (λ c. search needs)
+    (λ c κs. search needs)
     (λ c κs. search needs)
     returns-2)

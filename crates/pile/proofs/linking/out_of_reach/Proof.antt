@@ -2,6 +2,7 @@
 -- It returns true at the first test of the row that holds, and else what the last test says.
 use mathlib.Core.Path.{ap, _∙_}
 use Rattle.wire_packet.specs.Request.{requestBad}
+use Rattle.pile.specs.Layout.{AREA}
 use Rattle.pile.specs.Links.{unreadable}
 use Rattle.laws.proofs.Rows.{row, past-lt, only}
 use borrow.Author.Needs.{needs}
@@ -22,8 +23,8 @@ returns-3 c =
     let q = c .before in
     let m = q .before .before in
     let n = m .before .before in
-    past-lt 2000 _ _ (n .le32 .ensures) (m .before .if1 .left)
-    (past-lt 2000 _ _ (m .le322 .ensures) (q .before .if2 .left)
+    past-lt AREA _ _ (n .request-length .ensures) (m .before .if1 .left)
+    (past-lt AREA _ _ (m .response-length .ensures) (q .before .if2 .left)
     (only (c .request-bad .ensures ∙ ap requestBad (q .request-of .ensures))))
 
 pub out-of-reach-spec : {M : Type 1} → statement M

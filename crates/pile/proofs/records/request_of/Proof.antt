@@ -11,14 +11,13 @@ slice-aggregate-result c = simp length-take (omega arith)
 
 returns : tie.Need-returns
 unfolding requestPacket
-returns c = rw (c .before .request-area .ensures .0, c .before .before .le32 .ensures)
+returns c = rw (c .before .request-area .ensures .0, c .before .before .request-length .ensures)
 
 pub request-of-spec : {M : Type 1} → statement M
 request-of-spec =
     tie.close
     (tie.spec
     (λ c κs. search needs)
-    (λ c. search needs)
     (λ c κs. search needs)
     slice-aggregate-result
     returns)

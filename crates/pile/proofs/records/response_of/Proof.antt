@@ -11,14 +11,13 @@ slice-aggregate-result c = simp length-take (omega arith)
 
 returns : tie.Need-returns
 unfolding responsePacket
-returns c = rw (c .before .response-area .ensures .0, c .before .before .le32 .ensures)
+returns c = rw (c .before .response-area .ensures .0, c .before .before .response-length .ensures)
 
 pub response-of-spec : {M : Type 1} → statement M
 response-of-spec =
     tie.close
     (tie.spec
     (λ c κs. search needs)
-    (λ c. search needs)
     (λ c κs. search needs)
     slice-aggregate-result
     returns)

@@ -24,21 +24,21 @@ good-of c =
 returns : tie.Need-returns
 returns c = pile-bad _ _ (c .before .before .pile-code .ensures) (c .if1 .taken)
 
-verdicts-until-requires : tie.Need-verdicts-until-requires
-verdicts-until-requires c κs = good-of c
+verdicts-of-requires : tie.Need-verdicts-of-requires
+verdicts-of-requires c κs = good-of c
 
 said-of-requires : tie.Need-said-of-requires
 said-of-requires c κs = good-of (c .before) .pile-whole .to
 
 returns-2 : tie.Need-returns-2
 returns-2 c =
-    let verdicts = c .before .verdicts-until in
+    let verdicts = c .before .verdicts-of in
     let passed = c .before .before in
     let start = passed .before .before .before .before .before in
     let p = start .args .pile .now in
     let a = start .args .answers .now in
     good-says p a (good-of passed) (c .said-of .result)
-    (says-until (verdictIn (verdicts .result)) (judged p a) (joined p) (recordsIn p) (verdicts .ensures)
+    (says-until (verdictIn (verdicts .result)) (judged p a) (joined p) (recordsIn p) (verdicts .ensures .early)
     (c .said-of .result) (c .said-of .ensures))
 
 pub check-report-spec : {M : Type 1} → statement M
@@ -47,6 +47,6 @@ check-report-spec =
     (tie.spec
     (λ c κs. search needs)
     returns
-    verdicts-until-requires
+    verdicts-of-requires
     said-of-requires
     returns-2)

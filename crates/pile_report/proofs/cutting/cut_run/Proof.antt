@@ -7,8 +7,8 @@ use Rattle.laws.proofs.Written.{written-whole}
 use Rattle.refusal.specs.Refusal.{refusals}
 use Rattle.pile.specs.Meaning.{GoodPile}
 use Rattle.pile.proofs.Exactly.{pile-exactly}
-use Rattle.pile_report.specs.Taking.{ConvictsIn, code-15, code-19, code-18}
-use Rattle.pile_report.proofs.Says.{pile-refused}
+use Rattle.pile_report.specs.Taking.{ConvictsIn, code-19, code-18}
+use Rattle.pile_report.proofs.Runs.{cut-bad}
 use borrow.Author.Needs.{needs}
 use Rattle.pile_report.proofs.cutting.cut_run.Statement.{statement}
 use Rattle.pile_report.proofs.cutting.cut_run.Tie as tie
@@ -28,13 +28,14 @@ run-of : (c : tie.After-i)
     IsLeast (ConvictsIn (start .args .pile .now) (start .args .answers .now)) (c .i .given .0 .0) (c .i .given .0 .1 .0)
 run-of c = rw (c .i .given .1) at (c .before .before .run-in .ensures)
 
-returns : tie.Need-returns
-returns c =
-    let bad = pile-refused _ _ (c .before .before .pile-code .ensures) (c .if1 .taken) in
-    (rw (bad .0) (code-15 (bad .1)), rw (bad .0))
+bad-returns : tie.Need-returns
+bad-returns c = cut-bad _ _ _ _ (c .before .before .pile-code .ensures) (c .if1 .taken)
 
-returns-2 : tie.Need-returns-2
-returns-2 c = (
+room-requires : tie.Need-refuse-requires
+room-requires c κs = search needs
+
+short-returns : tie.Need-returns-2
+short-returns c = (
   rw (c .refuse .ensures) (code-19 (good-of (c .before .before)) (ltb-true _ _ (c .before .if2 .taken))),
   rw (c .refuse .ensures),
 )
@@ -71,9 +72,9 @@ cut-run-spec =
     tie.close
     (tie.spec
     (λ c κs. search needs)
-    returns
-    (λ c κs. search needs)
-    returns-2
+    bad-returns
+    room-requires
+    short-returns
     run-in-requires
     (λ c. search needs)
     (λ c κs. search needs)

@@ -1,35 +1,24 @@
--- `signed::judging::judge_signed` meets its contract.
-use mathlib.Core.Path.{sym, ap, _∙_}
-use Rattle.laws.proofs.First.{before-true, before-false}
-use Rattle.refusal.specs.Refusal.{refusals}
-use Rattle.check_response.specs.declared.Checked.{Checked}
-use Rattle.check_response.specs.declared.Verdict.the-variants.{Refused}
-use Rattle.pile.specs.Valid.{recordVerdict, judgeCode}
+-- `pile_signed::judging::judge_signed` meets its contract.
 use Rattle.pile.proofs.Wholes.{judged-there}
-use Rattle.pile.proofs.Judged.{judge-clauses}
+use Rattle.pile.proofs.Judges.{judge-nothing, judge-record}
 use borrow.Author.Needs.{needs}
 use Rattle.pile_signed.proofs.judging.judge_signed.Statement.{statement}
 use Rattle.pile_signed.proofs.judging.judge_signed.Tie as tie
 
 returns : tie.Need-returns
-unfolding judgeCode
 returns c =
-    let b = sym (c .before .before .nothing-at .ensures) ∙ c .before .if1 .taken in
-    judge-clauses _ _ _
-    (rw (before-true refusals _ _ _ tt b) (ap Refused (c .refuse .ensures))) (rw (before-true refusals _ _ _ tt b))
+    let r = c .before in
+    judge-nothing _ _ _ (r .before .before .nothing-at .ensures) (r .before .if1 .taken) (r .refused .ensures)
+    (c .judged .ensures)
 
 checked-at-requires : tie.Need-checked-at-requires
 checked-at-requires c κs = judged-there _ _ _ (c .before .nothing-at .ensures) (c .if1 .left) .0
 
 returns-2 : tie.Need-returns-2
-unfolding judgeCode recordVerdict
 returns-2 c =
-    let t = c .before .before in
-    let b = sym (t .before .nothing-at .ensures) ∙ t .if1 .left in
-    let e = c .before .checked-at .ensures in
-    judge-clauses _ _ _
-    (rw (before-false refusals _ _ _ b) (ap (λ (x : Checked). x .verdict) e))
-    (rw (before-false refusals _ _ _ b) (ap (λ (x : Checked). x .pubk) e))
+    let r = c .before in
+    judge-record _ _ _ (r .before .before .nothing-at .ensures) (r .before .if1 .left) (r .checked-at .ensures)
+    (c .judged2 .ensures)
 
 pub judge-signed-spec : {M : Type 1} → statement M
 judge-signed-spec =
@@ -37,6 +26,8 @@ judge-signed-spec =
     (tie.spec
     (λ c κs. search needs)
     (λ c κs. search needs)
+    (λ c κs. search needs)
     returns
     checked-at-requires
+    (λ c κs. search needs)
     returns-2)

@@ -18,11 +18,11 @@ returns c =
     let area = a .response-area .ensures in
     let n : length (responseArea r) ≡ 2000 = ap length (sym (area .0)) ∙ area .1 in
     let e : responsePacket r ≡ responseArea r =
-    take-all (responseLength r) (responseArea r) (omega (arith, t .if1 .taken, t .before .le32 .ensures)) in
+    take-all (responseLength r) (responseArea r) (omega (arith, t .if1 .taken, t .before .response-length .ensures)) in
     c .answers .ensures ∙ ap₂ answersOf (a .before .copy32 .ensures) (area .0 ∙ sym e)
 
 response-of-requires : tie.Need-response-of-requires
-response-of-requires c κs = (search needs, omega (arith, c .before .if1 .left, c .before .before .le32 .ensures))
+response-of-requires c κs = (search needs, omega (arith, c .before .if1 .left, c .before .before .response-length .ensures))
 
 returns-2 : tie.Need-returns-2
 returns-2 c =

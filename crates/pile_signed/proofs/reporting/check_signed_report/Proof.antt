@@ -27,20 +27,20 @@ returns c =
     rw (c .refuse .ensures)
     (code-15 (λ g. true≢false (sym b ∙ whole-exactly (start .args .pile .now) .1 (g .pile-whole))))
 
-verdicts-until-requires : tie.Need-verdicts-until-requires
-verdicts-until-requires c κs = whole-of c
+signed-verdicts-requires : tie.Need-signed-verdicts-requires
+signed-verdicts-requires c κs = whole-of c
 
 said-of-requires : tie.Need-said-of-requires
 said-of-requires c κs = omega (arith, whole-of (c .before) .to)
 
 returns-2 : tie.Need-returns-2
 returns-2 c =
-    let verdicts = c .before .verdicts-until in
+    let verdicts = c .before .signed-verdicts in
     let passed = c .before .before in
     let p = passed .before .before .before .args .pile .now in
     let a = ownAnswers p in
     good-says p a (own-good p (whole-of passed)) (c .said-of .result)
-    (says-until (verdictIn (verdicts .result)) (judged p a) (joined p) (recordsIn p) (verdicts .ensures)
+    (says-until (verdictIn (verdicts .result)) (judged p a) (joined p) (recordsIn p) (verdicts .ensures .early)
     (c .said-of .result) (c .said-of .ensures))
 
 pub check-signed-report-spec : {M : Type 1} → statement M
@@ -50,6 +50,6 @@ check-signed-report-spec =
     (λ c κs. search needs)
     (λ c κs. search needs)
     returns
-    verdicts-until-requires
+    signed-verdicts-requires
     said-of-requires
     returns-2)

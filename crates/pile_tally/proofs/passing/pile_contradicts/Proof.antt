@@ -40,7 +40,7 @@ told-of c =
     let vs = verdictIn (c .before .verdicts-of .result) in
     c .any-contradiction .ensures
     ∙ ap (everyPair vs) (omega (arith, good-of passed .pile-whole .to))
-    ∙ every-pair-same vs (judged p (start .args .answers .now)) (recordsIn p) (c .before .verdicts-of .ensures)
+    ∙ every-pair-same vs (judged p (start .args .answers .now)) (recordsIn p) (c .before .verdicts-of .ensures .whole refl)
 
 returns-2 : tie.Need-returns-2
 unfolding contradictionCode pileCode

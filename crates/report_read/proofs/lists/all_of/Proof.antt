@@ -1,24 +1,23 @@
 use borrow.Author.Needs.{needs}
-use Prim.Native.Nat.{_-_}
 use mathlib.Core.Path.{_≡_}
 use mathlib.Core.Bool.{true}
-use lib.ListN.{length}
-use Rattle.report_read.specs.Entry.{elementsOf, allOf}
-use Rattle.report_read.proofs.Elements.{from, loops}
+use Rattle.report_read.specs.Entry.{inList, elementsOf, allOf}
+use Rattle.report_read.specs.Ready.{left}
+use Rattle.report_read.proofs.Elements.{fuel, loops}
 use Rattle.report_read.proofs.lists.all_of.Statement.{statement}
 use Rattle.report_read.proofs.lists.all_of.Tie as tie
 
 abbrev Inv-loop : tie.InvT-loop
-Inv-loop s v start b k₀ first₀ k first = allOf s first (from s k) ≡ allOf s true (elementsOf s 14 v)
+Inv-loop s v at₀ first₀ at first = allOf s first (left s at) ≡ allOf s true (elementsOf s inList v)
 
 abbrev μ-loop : tie.MeasureT-loop
-μ-loop s v start b k₀ first₀ k first = length s - k
-
-returns : tie.Need-returns Inv-loop μ-loop
-returns c = search (loops, needs)
+μ-loop s v at₀ first₀ at first = fuel s at
 
 loop-holds : tie.Need-loop-holds Inv-loop μ-loop
 loop-holds c = search (loops, needs)
+
+returns : tie.Need-returns Inv-loop μ-loop
+returns c = search (loops, needs)
 
 returns-2 : tie.Need-returns-2 Inv-loop μ-loop
 returns-2 c = search (loops, needs)
@@ -29,30 +28,19 @@ loop-less c = search (loops, needs)
 loop-again : tie.Need-loop-again Inv-loop μ-loop
 loop-again c = search (loops, needs)
 
-returns-3 : tie.Need-returns-3 Inv-loop μ-loop
-returns-3 c = search (loops, needs)
-
-returns-4 : tie.Need-returns-4 Inv-loop μ-loop
-returns-4 c = search (loops, needs)
-
 pub all-of-spec : {M : Type 1} → statement M
 all-of-spec =
     tie.close
     (tie.spec
     Inv-loop
     μ-loop
-    (λ c. search needs)
     (λ c κs. search needs)
-    (λ c κs. search needs)
-    returns
     loop-holds
+    (λ c. search needs)
+    (λ c. search needs)
+    returns
     (λ c κs. search needs)
     returns-2
     (λ c κs. search needs)
-    (λ c. search needs)
     loop-less
-    loop-again
-    (λ c. search needs)
-    returns-3
-    (λ c. search needs)
-    returns-4)
+    loop-again)

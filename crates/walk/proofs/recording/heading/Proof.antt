@@ -7,7 +7,9 @@ use lib.ListN.{length, drop, replicate, length-append}
 use Rattle.laws.specs.Numbers.{leBytes}
 use Rattle.laws.specs.Pasted.{pasted}
 use Rattle.laws.proofs.Written.{puts-one, puts-put, written-whole}
+use Rattle.pile.specs.Layout.{REQUEST-LENGTH, RESPONSE-LENGTH, ZEROS, REQUEST}
 use Rattle.pile.specs.Recording.{headBytes}
+use Rattle.walk.specs.State.{ASKED}
 use borrow.Author.Needs.{needs}
 use Rattle.walk.proofs.recording.heading.Statement.{statement}
 use Rattle.walk.proofs.recording.heading.Tie as tie
@@ -20,25 +22,29 @@ returns c =
     let p2 = p3 .before .before .before .before in
     let p1 = p2 .before .before .before .before in
     let b = p1 .before .before .before in
-    let s = b .before in
+    let a = b .before in
+    let s = a .before in
     let key = s .args .t1 in
     let rand = s .args .t2 in
     let n = s .args .n in
     let k32 : length key ≡ 32 = omega (arith, s .good) in
     let r32 : length rand ≡ 32 = omega (arith, s .good) in
     let w1 = puts-one key 32 (p1 .put .ensures) (omega arith) (omega arith) in
-    let w2 = puts-put rand 64 w1 (p2 .put2 .ensures) (omega arith) (omega arith) in
-    let w3 = puts-put (leBytes 4 1036) 68 w2 (p3 .put3 .ensures) refl (omega arith) in
-    let counted = p4 .put4 .ensures ∙ ap (pasted _ 68) (b .le32-bytes .ensures) in
-    let w4 = puts-put (leBytes 4 n) 72 w3 counted refl (omega arith) in
-    let all = key ++ rand ++ leBytes 4 1036 ++ leBytes 4 n in
-    let l : length all ≡ 72 = simp (length-append, k32, r32) in
-    written-whole w4 ∙ ap (λ (m : ℕ). all ++ drop m (replicate 96 0)) l
+    let w2 = puts-put rand REQUEST-LENGTH w1 (p2 .put2 .ensures) (omega arith) (omega arith) in
+    let asked = p3 .put3 .ensures ∙ ap (pasted _ REQUEST-LENGTH) (a .le32-bytes .ensures) in
+    let w3 = puts-put (leBytes 4 ASKED) RESPONSE-LENGTH w2 asked refl (omega arith) in
+    let counted = p4 .put4 .ensures ∙ ap (pasted _ RESPONSE-LENGTH) (b .le32-bytes2 .ensures) in
+    let w4 = puts-put (leBytes 4 n) ZEROS w3 counted refl (omega arith) in
+    let all = key ++ rand ++ leBytes 4 ASKED ++ leBytes 4 n in
+    let l : length all ≡ ZEROS = simp (length-append, k32, r32) in
+    written-whole w4 ∙ ap (λ (m : ℕ). all ++ drop m (replicate REQUEST 0)) l
 
 pub heading-spec : {M : Type 1} → statement M
 heading-spec =
     tie.close
     (tie.spec
+    (λ c. search needs)
+    (λ c κs. search needs)
     (λ c κs. search needs)
     (λ c. search needs)
     (λ c. search needs)

@@ -92,7 +92,7 @@ impl Evidence {
     /// How a command ends that found a run, by whose keys it convicts. What is not known is said.
     pub fn convicts(&self, run: Run) -> Ended {
         if self.lists.is_none() {
-            output::say("whose keys these are nobody has looked up; --servers LIST does");
+            output::say(&whose_keys("--servers LIST"));
             return Ended::Done;
         }
         let unlisted = |place: &usize| self.server(*place) == Some(None);
@@ -106,6 +106,11 @@ impl Evidence {
             Ended::Unlisted
         }
     }
+}
+
+/// What is said where a run convicts and no list was given, and with which words one is.
+pub fn whose_keys(words: &str) -> String {
+    format!("whose keys these are nobody has looked up; {words} does")
 }
 
 /// All bytes of a file, or of standard input.

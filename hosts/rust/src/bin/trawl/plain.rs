@@ -1,5 +1,6 @@
 //! The proved program: found, run, and what it prints passed on.
 
+use crate::evidence::whose_keys;
 use crate::flags::Flags;
 use crate::hints::{self, Held};
 use crate::output;
@@ -26,8 +27,10 @@ pub fn run(flags: &Flags) -> Result<Ended, Stop> {
     let said = verdict(&flags.words)?;
     output::print(&said)?;
     let ended = ended(&said);
-    if ended == Ended::Refused {
-        on_refusal(&flags.words).iter().for_each(|hint| output::say(hint));
+    match ended {
+        Ended::Refused => on_refusal(&flags.words).iter().for_each(|hint| output::say(hint)),
+        Ended::Done => output::say(&whose_keys("--judge PILE --servers LIST")),
+        Ended::None | Ended::Unlisted => (),
     }
     Ok(ended.told(flags.status))
 }

@@ -1,2 +1,0 @@
--- The definitions that the contracts of ed25519_residue cite.
-pub mod Residue
