@@ -17,8 +17,8 @@ abbrev pub tbRecords : Read → TbRecords
 tbRecords (read.Records n) = record { code = 0; records = n }
 tbRecords (read.Refused why) = record { code = readNumber (read.Refused why); records = 0 }
 
--- the answer of the writer: how long the text is, or a refusal with the record and the byte that it carries, and 0 where
--- it carries none
+-- the answer of the writer: how long the text is, or a refusal with the record and the byte that it carries, and 0
+-- where it carries none
 abbrev pub tbPublished : Published → TbPublished
 tbPublished (published.Text n) = record { code = 0; place = 0; at = 0; length = n }
 tbPublished (published.Refused why k) =

@@ -22,8 +22,8 @@ pub fn asked_told(a: Asked) -> TbAsked
     }
 }
 
-// The answer on a response, as a struct. Beside a refusal nothing is said of the walk, which is 0: no number that stands
-// beside a refusal reads as "go on".
+// The answer on a response, as a struct. Beside a refusal nothing is said of the walk, which is 0: no number that
+// stands beside a refusal reads as "go on".
 pub fn took_told(s: Said) -> TbTook
     ensures { λ r. ⌜ r ≡ tbTook s ⌝ }
 {
@@ -46,8 +46,8 @@ pub fn took_told(s: Said) -> TbTook
     }
 }
 
-// The end of a walk: malfeasance where the report check names a pair, consistent where it says 18. A pile that it refuses
-// otherwise is not what the walk wrote, and is told as that.
+// The end of a walk: malfeasance where the report check names a pair, consistent where it says 18. A pile that it
+// refuses otherwise is not what the walk wrote, and is told as that.
 fn end_told(v: Window, r: Report) -> TbTook
     ensures { λ x. ⌜ x ≡ endTold v r ⌝ }
 {

@@ -1,5 +1,5 @@
--- Document 01's sentence on a valid response with "verifies under the key" for a yes (request P11). It is proved to hold
--- exactly where the check refuses nothing.
+-- Document 01's sentence on a valid response with "verifies under the key" for a yes (request P11). It is proved to
+-- hold exactly where the check refuses nothing.
 use mathlib.Core.Path.{_≡_}
 use mathlib.Core.Bool.{true}
 use mathlib.Core.List.{List}

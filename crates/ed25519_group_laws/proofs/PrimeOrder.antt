@@ -1,6 +1,6 @@
--- L, the order of the base point, is prime: a chain of six numbers, as that of p in `primes` (its `Certificate` says what
--- stands beside each), each of which has the next for a divisor of the number before it. The last is small enough for
--- trial division.
+-- L, the order of the base point, is prime: a chain of six numbers, as that of p in `ed25519_prime_laws` (its
+-- `Certificate` says what stands beside each), each of which has the next for a divisor of the number before it. The
+-- last is small enough for trial division.
 use mathlib.Core.Path.{refl}
 use lib.Dec.{lit<}
 use Rattle.digits.proofs.Powers.{byBits}

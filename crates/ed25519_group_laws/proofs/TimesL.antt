@@ -1,4 +1,5 @@
--- L times the base point is the neutral point: computed by the definition of multiples bit by bit, and so of n-fold sums.
+-- L times the base point is the neutral point: computed by the definition of multiples bit by bit, and so of n-fold
+-- sums.
 use Prim.Native.Nat.{_^_, _<_}
 use mathlib.Core.Path.{_≡_, refl}
 use mathlib.Core.Bool.{true}

@@ -1,5 +1,5 @@
--- RFC 8032 over points (x, y) and with division: section 3's sum, and multiples by it. Code computes in coordinates that
--- spare the divisions.
+-- RFC 8032 over points (x, y) and with division: section 3's sum, and multiples by it. Code computes in coordinates
+-- that spare the divisions.
 use Prim.Native.Nat.{ℕ, zero, suc, _-_}
 use mathlib.Core.Bool.{Bool, _&&_}
 use lib.Dec.{eqb}

@@ -1,5 +1,5 @@
--- What verifies satisfies RFC 8032's own equation, too, in which both sides are taken eight times. The k of it is modulo
--- L here, as section 6 has it.
+-- What verifies satisfies RFC 8032's own equation, too, in which both sides are taken eight times. The k of it is
+-- modulo L here, as section 6 has it.
 use Prim.Native.Nat.{ℕ}
 use mathlib.Core.Path.{_≡_, ap, _∙_}
 use mathlib.Core.Bool.{true}

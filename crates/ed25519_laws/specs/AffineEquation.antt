@@ -1,5 +1,5 @@
--- RFC 8032, 5.1.7, over points (x, y): with section 3's sum and multiples by it. For theorems alone: `verifies` of ed25519
--- says the same in other coordinates.
+-- RFC 8032, 5.1.7, over points (x, y): with section 3's sum and multiples by it. For theorems alone: `verifies` of
+-- ed25519 says the same in other coordinates.
 use Prim.Native.Nat.{ℕ}
 use mathlib.Core.Path.{_≡_}
 use mathlib.Core.Bool.{Bool, _&&_}

@@ -1,6 +1,6 @@
 -- p = 2^255 - 19 is prime: a chain of four numbers, each of which has the next for a divisor of the number before it.
--- The last is small enough for trial division. Beside a number n and the next, q, stand h with n = 1 + q h, e with e^q =
--- 1 modulo n, the inverse of e - 1, and how many bits q has.
+-- The last is small enough for trial division. Beside a number n and the next, q, stand h with n = 1 + q h, e with e^q
+-- = 1 modulo n, the inverse of e - 1, and how many bits q has.
 use Prim.Native.Nat.{ℕ}
 use mathlib.Core.Path.{refl}
 use lib.Dec.{lit<}

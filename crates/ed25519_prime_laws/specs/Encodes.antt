@@ -1,5 +1,5 @@
 -- RFC 8032, 5.1.2 and 5.1.3, with no root taken: of which point a string of 32 bytes is the encoding. `decodeOf` of
--- decode is proved to give that point, and to fail exactly where there is none.
+-- ed25519_point is proved to give that point, and to fail exactly where there is none.
 use Prim.Native.Nat.{ℕ, _<_}
 use mathlib.Core.Path.{_≡_}
 use mathlib.Core.List.{List}

@@ -1,5 +1,5 @@
--- The points B, 2B, .. 8B and their rows: one test, which antt computes, goes from each point to the next, and one holds
--- a row to its point.
+-- The points B, 2B, .. 8B and their rows: one test, which antt computes, goes from each point to the next, and one
+-- holds a row to its point.
 use Prim.Native.Nat.{ℕ, zero, suc, _+_, _<_}
 use mathlib.Core.Path.{_≡_, refl, sym, ap, _∙_}
 use mathlib.Core.Bool.{Bool, true}

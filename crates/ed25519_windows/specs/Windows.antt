@@ -80,7 +80,7 @@ pub record Turn (q : Flat) (x : Addend) (xoff : Bool) (y : Addend) (yoff : Bool)
   pub stands : (a b e : Affine) → FlatFor q a → RowFor x b → RowFor y e
       → FlatFor r (sumOf (sumOf (timesOf 16 a) (sideOf xoff b)) (sideOf yoff e))
 
--- [s]A + [k]B
+-- [s]P + [k]Q, of the points P and Q
 abbrev pub pairOf : Affine → Affine → ℕ → ℕ → Affine
 pairOf a b s k = sumOf (timesOf s a) (timesOf k b)
 

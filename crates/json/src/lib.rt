@@ -1,5 +1,5 @@
-// JSON texts (RFC 8259), read where they lie: values, skipped over, and the members of objects, by name. A reader is given
-// the whole text and a place in it, and answers the place past what it read.
+// JSON texts (RFC 8259), read where they lie: values, skipped over, and the members of objects, by name. A reader is
+// given the whole text and a place in it, and answers the place past what it read.
 mod members;
 mod values;
 

@@ -44,8 +44,8 @@ fn unit_step(s: &[u8], at: usize) -> Step
     }
 }
 
-// Where to go on after the character from k to n: past the run that it begins, if it is one byte. Others come in rows of
-// their own, and after them no run is looked for.
+// Where to go on after the character from k to n: past the run that it begins, if it is one byte. Others come in rows
+// of their own, and after them no run is looked for.
 fn onward(s: &[u8], k: usize, n: usize) -> usize
     requires { ⌜ k < n ⌝ }
     ensures { λ r. ⌜

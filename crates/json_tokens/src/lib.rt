@@ -1,6 +1,6 @@
-// The tokens of JSON texts (RFC 8259, sections 2 and 6) but for strings: blanks, colons, commas, brackets and numbers. A
-// reader is given the whole text and a place in it, and answers the place past what it read. The byte past the end is 0,
-// and no token has the byte 0, so that no reader asks for the end.
+// The tokens of JSON texts (RFC 8259, sections 2 and 6) but for strings: blanks, colons, commas, brackets and numbers.
+// A reader is given the whole text and a place in it, and answers the place past what it read. The byte past the end is
+// 0, and no token has the byte 0, so that no reader asks for the end.
 mod numbers;
 mod scan;
 

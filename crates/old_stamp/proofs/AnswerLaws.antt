@@ -35,8 +35,8 @@ pub bad-answers : (stamp radi : ℕ) → stampBad stamp ≡ true → {x : Stampe
 unfolding stampedOf whenOf
 bad-answers stamp radi b e = rw (e, b) (refl, refl)
 
--- of a good stamp: low is the floor of some t - r which is the interval's start, high the ceiling of some u + s which is
--- its end
+-- of a good stamp: low is the floor of some t - r which is the interval's start, high the ceiling of some u + s which
+-- is its end
 pub good-answers : (stamp radi t r u s : ℕ) → stampBad stamp ≡ false → {low high : ℕ} → low ≡ lowAt t r
     → t - r ≡ momentOf stamp - radi → high ≡ highAt u s → u + s ≡ momentOf stamp + radi
     → Answers stamp radi (Within (record { low = low; high = high }))

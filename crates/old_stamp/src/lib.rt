@@ -6,8 +6,8 @@ mod reading;
 pub use reading::old_window;
 use refusal::Refusal;
 
-// The ends of an old stamp's window, in seconds since 1970. It is a type of its own, and no crate that checks responses,
-// piles or reports is above this one: an old window enters none of them.
+// The ends of an old stamp's window, in seconds since 1970. It is a type of its own, and no crate that checks
+// responses, piles or reports is above this one: an old window enters none of them.
 pub struct OldWindow {
     pub low: u64,
     pub high: u64,

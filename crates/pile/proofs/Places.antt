@@ -1,5 +1,5 @@
--- A code of 4 to 7 in a pile's line is that of the record's response packet, at its place (request P8); 15, 16 and every
--- other code have none.
+-- A code of 4 to 7 in a pile's line is that of the record's response packet, at its place (request P8); 15, 16 and
+-- every other code have none.
 use Prim.Native.Nat.{ℕ, _+_, _*_}
 use mathlib.Core.List.{List}
 use mathlib.Core.Bool.{Bool}

@@ -39,8 +39,8 @@ spanReport (Places i j) = Pair i j
 spanReport Nothing = Refused (refusal 18) 0
 
 module _ (v : ℕ → Verdict) (l : ℕ → Bool) (n : ℕ) where
-  -- where no record is refused and no flag is missing, the ends of the run are the pair. It may be sought with any flags
-  -- that are all set
+  -- where no record is refused and no flag is missing, the ends of the run are the pair. It may be sought with any
+  -- flags that are all set
   pub span-says : Never (refused v) n → Never (loose l) n → (set : ℕ → Bool) → ((k : ℕ) → k < n → T (set k))
       → (s : Span) → Answers (Convicts v set n) s → Says v l n (spanReport s)
   span-says f g set all s a =

@@ -16,8 +16,8 @@ pub use cutting::run_in;
 pub use gathering::verdicts_of;
 use refusal::Refusal;
 
-// What is said of a pile: the two records that contradict, where it is a report; or why it is none, and the place of the
-// record that is to blame, which is 0 where none is.
+// What is said of a pile: the two records that contradict, where it is a report; or why it is none, and the place of
+// the record that is to blame, which is 0 where none is.
 pub enum Report {
     Pair(usize, usize),
     Refused(Refusal, usize),

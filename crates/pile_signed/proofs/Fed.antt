@@ -1,6 +1,6 @@
--- Each check of a pile that needs no answers answers what the one with lent answers does, when it is given those of our own
--- Ed25519: of two results, one that the old operation's contract allows and one that the new one's does, for the same
--- piles and buffers, both are the same, and so is what is left in the buffers.
+-- Each check of a pile that needs no answers answers what the one with lent answers does, when it is given those of our
+-- own Ed25519: of two results, one that the old operation's contract allows and one that the new one's does, for the
+-- same piles and buffers, both are the same, and so is what is left in the buffers.
 use mathlib.Core.Path.{_≡_, sym, _∙_}
 use denote.Ref.{now}
 use denote.Triple.Clauses.{atExit}

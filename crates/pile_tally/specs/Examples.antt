@@ -52,8 +52,8 @@ module _ (mint maxt : ℕ) (why : Refusal) where
       ∷ windows (1000 ± 10 ∷ 1500 ± 10 ∷ 1495 ± 1 ∷ 1400 ± 10 ∷ []) true
       -- 6.
       ∷ windows (100 ± 1 ∷ 90 ± 1 ∷ 80 ± 1 ∷ []) true
-      -- 7. no neighbours contradict, but the first and the last do; with record 1 refused they do as well, though no run
-      -- convicts by itself then
+      -- 7. no neighbours contradict, but the first and the last do; with record 1 refused they do as well, though no
+      -- run convicts by itself then
       ∷ windows (100 ± 1 ∷ 95 ± 20 ∷ 80 ± 1 ∷ []) true
       ∷ records (Valid (100 ± 1) ∷ Refused why ∷ Valid (80 ± 1) ∷ []) true
       ∷ []

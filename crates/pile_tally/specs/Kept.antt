@@ -55,7 +55,8 @@ goes v zero = false
 goes v (suc n) = goes v n || tallied (after v n) (v n) .contradicts
 
 -- What a taker promises in the words of the every-pair check. Of whichever windows ws the state is, and for a window w
--- with this MIDP and RADI: the answer says whether one of ws contradicts w, and what is left is the state after ws and w.
+-- with this MIDP and RADI: the answer says whether one of ws contradicts w, and what is left is the state after ws and
+-- w.
 abbrev pub AsItGoes : Tally → ℕ → ℕ → Tallied → Type 0
 AsItGoes t midp radi r =
     (ws : List Window) (w : Window) → t ≡ tallyOf ws → w .midp ≡ midp → w .radi ≡ radi

@@ -1,5 +1,5 @@
-// Contradiction in one pass. Of the windows so far only the largest MIDP - RADI is kept: a window contradicts an earlier
-// one exactly where its MIDP + RADI is below that.
+// Contradiction in one pass. Of the windows so far only the largest MIDP - RADI is kept: a window contradicts an
+// earlier one exactly where its MIDP + RADI is below that.
 mod keeping;
 mod passing;
 

@@ -38,8 +38,8 @@ pub record JustOne (s name members : List ℕ) (v : ℕ) : Type 0 where
 -- ---- Draft 19, section 8.4.1: response objects.
 
 -- "The values of all four keys are represented as base64-encoded strings": the object at `at` has just one member of
--- this name, and its value is a string that stands for the bytes x in base64. Values within it nest `inEntry` deep at most:
--- the object stands in a list in the outermost object
+-- this name, and its value is a string that stands for the bytes x in base64. Values within it nest `inEntry` deep at
+-- most: the object stands in a list in the outermost object
 pub record Member (s : List ℕ) (at : ℕ) (name x : List ℕ) : Type 0 where
   pub place : ℕ
   pub once : foundOf s name inEntry at ≡ At place

@@ -1,6 +1,6 @@
--- A batch, end to end: for any 1 to 1,024 good requests, with `rows`, `path_from` and one `write_srep`, no request and no
--- path is refused, and each response that is written for its own place passes for its own request and carries that one
--- SREP.
+-- A batch, end to end: for any 1 to 1,024 good requests, with `rows`, `path_from` and one `write_srep`, no request and
+-- no path is refused, and each response that is written for its own place passes for its own request and carries that
+-- one SREP.
 use mathlib.Core.Bool.{true, false, not}
 use mathlib.Core.List.{List, [], _∷_}
 use mathlib.Core.Path.{_≡_, refl, sym, ap, _∙_}

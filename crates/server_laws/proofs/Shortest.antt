@@ -1,5 +1,5 @@
--- No response that says the same is shorter than the one that is written: each tag that a response must have takes eight
--- bytes of the header and its value, and tags that differ have values apart from each other.
+-- No response that says the same is shorter than the one that is written: each tag that a response must have takes
+-- eight bytes of the header and its value, and tags that differ have values apart from each other.
 use Prim.Native.Nat.{ℕ, zero-le, _+_, _*_, _≤_, _<_}
 use mathlib.Core.Bool.{Bool, true, false, cond, _||_, true≢false}
 use mathlib.Core.List.{List, [], _∷_}

@@ -72,8 +72,8 @@ pub record Placed (r : Round) (t : Turn) : Type 0 where
       ≡ pathAnswer (heldOf (length (r .rows)) (r .count)) (t .place) (length (t .buffer))
   pub left : t .path ≡ written 0 (fromBytes (r .rows) (r .count) (t .place)) (t .buffer)
 
--- the call of `write_response` for that place: its own request, the INDX and the siblings that `path_from` answered, and
--- what is the same for all
+-- the call of `write_response` for that place: its own request, the INDX and the siblings that `path_from` answered,
+-- and what is the same for all
 abbrev pub turnReply : Round → Turn → Reply
 turnReply r t =
     reply (r .requests (t .place)) (t .indx) (rootIn r) (take (32 * t .siblings) (t .path)) (r .midp) (r .radi) (r .cert)

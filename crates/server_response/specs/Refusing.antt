@@ -1,5 +1,5 @@
--- Which responses a server does not write (requests P1, P4, P8): a row of checks in the requests' order. 19 comes behind
--- it, as in every writer.
+-- Which responses a server does not write (requests P1, P4, P8): a row of checks in the requests' order. 19 comes
+-- behind it, as in every writer.
 use mathlib.Core.Bool.{Bool, not}
 use mathlib.Core.List.{List, [], _∷_}
 use Prim.Native.Nat.{ℕ}
@@ -34,8 +34,8 @@ unfoldable pub certCode : List ℕ → Refusal
 certCode cert =
     first (messageCode cert certTable ∷ shifted (valueStart cert DELE) (messageCode (deleOf cert) deleTable) ∷ [])
 
--- 10: the path is not 0 to 32 whole siblings or, by document 01's check with INDX, does not lead from the request's leaf
--- to the root
+-- 10: the path is not 0 to 32 whole siblings or, by document 01's check with INDX, does not lead from the request's
+-- leaf to the root
 unfoldable pub replyMisses : List ℕ → ℕ → List ℕ → List ℕ → Bool
 replyMisses request indx path root = not (leadsOf (leafOf request) indx path root)
 

@@ -1,5 +1,5 @@
--- What private functions promise: the checks with the response's length as the sum that code compares, and the bytes of a
--- response in two pieces. No public contract cites it.
+-- What private functions promise: the checks with the response's length as the sum that code compares, and the bytes of
+-- a response in two pieces. No public contract cites it.
 use mathlib.Core.List.{List, [], _∷_, _++_}
 use Prim.Native.Nat.{ℕ, _+_}
 use lib.Dec.{ltb}

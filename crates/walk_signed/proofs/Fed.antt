@@ -1,6 +1,7 @@
 -- The taker that needs no answers does what the walk's own does, when that is given those of our own Ed25519 under the
 -- key of the server that was asked: of two results, one that the old operation's contract allows and one that the new
--- one's does, for the same state, times, rand, response and pile, both are the same, and so is what is left of the pile.
+-- one's does, for the same state, times, rand, response and pile, both are the same, and so is what is left of the
+-- pile.
 use mathlib.Core.Path.{_≡_}
 use denote.Ref.{now}
 use denote.Triple.Clauses.{atExit}

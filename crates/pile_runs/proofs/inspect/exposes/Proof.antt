@@ -1,5 +1,5 @@
--- `pile_runs::inspect::exposes` meets its contract. The one call tells whether the ends of the run contradict, the other
--- whether it is clean.
+-- `pile_runs::inspect::exposes` meets its contract. The one call tells whether the ends of the run contradict, the
+-- other whether it is clean.
 use mathlib.Core.Bool.{Bool, true, false}
 use Prim.Native.Nat.{ℕ}
 use lib.Dec.{T}

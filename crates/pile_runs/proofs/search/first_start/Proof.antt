@@ -1,5 +1,5 @@
--- `pile_runs::search::first_start` meets its contract. No run of this length that starts before `start` is clean with ends
--- that contradict.
+-- `pile_runs::search::first_start` meets its contract. No run of this length that starts before `start` is clean with
+-- ends that contradict.
 use Prim.Native.Nat.{ℕ, _+_, _-_, _≤_, _<_}
 use native.Mathlib.Omega.{arith}
 use borrow.Author.Count.{below-more}

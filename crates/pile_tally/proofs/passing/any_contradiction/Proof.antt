@@ -1,5 +1,5 @@
--- `pile_tally::passing::any_contradiction` meets its contract. No two of the records before record k contradict, and the
--- state is what is kept of them.
+-- `pile_tally::passing::any_contradiction` meets its contract. No two of the records before record k contradict, and
+-- the state is what is kept of them.
 use Prim.Native.Nat.{_-_, _≤_}
 use native.Mathlib.Omega.{arith}
 use Rattle.pile_runs.specs.Convict.{verdictIn}

@@ -1,5 +1,5 @@
--- `wire_message::frame::first_bad_offset` meets its contract. The scan has found no bad offset below i, and `last` is the
--- one before offset[i].
+-- `wire_message::frame::first_bad_offset` meets its contract. The scan has found no bad offset below i, and `last` is
+-- the one before offset[i].
 use native.Mathlib.Omega.{arith}
 use Prim.Native.Nat.{_+_, _-_, _%_, _≤_}
 use mathlib.Core.Path.{_≡_, ap}
