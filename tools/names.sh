@@ -7,7 +7,6 @@ program_crate=trawl          # the program, which people call by its front end
 cases_crate=trawl_cases      # the same on many piles with their answers; its `stdout` is what is due
 alone_crate=trawl_alone      # the same on piles alone
 digests_crate=sha512_vectors # prints the digests of FIPS 180-4's examples
-tables_crate=ed25519_doubles # has the points 2^i B as two tables
 
 archive=lib$library_crate.a         # the library, as tools/native-lib makes it
 verdict=libexec/trawlbeacon/verdict # the proved program, as tools/native-program makes it

@@ -10,16 +10,6 @@ same_examples() {
     say "$(wc -l <build/fips-examples) digests agree"
 }
 
-# The tables of the points 2^i B, in the code and in the definitions. They are proved, so that this
-# only holds the words on where they come from.
-same_tables() {
-    local crate=crates/$tables_crate
-    cargo run --offline --quiet --release -p independent --bin doubles >build/doubles || return
-    grep -E '^ +[0-9]+,$' "$crate/src/tables.rt" | tr -d ' ,' | cmp - build/doubles || return
-    grep -oE '[0-9]+ ∷' "$crate/specs/Tables.antt" | tr -d ' ∷' | cmp - build/doubles || return
-    say "$(wc -l <build/doubles) numbers of the tables agree"
-}
-
 # The piles that the proved programs are run on, and what is to be said of them, come from that
 # other program too: it makes both anew, and they must be what is kept, in whichever folder.
 same_verdicts() {

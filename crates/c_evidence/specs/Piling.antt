@@ -4,7 +4,7 @@ use Rattle.pile.specs.declared.Judgement.{Judgement}
 use Rattle.pile_report.specs.Report.{reportNumber, reportAt}
 use Rattle.pile_report.specs.Taking.{takenNumber}
 use Rattle.pile_report.specs.declared.Report.{Report}
-use Rattle.pile_report.specs.declared.Report.the-variants.{Pair, Bad, Record, Unlinked, Clear}
+use Rattle.pile_report.specs.declared.Report.the-variants.{Pair, Refused}
 use Rattle.pile_report.specs.declared.Taken.{Taken}
 use Rattle.pile_report.specs.declared.Taken.the-variants as taken
 use Rattle.c_packets.specs.Judging.{verdictWith}
@@ -32,25 +32,20 @@ placed k v =
 abbrev pub tbJudged : Judgement → TbJudged
 tbJudged j = placed (j .place) (verdictWith (j .verdict) (j .pubk))
 
--- a refusal of a report, with the record and the byte that it carries, and 0 where it carries none
-abbrev pub refusedAt : ℕ → ℕ → ℕ → TbReported
-refusedAt code k at = record { code = code; place = k; at = at; first = 0; second = 0 }
-
--- the answer of the check of a report
+-- the answer of the check of a report: the pair, or a refusal with the record and the byte that it carries, and 0 where
+-- it carries none
 abbrev pub tbReported : Report → TbReported
 tbReported (Pair i j) = record { code = 0; place = 0; at = reportAt (Pair i j); first = i; second = j }
-tbReported Bad = refusedAt (reportNumber Bad) 0 (reportAt Bad)
-tbReported (Record why k) = refusedAt (reportNumber (Record why k)) k (reportAt (Record why k))
-tbReported (Unlinked k) = refusedAt (reportNumber (Unlinked k)) k (reportAt (Unlinked k))
-tbReported Clear = refusedAt (reportNumber Clear) 0 (reportAt Clear)
+tbReported (Refused why k) =
+    record {
+      code = reportNumber (Refused why k);
+      place = k;
+      at = reportAt (Refused why k);
+      first = 0;
+      second = 0;
+    }
 
--- a refusal of the cutter
-abbrev pub notCut : ℕ → TbCut
-notCut code = record { code = code; first = 0; last = 0 }
-
--- its answer: the places of the run's first and last record, or a refusal
+-- the answer of the cutter: the places of the run's first and last record, or a refusal
 abbrev pub tbCut : Taken → TbCut
 tbCut (taken.Run i j) = record { code = 0; first = i; last = j }
-tbCut taken.Bad = notCut (takenNumber taken.Bad)
-tbCut taken.Short = notCut (takenNumber taken.Short)
-tbCut taken.NoRun = notCut (takenNumber taken.NoRun)
+tbCut (taken.Refused why) = record { code = takenNumber (taken.Refused why); first = 0; last = 0 }

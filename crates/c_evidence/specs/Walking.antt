@@ -1,7 +1,9 @@
 -- What the measuring walk answers, as structs for C.
+use mathlib.Core.Bool.{cond}
 use Prim.Native.Nat.{ℕ}
+use lib.Dec.{eqb}
 use Rattle.pile_report.specs.declared.Report.{Report}
-use Rattle.pile_report.specs.declared.Report.the-variants.{Pair, Bad, Record, Unlinked, Clear}
+use Rattle.pile_report.specs.declared.Report.the-variants as report
 use Rattle.check_response.specs.declared.Window.{Window}
 use Rattle.walk.specs.Taking.{saidNumber, saidAt}
 use Rattle.walk.specs.declared.Asked.{Asked}
@@ -33,13 +35,10 @@ standsAt outcome v first second =
       radi = v .radi;
     }
 
--- the last one, by what the report check says of the pile
+-- the last one, by what the report check says of the pile: a pair, 18, or another refusal
 abbrev pub endTold : Window → Report → TbTook
-endTold v (Pair i j) = standsAt 3 v i j
-endTold v Bad = standsAt 4 v 0 0
-endTold v (Record why k) = standsAt 4 v 0 0
-endTold v (Unlinked k) = standsAt 4 v 0 0
-endTold v Clear = standsAt 2 v 0 0
+endTold v (report.Pair i j) = standsAt 3 v i j
+endTold v (report.Refused why k) = standsAt (cond (eqb (why .code) 18) 2 4) v 0 0
 
 -- the answer on a response; beside a refusal stand zeros
 abbrev pub tbTook : Said → TbTook

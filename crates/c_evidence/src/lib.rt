@@ -1,5 +1,5 @@
 // What C is told of the evidence, which is piles, reports and walks, and of a response's two signatures: structs and
-// answers as in `told`. Beside a refusal stand zeros, but for the place of a record. No function has a `requires`.
+// answers as in `c_packets`. Beside a refusal stand zeros, but for the place of a record. No function has a `requires`.
 mod piling;
 mod publishing;
 mod signing;

@@ -1,6 +1,6 @@
 // What is said of a pile, as structs.
 ghost use mathlib.Core.Path.{_≡_};
-ghost use Rattle.c_evidence.specs.Piling.{tbJudged, refusedAt, tbReported, notCut, tbCut};
+ghost use Rattle.c_evidence.specs.Piling.{tbJudged, tbReported, tbCut};
 use super::TbCut;
 use super::TbJudged;
 use super::TbReported;
@@ -31,7 +31,7 @@ pub fn judgement_told(j: Judgement) -> TbJudged
     }
 }
 
-// The answer on a report, as a struct.
+// The answer on a report, as a struct: a refusal with the record and the byte that it carries.
 pub fn report_told(a: Report) -> TbReported
     ensures { λ r. ⌜ r ≡ tbReported a ⌝ }
 {
@@ -43,23 +43,13 @@ pub fn report_told(a: Report) -> TbReported
             first: i as u64,
             second: j as u64,
         },
-        Report::Bad => refused_at(15, 0, 0),
-        Report::Record(why, k) => refused_at(why.code as u32, k, why.at),
-        Report::Unlinked(k) => refused_at(17, k, 0),
-        Report::Clear => refused_at(18, 0, 0),
-    }
-}
-
-// A refusal of a report, with the record and the byte that it carries.
-fn refused_at(code: u32, place: usize, at: usize) -> TbReported
-    ensures { λ r. ⌜ r ≡ refusedAt code place at ⌝ }
-{
-    TbReported {
-        code: code,
-        place: place as u64,
-        at: at as u64,
-        first: 0,
-        second: 0,
+        Report::Refused(why, k) => TbReported {
+            code: why.code as u32,
+            place: k as u64,
+            at: why.at as u64,
+            first: 0,
+            second: 0,
+        },
     }
 }
 
@@ -73,19 +63,10 @@ pub fn run_told(t: Taken) -> TbCut
             first: i as u64,
             last: j as u64,
         },
-        Taken::Bad => not_cut(15),
-        Taken::Short => not_cut(19),
-        Taken::NoRun => not_cut(18),
-    }
-}
-
-// A refusal of the cutter.
-fn not_cut(code: u32) -> TbCut
-    ensures { λ r. ⌜ r ≡ notCut code ⌝ }
-{
-    TbCut {
-        code: code,
-        first: 0,
-        last: 0,
+        Taken::Refused(why) => TbCut {
+            code: why.code as u32,
+            first: 0,
+            last: 0,
+        },
     }
 }

@@ -1,6 +1,6 @@
 // What the reader and the writer of reports in the public format answer, as structs.
 ghost use mathlib.Core.Path.{_≡_};
-ghost use Rattle.c_evidence.specs.Publishing.{notRead, tbRecords, notPublished, tbPublished, notForwarded, tbForwarded};
+ghost use Rattle.c_evidence.specs.Publishing.{tbRecords, tbPublished, tbForwarded};
 use super::TbForwarded;
 use super::TbPublished;
 use super::TbRecords;
@@ -17,23 +17,14 @@ pub fn read_told(a: Read) -> TbRecords
             code: 0,
             records: n as u64,
         },
-        Read::NoReport => not_read(24),
-        Read::Amount => not_read(25),
-        Read::Short => not_read(19),
+        Read::Refused(why) => TbRecords {
+            code: why.code as u32,
+            records: 0,
+        },
     }
 }
 
-// A refusal of the reader.
-fn not_read(code: u32) -> TbRecords
-    ensures { λ r. ⌜ r ≡ notRead code ⌝ }
-{
-    TbRecords {
-        code: code,
-        records: 0,
-    }
-}
-
-// How long the text is, or why there is none.
+// How long the text is, or why there is none, with the record and the byte that the refusal carries.
 pub fn published_told(a: Published) -> TbPublished
     ensures { λ r. ⌜ r ≡ tbPublished a ⌝ }
 {
@@ -44,23 +35,12 @@ pub fn published_told(a: Published) -> TbPublished
             at: 0,
             length: n as u64,
         },
-        Published::Bad => not_published(15, 0, 0),
-        Published::Record(why, k) => not_published(why.code as u32, k, why.at),
-        Published::Unlinked(k) => not_published(17, k, 0),
-        Published::Clear => not_published(18, 0, 0),
-        Published::Short => not_published(19, 0, 0),
-    }
-}
-
-// A refusal of the writer, with the record and the byte that it carries.
-fn not_published(code: u32, place: usize, at: usize) -> TbPublished
-    ensures { λ r. ⌜ r ≡ notPublished code place at ⌝ }
-{
-    TbPublished {
-        code: code,
-        place: place as u64,
-        at: at as u64,
-        length: 0,
+        Published::Refused(why, k) => TbPublished {
+            code: why.code as u32,
+            place: k as u64,
+            at: why.at as u64,
+            length: 0,
+        },
     }
 }
 
@@ -75,22 +55,11 @@ pub fn forwarded_told(a: Forwarded) -> TbForwarded
             last: j as u64,
             length: n as u64,
         },
-        Forwarded::NoReport => not_forwarded(24),
-        Forwarded::Amount => not_forwarded(25),
-        Forwarded::Bad => not_forwarded(15),
-        Forwarded::NoRun => not_forwarded(18),
-        Forwarded::Short => not_forwarded(19),
-    }
-}
-
-// A refusal of the cut of a text.
-fn not_forwarded(code: u32) -> TbForwarded
-    ensures { λ r. ⌜ r ≡ notForwarded code ⌝ }
-{
-    TbForwarded {
-        code: code,
-        first: 0,
-        last: 0,
-        length: 0,
+        Forwarded::Refused(why) => TbForwarded {
+            code: why.code as u32,
+            first: 0,
+            last: 0,
+            length: 0,
+        },
     }
 }

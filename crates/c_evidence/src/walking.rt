@@ -5,6 +5,7 @@ use super::TbAsked;
 use super::TbTook;
 use check_response::Window;
 use pile_report::Report;
+use refusal::codes;
 use walk::Asked;
 use walk::Said;
 
@@ -45,16 +46,19 @@ pub fn took_told(s: Said) -> TbTook
     }
 }
 
-// The end of a walk. A pile that is not what the walk wrote is told as that, and never as consistent.
+// The end of a walk: malfeasance where the report check names a pair, consistent where it says 18. A pile that it refuses
+// otherwise is not what the walk wrote, and is told as that.
 fn end_told(v: Window, r: Report) -> TbTook
     ensures { λ x. ⌜ x ≡ endTold v r ⌝ }
 {
     match r {
         Report::Pair(i, j) => stands_at(3, v, i, j),
-        Report::Clear => stands_at(2, v, 0, 0),
-        Report::Bad => stands_at(4, v, 0, 0),
-        Report::Record(_, _) => stands_at(4, v, 0, 0),
-        Report::Unlinked(_) => stands_at(4, v, 0, 0),
+        Report::Refused(why, _) => {
+            if why.code == codes::NO_CONTRADICTION {
+                return stands_at(2, v, 0, 0);
+            }
+            stands_at(4, v, 0, 0)
+        }
     }
 }
 

@@ -3,11 +3,10 @@
 use Prim.Native.Nat.{_*_}
 use Rattle.server_list.specs.Lookup.{whereNumber}
 use Rattle.server_list.specs.declared.Where.{Where}
-use Rattle.server_list.specs.declared.Where.the-variants.{Owner, Shipped, Ragged, Unknown}
+use Rattle.server_list.specs.declared.Where.the-variants.{Owner, Shipped, Refused}
 use Rattle.c_packets.specs.declared.TbFound.{TbFound}
 
 abbrev pub tbFound : Where → TbFound
 tbFound (Owner k) = record { code = 0; list = 0; offset = k * 64 }
 tbFound (Shipped k) = record { code = 0; list = 1; offset = k * 64 }
-tbFound Ragged = record { code = whereNumber Ragged; list = 0; offset = 0 }
-tbFound Unknown = record { code = whereNumber Unknown; list = 0; offset = 0 }
+tbFound (Refused why) = record { code = whereNumber (Refused why); list = 0; offset = 0 }

@@ -5,9 +5,9 @@ use super::TbLaid;
 use super::TbPlaced;
 use super::TbRooted;
 use super::numbers::number;
-use tree_build::Laid;
-use tree_build::Placed;
+use tree_build::PathAnswer;
 use tree_build::Rooted;
+use tree_build::RowsAnswer;
 
 // The root of a batch, as a struct.
 pub fn root_told(t: Rooted) -> TbRooted
@@ -23,22 +23,17 @@ pub fn root_told(t: Rooted) -> TbRooted
 }
 
 // The answer of a writer of a path, as a struct.
-pub fn path_told(p: Placed) -> TbPlaced
+pub fn path_told(p: PathAnswer) -> TbPlaced
     ensures { λ r. ⌜ r ≡ tbPlaced p ⌝ }
 {
     match p {
-        Placed::Written { indx, depth } => TbPlaced {
+        PathAnswer::Written { indx, depth } => TbPlaced {
             code: 0,
             indx: indx,
             depth: depth,
         },
-        Placed::NoLeaf => TbPlaced {
-            code: 20,
-            indx: 0,
-            depth: 0,
-        },
-        Placed::Short => TbPlaced {
-            code: 19,
+        PathAnswer::Refused(why) => TbPlaced {
+            code: why.code as u32,
             indx: 0,
             depth: 0,
         },
@@ -46,22 +41,17 @@ pub fn path_told(p: Placed) -> TbPlaced
 }
 
 // The answer of the writer of all rows, as a struct, where rows have so many bytes.
-pub fn rows_told(l: Laid, length: usize) -> TbLaid
+pub fn rows_told(l: RowsAnswer, length: usize) -> TbLaid
     ensures { λ r. ⌜ r ≡ tbLaid l length ⌝ }
 {
     match l {
-        Laid::Written { depth } => TbLaid {
+        RowsAnswer::Written { depth } => TbLaid {
             code: 0,
             depth: depth,
             length: length as u64,
         },
-        Laid::NoLeaves => TbLaid {
-            code: 20,
-            depth: 0,
-            length: 0,
-        },
-        Laid::Short => TbLaid {
-            code: 19,
+        RowsAnswer::Refused(why) => TbLaid {
+            code: why.code as u32,
             depth: 0,
             length: 0,
         },

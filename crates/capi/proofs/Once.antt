@@ -7,7 +7,6 @@ use Rattle.laws.proofs.Once.{Settles}
 use Rattle.sha512.specs.declared.Running.{Running}
 use Rattle.pile_tally.specs.declared.Tally.{Tally}
 use Rattle.pile_tally.specs.declared.Tallied.{Tallied}
-use Rattle.tree_build.proofs.BuildingLaws.{places-once, lays-once}
 use Rattle.pile_report.proofs.Says.{report-once}
 use Rattle.pile_report.proofs.Runs.{takes-once}
 use Rattle.c_evidence.specs.Piling.{tbReported}
@@ -190,18 +189,18 @@ tb-root-once κs a x u y v p q = (p ∙ sym q, refl)
 
 pub tb-path-once : Settles tb-path-kinds.ps tb-path-kinds.r tb-path-reads.Learnt
 tb-path-once κs a x u y v p q =
-    let same = places-once _ _ _ (p .answer) (q .answer) (p .right) (q .right) in
-    (cc, ap (λ (out : List ℕ). (tt, (tt, (out, tt)))) (cc))
+    let same = p .0 ∙ sym (q .0) in
+    (same, ap (λ (out : List ℕ). (tt, (tt, (out, tt)))) (p .1 ∙ sym (rw (q .0 ∙ sym (p .0)) at (q .1))))
 
 pub tb-rows-once : Settles tb-rows-kinds.ps tb-rows-kinds.r tb-rows-reads.Learnt
 tb-rows-once κs a x u y v p q =
-    let same = lays-once _ _ (p .answer) (q .answer) (p .right) (q .right) in
-    (cc, ap (λ (out : List ℕ). (tt, (out, tt))) (cc))
+    let same = p .0 ∙ sym (q .0) in
+    (same, ap (λ (out : List ℕ). (tt, (out, tt))) (p .1 ∙ sym (rw (q .0 ∙ sym (p .0)) at (q .1))))
 
 pub tb-path-from-once : Settles tb-path-from-kinds.ps tb-path-from-kinds.r tb-path-from-reads.Learnt
 tb-path-from-once κs a x u y v p q =
-    let same = places-once _ _ _ (p .answer) (q .answer) (p .right) (q .right) in
-    (cc, ap (λ (out : List ℕ). (tt, (tt, (tt, (out, tt))))) (cc))
+    let same = p .0 ∙ sym (q .0) in
+    (same, ap (λ (out : List ℕ). (tt, (tt, (tt, (out, tt))))) (p .1 ∙ sym (rw (q .0 ∙ sym (p .0)) at (q .1))))
 
 pub tb-check-response-once : Settles tb-check-response-kinds.ps tb-check-response-kinds.r tb-check-response-reads.Learnt
 tb-check-response-once κs a x u y v p q = (p ∙ sym q, refl)

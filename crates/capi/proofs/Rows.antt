@@ -3,15 +3,16 @@ use Prim.Native.Nat.{ℕ}
 use mathlib.Core.Path.{_≡_, refl, ap}
 use mathlib.Core.List.{List}
 use lib.ListN.{length}
-use Rattle.tree_build.specs.Building.{LaysRows, rowsBytes}
+use Rattle.tree_build.specs.Building.{rowsAnswer, rowsBytes}
 use Rattle.tree_build.specs.Leaves.{countOf, rowsLength}
-use Rattle.tree_build.specs.declared.Laid.{Laid}
-use Rattle.tree_build.specs.declared.Laid.the-variants as laid
+use Rattle.tree_build.specs.declared.RowsAnswer.{RowsAnswer}
+use Rattle.tree_build.specs.declared.RowsAnswer.the-variants as rows-answer
+use Rattle.tree_build.proofs.BuildingLaws.{rows-there}
 use Rattle.tree_build.proofs.Sizes.{rows-size}
 use Rattle.c_packets.specs.Building.{tbLaid}
 
-pub told-length : (s : List ℕ) (room : ℕ) (x : Laid) → LaysRows (countOf (length s)) room x
+pub told-length : (s : List ℕ) (room : ℕ) (x : RowsAnswer) → x ≡ rowsAnswer (countOf (length s)) room
     → tbLaid x (rowsLength (length s)) ≡ tbLaid x (length (rowsBytes s))
-told-length s room (laid.Written depth) r = ap (tbLaid (laid.Written depth)) (rows-size s (r .0))
-told-length s room laid.NoLeaves r = refl
-told-length s room laid.Short r = refl
+told-length s room (rows-answer.Written depth) e =
+    ap (tbLaid (rows-answer.Written depth)) (rows-size s (rows-there (countOf (length s)) room depth e .some))
+told-length s room (rows-answer.Refused why) e = refl

@@ -23,13 +23,8 @@ pub extern "C" fn tb_find_server<'a>(owner: &'a [u8], shipped: &'a [u8], srv: &[
             list: 1,
             offset: (k * 64) as u64,
         },
-        Where::Ragged => TbFound {
-            code: 21,
-            list: 0,
-            offset: 0,
-        },
-        Where::Unknown => TbFound {
-            code: 22,
+        Where::Refused(why) => TbFound {
+            code: why.code as u32,
             list: 0,
             offset: 0,
         },

@@ -15,6 +15,7 @@ use pile::RECORD;
 use pile::judge;
 use pile_report::Taken;
 use pile_report::cut_run;
+use refusal::codes;
 
 // The length of sixteen records, the most that a pile has.
 const LONGEST: usize = 16 * RECORD;
@@ -35,7 +36,7 @@ pub fn taken_from<'a>(pile: &'a [u8], answers: &'a [u8]) -> Taken
     cut_run(pile, answers, &mut run)
 }
 
-// The whole text, where the cutter answered this. That the buffer was too short it never answers, as 15 comes before.
+// The whole text, where the cutter answered this. A refusal is 15 or 18: 19 it never answers, as 15 comes before.
 pub fn put_verdict<'a>(pile: &'a [u8], answers: &'a [u8], taken: Taken, out: &mut [u8]) -> usize
     requires { ⌜ Takes (now pile) (now answers) 65536 taken × (2048 ≤ length (now out)) ⌝ }
     ensures { λ r. ⌜ Puts (now (out .entry)) 0 (verdictText (now (pile .entry)) (now (answers .entry)) taken)
@@ -46,12 +47,13 @@ pub fn put_verdict<'a>(pile: &'a [u8], answers: &'a [u8], taken: Taken, out: &mu
             let a = put_records(pile, answers, out);
             put_run(out, a, first, last)
         }
-        Taken::NoRun => {
-            let a = put_records(pile, answers, out);
-            put_word(out, a, b"run none\n")
+        Taken::Refused(why) => {
+            if why.code == codes::NO_CONTRADICTION {
+                let a = put_records(pile, answers, out);
+                return put_word(out, a, b"run none\n");
+            }
+            put_labelled(out, 0, b"refused", why.code as u64)
         }
-        Taken::Bad => put_labelled(out, 0, b"refused", 15),
-        Taken::Short => put_labelled(out, 0, b"refused", 19),
     }
 }
 

@@ -8,14 +8,16 @@ use borrow.Author.Tests.{ltb-true, lt-ltb, le-ltb, eq-eqb, ne-eqb}
 use lib.Dec.{ltb, lit<}
 use lib.ListN.{length, take, drop}
 use Rattle.laws.specs.Numbers.{le}
-use Rattle.digits.specs.Digits.{value, Each}
+use Rattle.digits.specs.Digits.{value}
 use Rattle.ed25519_field.specs.Field.{p}
-use Rattle.ed25519_field.specs.Limbs.{radix}
+use Rattle.ed25519_field.specs.Limbs.{radix, Digits}
 use Rattle.ed25519_field.specs.Residue.{Low}
 use Rattle.ed25519_field.proofs.Reducing.{each-below}
 use Rattle.ed25519_scalar.specs.Order.{L}
 use Rattle.ed25519_scalar.proofs.Steps.{L-pos}
 use Rattle.ed25519_point.specs.Decoding.{Decoding, decodeOf}
+use Rattle.ed25519_group_laws.proofs.Decoded.{decoded-stands}
+use Rattle.ed25519_windows.specs.Windows.{Itself}
 use Rattle.ed25519.specs.Verification.{kOf, groupEquation, accepts, verifies, verifiesParts}
 
 -- a number modulo L has limbs below the radix
@@ -23,12 +25,19 @@ L-p : L < p
 unfolding L p
 L-p = lit< tt
 
-pub scalar-each : (l : List ℕ) (x : ℕ) → Low l → value radix l ≡ x % L → Each 67108863 l
+pub scalar-each : (l : List ℕ) (x : ℕ) → Low l → value radix l ≡ x % L → Digits l
 scalar-each l x h e = each-below l h (rw e (lt-trans (mod-lt x L-pos) L-p))
 
-pub hash-each : (l r a m : List ℕ) → Low l → value radix l ≡ kOf r a m → Each 67108863 l
+pub below-each : (l : List ℕ) (v : ℕ) (b : Bool) → Low l → value radix l ≡ v → b ≡ ltb v L → b ≡ true → Digits l
+below-each l v b h e f t = each-below l h (rw e (lt-trans (ltb-true v L (sym f ∙ t)) L-p))
+
+pub hash-each : (l r a m : List ℕ) → Low l → value radix l ≡ kOf r a m → Digits l
 unfolding kOf
 hash-each l r a m h e = scalar-each l _ h e
+
+-- what is decoded stands for itself
+pub decoded-itself : (s : List ℕ) (D : Decoding) → D ≡ decodeOf s → D .ok ≡ true → Itself (D .point)
+decoded-itself s D e t = rw e (decoded-stands s (rw e at t))
 
 -- `check`: v is the number in the bytes s
 module _ (key m r s : List ℕ) (A R : Decoding) (ea : A ≡ decodeOf key) where
@@ -43,12 +52,11 @@ module _ (key m r s : List ℕ) (A R : Decoding) (ea : A ≡ decodeOf key) where
       pub check-3 : b ≡ false → false ≡ accepts key m r s
       check-3 t = let e : ltb v L ≡ false = sym eb ∙ t in rw (← ea, ta, ← er, tr, ev, e)
 
-      pub check-4 : (z : Bool) (S k : ℕ) → b ≡ true → S ≡ v % L → k ≡ kOf r key m
+      pub check-4 : (z : Bool) (S k : ℕ) → b ≡ true → S ≡ v → k ≡ kOf r key m
           → z ≡ groupEquation (A .point) (R .point) S k → z ≡ accepts key m r s
       check-4 z S k t f g h =
           let e : ltb v L ≡ true = sym eb ∙ t in
-          let n : S ≡ v = f ∙ mod-eq-of-lt (ltb-true v L e) in
-          rw (← ea, ta, ← er, tr, ev, e) (h ∙ (rw (n, g)))
+          rw (← ea, ta, ← er, tr, ev, e) (h ∙ (rw (f, g)))
 
 -- `verify_parts`
 module _ (key context text sig : List ℕ) where

@@ -3,30 +3,33 @@ ghost use mathlib.Core.Path.{_≡_};
 ghost use mathlib.Core.List.{_++_};
 ghost use Prim.Native.Nat.{_+_, _^_, _<_};
 ghost use lib.ListN.{length};
-ghost use Rattle.digits.specs.Digits.{value, Each};
-ghost use Rattle.ed25519_field.specs.Limbs.{radix};
+ghost use Rattle.digits.specs.Digits.{value};
+ghost use Rattle.ed25519_field.specs.Limbs.{radix, Digits};
+ghost use Rattle.ed25519_field.specs.Residue.{Low};
 ghost use Rattle.ed25519_curve.specs.Coords.{ptOf, Good};
+ghost use Rattle.ed25519_windows.specs.Windows.{Itself};
 ghost use Rattle.ed25519.specs.Verification.{groupEquation, accepts, verifies, verifiesParts};
 use super::hashing::hash;
-use ed25519_base::times_base;
 use ed25519_curve::Point;
-use ed25519_curve::point_add;
+use ed25519_curve::opposite;
 use ed25519_curve::point_equal;
-use ed25519_curve::times;
+use ed25519_curve::row_of;
+use ed25519_field::limbs_of;
 use ed25519_point::decode;
 use ed25519_scalar::Scalar;
 use ed25519_scalar::below_order;
-use ed25519_scalar::modulo;
+use ed25519_windows::times_two;
 
 // The most bytes that a text may have: with R and A as many as a message in pieces may, 2^64 - 1.
 const MOST: usize = 0xffff_ffff_ffff_ffbf;
 
-// Whether [S]B = R + [k]A.
+// Whether [S]B = R + [k]A, as [S]B + [k](-A) = R.
 fn group_equation(a: Point, r: Point, s: Scalar, k: Scalar) -> bool
-    requires { ⌜ Good a × Good r × Each 67108863 s × Each 67108863 k ⌝ }
+    requires { ⌜ Good a × Good r × Itself (ptOf a) × Itself (ptOf r) × Low s × Low k × Digits s × Digits k ⌝ }
     ensures { λ b. ⌜ b ≡ groupEquation (ptOf a) (ptOf r) (value radix s) (value radix k) ⌝ }
 {
-    point_equal(times_base(s), point_add(r, times(k, a)))
+    let minus = opposite(row_of(a));
+    point_equal(times_two(s, k, minus), r)
 }
 
 // Of a key and the halves of a signature.
@@ -43,7 +46,7 @@ fn check(key: &[u8], context: &[u8], text: &[u8], r: &[u8], s: &[u8]) -> bool
             if below_order(s) {
                 let ap = a.point;
                 let qp = q.point;
-                return group_equation(ap, qp, modulo(s), hash(r, key, context, text));
+                return group_equation(ap, qp, limbs_of(s), hash(r, key, context, text));
             }
         }
     }

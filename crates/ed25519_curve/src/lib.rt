@@ -2,15 +2,20 @@
 mod adding;
 mod comparing;
 mod constants;
-mod multiplying;
+mod doubling;
+mod finishing;
+mod rows;
 
-pub use adding::add_with;
-pub use adding::point_add;
-pub use adding::point_double;
+pub use adding::joined;
 pub use comparing::point_equal;
+pub use constants::zero_flat;
 pub use constants::zero_point;
+pub use doubling::doubled;
 use ed25519_field::Fe;
-pub use multiplying::times;
+pub use finishing::with_t;
+pub use finishing::without_t;
+pub use rows::opposite;
+pub use rows::row_of;
 
 // A point: x = X/Z, y = Y/Z, x y = T/Z.
 pub struct Point {
@@ -18,4 +23,27 @@ pub struct Point {
     pub y: Fe,
     pub z: Fe,
     pub t: Fe,
+}
+
+// A point without its T, which a doubling does not need.
+pub struct Flat {
+    pub x: Fe,
+    pub y: Fe,
+    pub z: Fe,
+}
+
+// E, F, G and H, of which a point's coordinates are products.
+pub struct Ends {
+    pub e: Fe,
+    pub f: Fe,
+    pub g: Fe,
+    pub h: Fe,
+}
+
+// What an addition takes of its second point: Y - X, Y + X, 2 Z and 2 d T.
+pub struct Row {
+    pub minus: Fe,
+    pub plus: Fe,
+    pub twice: Fe,
+    pub scaled: Fe,
 }

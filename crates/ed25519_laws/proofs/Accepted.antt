@@ -12,13 +12,15 @@ use Rattle.ed25519_curve.specs.Points.{base}
 use Rattle.ed25519_scalar.specs.Order.{L}
 use Rattle.ed25519_point.specs.Decoding.{decodeOf}
 use Rattle.ed25519.specs.Verification.{kOf, verifies}
-use Rattle.ed25519_laws.specs.Affine.{Affine, sumOf, timesOf, pointOf, acceptsAffine, verifiesAffine}
-use Rattle.ed25519_laws.specs.Group.{Point}
-use Rattle.ed25519_laws.proofs.Group.{sum-point}
-use Rattle.ed25519_laws.proofs.Times.{times-point}
-use Rattle.ed25519_laws.proofs.Multiples.{base-stands}
-use Rattle.ed25519_laws.proofs.Equality.{same-exactly}
-use Rattle.ed25519_laws.proofs.Verifying.{decoded-stands, verifies-affine}
+use Rattle.ed25519_group_laws.specs.Affine.{Affine, sumOf, timesOf, pointOf}
+use Rattle.ed25519_laws.specs.AffineEquation.{acceptsAffine, verifiesAffine}
+use Rattle.ed25519_group_laws.specs.Group.{Point}
+use Rattle.ed25519_group_laws.proofs.Group.{sum-point}
+use Rattle.ed25519_group_laws.proofs.Times.{times-point}
+use Rattle.ed25519_group_laws.proofs.Multiples.{base-stands}
+use Rattle.ed25519_group_laws.proofs.Equality.{same-exactly}
+use Rattle.ed25519_group_laws.proofs.Decoded.{decoded-stands}
+use Rattle.ed25519_laws.proofs.Verifying.{verifies-affine}
 
 -- the point that 32 bytes decode to
 abbrev pub ofBytes : List ℕ → Affine

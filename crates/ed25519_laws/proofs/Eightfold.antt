@@ -7,8 +7,9 @@ use mathlib.Core.List.{List}
 use lib.ListN.{take, drop}
 use Rattle.laws.specs.Numbers.{le}
 use Rattle.ed25519.specs.Verification.{kOf, verifies}
-use Rattle.ed25519_laws.specs.Affine.{timesOf, EightfoldOf}
-use Rattle.ed25519_laws.proofs.Times.{times-point, times-sum}
+use Rattle.ed25519_group_laws.specs.Affine.{timesOf}
+use Rattle.ed25519_laws.specs.AffineEquation.{EightfoldOf}
+use Rattle.ed25519_group_laws.proofs.Times.{times-point, times-sum}
 use Rattle.ed25519_laws.proofs.Accepted.{ofBytes, verified}
 
 pub verifies-eightfold : (key text signature : List ℕ) → verifies key text signature ≡ true

@@ -19,7 +19,8 @@ use Rattle.ed25519_point.proofs.OnCurve.{decoded}
 use Rattle.ed25519_prime_laws.specs.Encodes.{Encodes}
 use Rattle.ed25519_prime_laws.proofs.Exactly.{decodes-exactly, encoding-decodes}
 use Rattle.ed25519.specs.Verification.{kOf, verifies}
-use Rattle.ed25519_laws.specs.Affine.{Affine, sumOf, timesOf, sameOf, verifiesAffine}
+use Rattle.ed25519_group_laws.specs.Affine.{Affine, sumOf, timesOf, sameOf}
+use Rattle.ed25519_laws.specs.AffineEquation.{verifiesAffine}
 use Rattle.ed25519_laws.specs.Verifies.{Verifies}
 use Rattle.ed25519_laws.proofs.Accepted.{ofBytes, accepted}
 use Rattle.ed25519_laws.proofs.Verifying.{verifies-affine}

@@ -12,7 +12,7 @@ use Rattle.laws.specs.Bytes.{Bytes}
 use Rattle.laws.specs.Numbers.{le, leBytes}
 use Rattle.laws.proofs.Numbers.{leBytes-le}
 use Rattle.ed25519.specs.Verification.{verifies}
-use Rattle.ed25519_laws.proofs.Order.{times-exactly}
+use Rattle.ed25519_group_laws.proofs.Order.{times-exactly}
 use Rattle.ed25519_laws.proofs.Accepted.{Accepted, verified}
 
 -- a signature of two halves that verifies: the second has 32 bytes and is accepted

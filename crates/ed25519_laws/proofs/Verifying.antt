@@ -5,38 +5,26 @@ use mathlib.Core.Bool.{Bool, true, false, _&&_}
 use mathlib.Core.List.{List, _++_}
 use native.Mathlib.Nat.{mod-lt, lt-trans}
 use borrow.Author.Tests.{ltb-true}
-use lib.Dec.{eqb, ltb, lit<}
+use lib.Dec.{eqb, ltb}
 use lib.ListN.{length, take, drop}
 use Rattle.laws.specs.Numbers.{le}
 use Rattle.laws.proofs.Holds.{both}
-use Rattle.ed25519_curve.specs.Points.{base, neutral, pointMul}
+use Rattle.ed25519_curve.specs.Points.{base}
 use Rattle.ed25519_scalar.specs.Order.{L}
 use Rattle.ed25519_scalar.proofs.Steps.{L-pos}
 use Rattle.ed25519_point.specs.Decoding.{decodeOf}
-use Rattle.ed25519_point.proofs.OnCurve.{decoded}
 use Rattle.ed25519.specs.Verification.{kOf, accepts, verifies, verifiesParts}
-use Rattle.ed25519.proofs.Order.{order-base}
-use Rattle.ed25519_laws.specs.Affine.{zeroPoint, timesOf, pointOf, acceptsAffine, verifiesAffine}
-use Rattle.ed25519_laws.specs.Standing.{StandsFor}
-use Rattle.ed25519_laws.proofs.Adding.{sum-stands}
-use Rattle.ed25519_laws.proofs.Multiples.{affine-stands, base-stands, neutral-stands, multiple-stands}
-use Rattle.ed25519_laws.proofs.Equality.{equal-is, equal-exactly}
-
--- what is decoded stands for itself
-pub decoded-stands : (s : List ℕ) → decodeOf s .ok ≡ true → StandsFor (decodeOf s .point) (pointOf (decodeOf s .point))
-decoded-stands s ok =
-    let h = decoded s ok in
-    rw (h .is) (affine-stands _ (record { x-below = h .x-below; y-below = h .y-below; on-curve = h .on-curve }))
+use Rattle.ed25519_group_laws.proofs.Decoded.{decoded-stands}
+use Rattle.ed25519_group_laws.proofs.TimesL.{L-low}
+use Rattle.ed25519_laws.specs.AffineEquation.{acceptsAffine, verifiesAffine}
+use Rattle.ed25519_group_laws.proofs.Adding.{sum-stands}
+use Rattle.ed25519_group_laws.proofs.Multiples.{base-stands, multiple-stands}
+use Rattle.ed25519_group_laws.proofs.Equality.{equal-is}
 
 -- what stands behind a test matters only where the test holds
 behind : (t u v : Bool) → (t ≡ true → u ≡ v) → (t && u) ≡ (t && v)
 behind true u v h = h refl
 behind false u v h = refl
-
--- scalars are below L, and so below 2^256
-L-low : L < 2 ^ 256
-unfolding L
-L-low = lit< tt
 
 k-low : (R A M : List ℕ) → kOf R A M < 2 ^ 256
 unfolding kOf
@@ -66,9 +54,3 @@ pub parts-affine : (key context value signature : List ℕ)
     ≡ (ltb (64 + (length context + length value)) (2 ^ 64) && verifiesAffine key (context ++ value) signature)
 unfolding verifiesParts
 parts-affine key context value signature = rw verifies-affine
-
--- L times the base point is the neutral point
-pub order-affine : timesOf L (pointOf base) ≡ zeroPoint
-order-affine =
-    equal-exactly (pointMul L base) neutral _ zeroPoint (multiple-stands L base _ L-low base-stands) neutral-stands .0
-    order-base

@@ -9,7 +9,7 @@ use Rattle.ed25519_curve.specs.Points.{base}
 use Rattle.ed25519_scalar.specs.Order.{L}
 use Rattle.ed25519_prime_laws.specs.Encodes.{Encodes}
 use Rattle.ed25519.specs.Verification.{kOf}
-use Rattle.ed25519_laws.specs.Affine.{Affine, sumOf, timesOf, pointOf}
+use Rattle.ed25519_group_laws.specs.Affine.{Affine, sumOf, timesOf, pointOf}
 
 pub record Verifies (key text signature : List ℕ) : Type 0 where
   -- 32 bytes and 64 bytes

@@ -15,10 +15,11 @@ use Rattle.pile_runs.specs.declared.Span.{Span}
 use Rattle.pile_runs.specs.declared.Span.the-variants.{Places, Nothing}
 use Rattle.pile_runs.proofs.Find.{runOf, run-exists}
 use Rattle.pile_runs.proofs.SamePile.{alike-sym, alike-answer}
+use Rattle.refusal.specs.Refusal.{refusal}
 use Rattle.pile_report.specs.Report.{judged}
-use Rattle.pile_report.specs.Taking.{ConvictsIn, Takes}
+use Rattle.pile_report.specs.Taking.{ConvictsIn, code-18, Takes}
 use Rattle.pile_report.specs.declared.Taken.{Taken}
-use Rattle.pile_report.specs.declared.Taken.the-variants.{Run, NoRun}
+use Rattle.pile_report.specs.declared.Taken.the-variants.{Run, Refused}
 use Rattle.examples.specs.Claims.{Finds, CutterSays}
 
 -- the run of a linked pile with these verdicts
@@ -28,12 +29,12 @@ runOn verdicts = runOf (verdictIn verdicts) (λ k. true) (length verdicts)
 -- the cutter's answer that it gives
 abbrev takenOf : Span → Taken
 takenOf (Places i j) = Run i j
-takenOf Nothing = NoRun
+takenOf Nothing = Refused (refusal 18)
 
 takes : (pile answers : List ℕ) (room : ℕ) → GoodPile pile answers → length pile ≤ room → (s : Span)
     → Answers (ConvictsIn pile answers) s → Takes pile answers room (takenOf s)
 takes pile answers room g l (Places i j) a = (g, l, a)
-takes pile answers room g l Nothing a = (g, l, a)
+takes pile answers room g l Nothing a = code-18 g l a
 
 finds : (vs : List Verdict) → Finds vs (runOn vs)
 finds vs = run-exists (verdictIn vs) (λ k. true) (length vs)
@@ -74,5 +75,5 @@ pub run-found : (vs : List Verdict) (i j : ℕ) → T (isFrom (runOn vs) i j)
     → Finds vs (Places i j) × CutterSays vs (Run i j)
 run-found vs i j t = found vs (Places i j) (is-from (runOn vs) i j t)
 
-pub none-found : (vs : List Verdict) → T (isNone (runOn vs)) → Finds vs Nothing × CutterSays vs NoRun
+pub none-found : (vs : List Verdict) → T (isNone (runOn vs)) → Finds vs Nothing × CutterSays vs (Refused (refusal 18))
 none-found vs t = found vs Nothing (is-none (runOn vs) t)

@@ -16,8 +16,6 @@ use Rattle.wire_message.specs.Frame.{offset, lengthBad, countBad, frameCode}
 use Rattle.tree.specs.Tree.{depthOf}
 use Rattle.tree_build.specs.Leaves.{countOf}
 use Rattle.pile_runs.specs.Clash.{windowsClash}
-use Rattle.pile_report.specs.Taking.{takenNumber}
-use Rattle.pile_report.specs.declared.Taken.the-variants.{NoRun}
 use Rattle.examples.specs.Claims.{Row, low-end, high-end, contradicts, run, no-run, depth, path, indx, at-maxt}
 use Rattle.examples.specs.Claims.{above-maxt, message, equal-tags, _and_, Claim, Refuses}
 use Rattle.examples.specs.Table.{table, Each}
@@ -35,7 +33,7 @@ test (low-end w n) = eqb (w .low) n
 test (high-end w n) = eqb (w .high) n
 test (contradicts a b answer) = Bool·beq (windowsClash a b) answer
 test (run vs i j) = isFrom (runOn vs) i j
-test (no-run vs code) = isNone (runOn vs) && eqb (takenNumber NoRun) code
+test (no-run vs code) = isNone (runOn vs) && eqb 18 code
 test (depth n d) = batch n d && ltb 0 n
 test (path n place i d) = batch n d && (ltb place n && eqb place i)
 test (indx i n code) = leb (2 ^ n) i && eqb 10 code
@@ -62,9 +60,8 @@ passes (high-end w n) t = eqb→eq _ n t
 passes (contradicts a b answer) t = beq-same _ answer t
 passes (run vs i j) t = run-found vs i j t
 passes (no-run vs code) t =
-    let u = and-yes (isNone (runOn vs)) (eqb (takenNumber NoRun) code) t in
-    let f = none-found vs (u .0) in
-    (f .0, f .1, eqb→eq _ code (u .1))
+    let u = and-yes (isNone (runOn vs)) (eqb 18 code) t in
+    rw (← eqb→eq 18 code (u .1)) (none-found vs (u .0))
 passes (depth n d) t =
     let u = and-yes (batch n d) (ltb 0 n) t in
     let b = batched n d (u .0) in

@@ -17,8 +17,8 @@ use Rattle.wire_packet.specs.Request.{requestOf, requestBad}
 use Rattle.wire_packet.specs.Response.{indxIn, midpIn, mintIn, maxtIn, responseCode, responseOf}
 use Rattle.tree.specs.PathCheck.{leadsOf}
 use Rattle.tree_build.specs.Leaves.{countOf}
-use Rattle.tree_build.specs.Building.{rootedOf, PlacesLeaf, pathBytes}
-use Rattle.tree_build.specs.declared.Placed.the-variants.{Written}
+use Rattle.tree_build.specs.Building.{rootedOf, pathAnswer, pathBytes}
+use Rattle.tree_build.specs.declared.PathAnswer.the-variants.{Written}
 use Rattle.check_response.specs.Window.{windowOf}
 use Rattle.check_response.specs.Check.{versionUnasked, versionDowngraded, nonceDiffers, pathMisses, windowIn, verdictOf}
 use Rattle.check_response.specs.Check.{verdictNumber}
@@ -34,10 +34,11 @@ use Rattle.pile_runs.specs.Spans.{Answers}
 use Rattle.pile_runs.specs.Convict.{Convicts, verdictIn}
 use Rattle.pile_runs.specs.declared.Span.{Span}
 use Rattle.pile_runs.specs.declared.Span.the-variants.{Places, Nothing}
+use Rattle.refusal.specs.Refusal.{refusal}
 use Rattle.pile_report.specs.Report.{judged}
-use Rattle.pile_report.specs.Taking.{Takes, takenNumber}
+use Rattle.pile_report.specs.Taking.{Takes}
 use Rattle.pile_report.specs.declared.Taken.{Taken}
-use Rattle.pile_report.specs.declared.Taken.the-variants.{Run, NoRun}
+use Rattle.pile_report.specs.declared.Taken.the-variants.{Run, Refused}
 
 -- the window of a response that says MIDP and RADI; MINT and MAXT, of which no example speaks, are as wide as can be
 infix 80 _±_
@@ -142,12 +143,13 @@ Claim (low-end w n) = w .low ≡ n
 Claim (high-end w n) = w .high ≡ n
 Claim (contradicts a b answer) = windowsClash a b ≡ answer
 Claim (run verdicts i j) = Finds verdicts (Places i j) × CutterSays verdicts (Run i j)
-Claim (no-run verdicts code) = Finds verdicts Nothing × CutterSays verdicts NoRun × (takenNumber NoRun ≡ code)
+Claim (no-run verdicts code) = Finds verdicts Nothing × CutterSays verdicts (Refused (refusal code))
 Claim (depth leaves d) =
     (s : List ℕ) → length s ≡ 32 * leaves → (rootedOf s .refusal .code ≡ 0) × (rootedOf s .depth ≡ d)
 Claim (path leaves place i siblings) =
     (s : List ℕ) (room : ℕ) → length s ≡ 32 * leaves → 32 * siblings ≤ room
-    → PlacesLeaf (countOf (length s)) place room (Written i siblings) × (length (pathBytes s place) ≡ 32 * siblings)
+    → (Written i siblings ≡ pathAnswer (countOf (length s)) place room)
+    × (length (pathBytes s place) ≡ 32 * siblings)
 Claim (indx i siblings code) =
     Misses i siblings × ((q p : List ℕ) (d s : Bool) → Climbs i siblings q p → verdictNumber (verdictOf q p d s) ≡ code)
 Claim at-maxt = (q p : List ℕ) → Late 0 q p → verdictOf q p true true ≡ Valid (windowIn (body p))

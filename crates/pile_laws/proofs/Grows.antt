@@ -1,7 +1,7 @@
 -- More evidence never acquits: a report to which valid, linked records are added is accepted still, and names a pair
 -- that is no further apart; and where some run of a pile convicts, the cutter's run in the pile with any records added,
 -- damaged or not, is no longer, and its answer never that there is none.
-use mathlib.Core.Path.{_≡_, sym, subst}
+use mathlib.Core.Path.{_≡_, refl, sym, subst}
 use mathlib.Core.Bool.{Bool, not}
 use mathlib.Core.List.{List, _++_}
 use Prim.Native.Nat.{ℕ, _≤_}
@@ -17,7 +17,9 @@ use Rattle.pile_runs.specs.Clash.{valid}
 use Rattle.pile_runs.specs.Convict.{Convicts, Contradiction}
 use Rattle.pile_runs.proofs.SamePile.{alike-same, still}
 use Rattle.pile_report.specs.Report.{judged, joined, refused, loose, Reports}
+use Rattle.pile_report.specs.Report.{of-record, code-17, code-18, code-15, of-records}
 use Rattle.pile_report.specs.Taking.{ConvictsIn, Takes}
+use Rattle.pile_report.specs.Taking as cut
 use Rattle.pile_report.specs.declared.Report.{Report}
 use Rattle.pile_report.specs.declared.Report.the-variants as report
 use Rattle.pile_report.specs.declared.Taken.{Taken}
@@ -53,9 +55,9 @@ module _ {pile answers more said : List ℕ} (adds : Adds pile answers more said
   pub run-no-longer : (i j : ℕ) → ConvictsIn pile answers i j → (room : ℕ) (x : Taken)
       → Takes (pile ++ more) (answers ++ said) room x → NoLonger i j (pile ++ more) room x
   run-no-longer i j c room (taken.Run a b) t = t .2 .shortest i j (convicts-still i j c)
-  run-no-longer i j c room taken.Bad t = t (adds .grown)
-  run-no-longer i j c room taken.Short t = t .1
-  run-no-longer i j c room taken.NoRun t = t .2 i j (convicts-still i j c)
+  run-no-longer i j c room (taken.Refused why) (cut.code-15 bad) = absurd (bad (adds .grown))
+  run-no-longer i j c room (taken.Refused why) (cut.code-19 g short) = (refl, short)
+  run-no-longer i j c room (taken.Refused why) (cut.code-18 g fits none) = absurd (none i j (convicts-still i j c))
 
   -- ---- the check of a report
 
@@ -90,11 +92,13 @@ module _ {pile answers more said : List ℕ} (adds : Adds pile answers more said
     pub still-accepted : (i j : ℕ) → Reports pile answers (report.Pair i j) → (x : Report)
         → Reports (pile ++ more) (answers ++ said) x → NoFurther i j x
     still-accepted i j s (report.Pair a b) t = t .1 .2 .shortest i j (pair-still i j (s .1 .2 .holds))
-    still-accepted i j s report.Bad t = t (adds .grown)
-    still-accepted i j s (report.Record why k) t =
-        none-refused (s .1 .0) k (t .1 .0 .inside) (t .1 .0 .holds)
-    still-accepted i j s (report.Unlinked k) t = none-loose (s .1 .1) k (t .1 .1 .inside) (t .1 .1 .holds)
-    still-accepted i j s report.Clear t = t .1 .2 i j (pair-still i j (s .1 .2 .holds))
+    still-accepted i j s (report.Refused why k) (code-15 bad) = bad (adds .grown)
+    still-accepted i j s (report.Refused why k) (of-records g (of-record f e)) =
+        none-refused (s .1 .0) k (f .inside) (f .holds)
+    still-accepted i j s (report.Refused why k) (of-records g (code-17 f h)) =
+        none-loose (s .1 .1) k (h .inside) (h .holds)
+    still-accepted i j s (report.Refused why k) (of-records g (code-18 f h none)) =
+        none i j (pair-still i j (s .1 .2 .holds))
 
 -- ---- of one record, as the request has it
 

@@ -43,15 +43,10 @@ pub record Joins (pile answers more said : List ℕ) : Type 0 where
 -- a pair that is no further apart than i and j
 abbrev pub NoFurther : ℕ → ℕ → Report → Type 0
 NoFurther i j (report.Pair a b) = b - a ≤ j - i
-NoFurther i j report.Bad = ⊥
-NoFurther i j (report.Record why k) = ⊥
-NoFurther i j (report.Unlinked k) = ⊥
-NoFurther i j report.Clear = ⊥
+NoFurther i j (report.Refused why k) = ⊥
 
--- a run that is no longer than that from i to j, or, where the buffer has too little room for the pile, that; but never
+-- a run that is no longer than that from i to j, or, where the buffer has too little room for the pile, 19; but never
 -- that there is none
 abbrev pub NoLonger : ℕ → ℕ → List ℕ → ℕ → Taken → Type 0
 NoLonger i j pile room (taken.Run a b) = b - a ≤ j - i
-NoLonger i j pile room taken.Bad = ⊥
-NoLonger i j pile room taken.Short = room < length pile
-NoLonger i j pile room taken.NoRun = ⊥
+NoLonger i j pile room (taken.Refused why) = (why .code ≡ 19) × (room < length pile)

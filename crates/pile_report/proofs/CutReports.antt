@@ -9,15 +9,17 @@ use native.Mathlib.Omega.{arith}
 use lib.ListN.{length}
 use Rattle.laws.specs.Bytes.{Bytes}
 use Rattle.laws.specs.Pairs.{IsLeast}
+use Rattle.refusal.specs.Refusal.{refusal}
+use Rattle.refusal.specs.declared.Refusal.{Refusal}
 use Rattle.check_response.specs.declared.Verdict.the-variants.{Valid}
 use Rattle.pile.specs.Pile.{recordsIn}
 use Rattle.pile.specs.Meaning.{GoodPile, ValidRecord}
 use Rattle.pile.proofs.Exactly.{valid-judged}
 use Rattle.pile_runs.proofs.SamePile.{same-least}
 use Rattle.pile_report.specs.Report.{judged}
-use Rattle.pile_report.specs.Taking.{ConvictsIn, Takes, runBytes, runAnswers}
+use Rattle.pile_report.specs.Taking.{ConvictsIn, CutRefused, code-15, code-19, code-18, Takes, runBytes, runAnswers}
 use Rattle.pile_report.specs.Meaning.{IsReport, ReportIn}
-use Rattle.pile_report.specs.declared.Taken.the-variants.{Run, NoRun}
+use Rattle.pile_report.specs.declared.Taken.the-variants.{Run, Refused}
 use Rattle.pile_report.proofs.Exactly.{valid-yes, yes-valid, linked-tested, clash-tested}
 use Rattle.pile_report.proofs.CutBytes.{RunIn, count-run}
 use Rattle.pile_report.proofs.CutRecords.{first-rand-run, same-window, same-valid, same-linked}
@@ -104,6 +106,13 @@ module _ {pile answers : List ℕ} {i j : ℕ} (run : RunIn pile answers i j) wh
               (d .contradict);
         }
 
+-- where 18 is told, the pile is good and no run convicts
+pub cut-18 : {pile answers : List ℕ} {room : ℕ} (why : Refusal) → why .code ≡ 18 → CutRefused pile answers room why
+    → GoodPile pile answers × ((i j : ℕ) → ConvictsIn pile answers i j → ⊥)
+cut-18 why e (code-15 bad) = absurd (omega (arith, e))
+cut-18 why e (code-19 g short) = absurd (omega (arith, e))
+cut-18 why e (code-18 g fits none) = (g, none)
+
 module _ (pile answers : List ℕ) (good : GoodPile pile answers) (bytes : Bytes pile) where
   -- a run convicts by itself exactly where its bytes, with its answers, are a report by document 01's sentence
   pub convicts-exactly : (i j : ℕ) → i ≤ j → j < recordsIn pile
@@ -130,8 +139,8 @@ module _ (pile answers : List ℕ) (good : GoodPile pile answers) (bytes : Bytes
     )
 
     -- and answers that there is no run exactly where no part of the pile is a report
-    pub none-exactly : Takes pile answers room NoRun ↔ ((i j : ℕ) → ReportIn pile answers i j → ⊥)
+    pub none-exactly : Takes pile answers room (Refused (refusal 18)) ↔ ((i j : ℕ) → ReportIn pile answers i j → ⊥)
     none-exactly = (
-      λ t i j p. t .2 i j (part-exactly i j .1 p),
-      λ none. (good, fits, λ i j c. none i j (part-exactly i j .0 c)),
+      λ t i j p. cut-18 (refusal 18) refl t .1 i j (part-exactly i j .1 p),
+      λ none. code-18 good fits (λ i j c. none i j (part-exactly i j .0 c)),
     )

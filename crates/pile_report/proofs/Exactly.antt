@@ -9,7 +9,8 @@ use lib.Dec.{T}
 use mir.Facts.{T-not}
 use Rattle.laws.specs.Pairs.{IsLeast}
 use Rattle.check_response.specs.declared.Verdict.{Verdict}
-use Rattle.check_response.specs.declared.Verdict.the-variants.{Valid, Refused}
+use Rattle.check_response.specs.declared.Verdict.the-variants.{Valid}
+use Rattle.check_response.specs.declared.Verdict.the-variants as verdict
 use Rattle.pile.specs.Pile.{recordsIn, recordAt}
 use Rattle.pile.specs.Links.{linkedOf, firstRandZero}
 use Rattle.pile.specs.Valid.{windowAt}
@@ -19,26 +20,27 @@ use Rattle.pile.proofs.Exactly.{valid-judged, valid-exactly, window-of-its-own,
 use Rattle.pile_runs.specs.Clash.{windowsClash, valid, contradicting}
 use Rattle.pile_runs.specs.Convict.{Contradiction}
 use Rattle.pile_report.specs.Report.{judged, joined, refused, loose, Reports}
+use Rattle.pile_report.specs.Report.{of-record, code-17, code-18, code-15, of-records}
 use Rattle.pile_report.specs.Meaning.{IsReport, Accepts}
 use Rattle.pile_report.specs.declared.Report.{Report}
-use Rattle.pile_report.specs.declared.Report.the-variants.{Pair, Bad, Record, Unlinked, Clear}
+use Rattle.pile_report.specs.declared.Report.the-variants.{Pair, Refused}
 use Rattle.pile_report.proofs.Says.{not-not}
 use Rattle.pile_report.proofs.Runs.{joined-later}
 
 -- ---- the tests of a record are document 01's sentences
 
-is-set : (b : Bool) → T b ↔ b ≡ true
+pub is-set : (b : Bool) → T b ↔ b ≡ true
 is-set true = (λ t. refl, λ e. tt)
 is-set false = (λ t. absurd t, λ e. absurd (true≢false (sym e)))
 
 module _ (pile answers : List ℕ) where
   -- a record that is not refused has its response's window
-  windowed : (k : ℕ) → T (valid (judged pile answers k)) → judged pile answers k ≡ Valid (windowAt pile k)
+  pub windowed : (k : ℕ) → T (valid (judged pile answers k)) → judged pile answers k ≡ Valid (windowAt pile k)
   windowed k t = go (judged pile answers k) refl
     where
       go : (x : Verdict) → judged pile answers k ≡ x → judged pile answers k ≡ Valid (windowAt pile k)
       go (Valid w) e = e ∙ ap Valid (window-of-its-own pile answers k w e)
-      go (Refused why) e = absurd (subst (λ (y : Verdict). T (valid y)) e t)
+      go (verdict.Refused why) e = absurd (subst (λ (y : Verdict). T (valid y)) e t)
 
   -- a valid record is judged valid, and one of a pile of bytes that is judged valid is valid,
   pub valid-yes : (k : ℕ) → ValidRecord pile answers k → T (valid (judged pile answers k))
@@ -122,10 +124,10 @@ module _ (pile answers : List ℕ) where
 
     accepts : (r : Report) → Reports pile answers r → Accepts r
     accepts (Pair i j) s = tt
-    accepts Bad s = s (d .all-valid (d .j) (d .inside) .pile-good)
-    accepts (Record why k) s = none-refused k (s .1 .0 .inside) (s .1 .0 .holds)
-    accepts (Unlinked k) s = none-loose k (s .1 .1 .inside) (s .1 .1 .holds)
-    accepts Clear s = s .1 .2 (d .i) (d .j) pair-in
+    accepts (Refused why k) (code-15 bad) = bad (d .all-valid (d .j) (d .inside) .pile-good)
+    accepts (Refused why k) (of-records g (of-record f e)) = none-refused k (f .inside) (f .holds)
+    accepts (Refused why k) (of-records g (code-17 f h)) = none-loose k (h .inside) (h .holds)
+    accepts (Refused why k) (of-records g (code-18 f h none)) = none (d .i) (d .j) pair-in
 
     -- a report names the least of its pairs
     pub names : (i j : ℕ) → IsLeast (Contradiction (judged pile answers) (recordsIn pile)) i j
@@ -134,10 +136,7 @@ module _ (pile answers : List ℕ) where
 
   named : Bytes pile → (r : Report) → Reports pile answers r → Accepts r → IsReport pile answers
   named bytes (Pair i j) s t = accepted bytes i j s
-  named bytes Bad s t = absurd t
-  named bytes (Record why k) s t = absurd t
-  named bytes (Unlinked k) s t = absurd t
-  named bytes Clear s t = absurd t
+  named bytes (Refused why k) s t = absurd t
 
   -- the answer names a pair exactly where the pile is a report
   pub report-exactly : Bytes pile → (r : Report) → Reports pile answers r → Accepts r ↔ IsReport pile answers

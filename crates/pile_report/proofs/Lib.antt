@@ -1,13 +1,13 @@
--- Laws that belong to no one function. What the crate claims of itself stands in ReportNumbers, Exactly, CutReports,
+-- Laws that belong to no one function. What the crate claims of itself stands in Exactly, Codes, CutReports,
 -- Stands, Agree, Unread and Once.
 pub mod SameArrays
 pub mod Verdicts
 pub mod Stopping
 pub mod Says
 pub mod Runs
-pub mod ReportNumbers
 pub mod Exactly
 pub mod Sound
+pub mod Codes
 pub mod Behind
 pub mod CutBytes
 pub mod CutRecords

@@ -12,7 +12,7 @@ use Rattle.pile_report.proofs.cutting.cut_run.Kinds as cut-run-kinds
 use Rattle.pile_report.proofs.cutting.cut_run.Reads as cut-run-reads
 
 pub check-report-once : Settles check-report-kinds.ps check-report-kinds.r check-report-reads.Learnt
-check-report-once κs a x u y v p q = (report-once (a .0 .now) (a .1 .0 .now) x y (p .1) (q .1), refl)
+check-report-once κs a x u y v p q = (report-once (a .0 .now) (a .1 .0 .now) x y p q, refl)
 
 pub cut-run-once : Settles cut-run-kinds.ps cut-run-kinds.r cut-run-reads.Learnt
 cut-run-once κs a x u y v p q =

@@ -1,12 +1,15 @@
 -- The cutter's run: the run of the arrays is the run of the pile that they are of, and any two answers are the same.
-use mathlib.Core.Path.{_≡_, refl, subst, _∙_}
+use mathlib.Core.Path.{_≡_, refl, subst, ap, _∙_}
 use mathlib.Core.Bool.{Bool, true, false, _&&_}
-use mathlib.Core.List.{List}
+use mathlib.Core.List.{List, []}
 use Prim.Native.Nat.{ℕ, _-_, _<_, min}
 use borrow.Author.Tests.{ne-eqb}
 use native.Mathlib.Omega.{arith}
 use lib.Dec.{T}
-use Rattle.pile.specs.Pile.{recordsIn}
+use Rattle.laws.specs.Written.{written}
+use Rattle.laws.proofs.Written.{written-refused}
+use Rattle.refusal.specs.declared.Refusal.{Refusal}
+use Rattle.pile.specs.Pile.{recordsIn, pileCode}
 use Rattle.pile.specs.Links.{linkedOf}
 use Rattle.pile.specs.Meaning.{WholePile}
 use Rattle.check_response.specs.declared.Verdict.{Verdict}
@@ -19,9 +22,10 @@ use Rattle.pile_runs.proofs.Find.{run-settled}
 use Rattle.pile_runs.proofs.SamePile.{same-answer, linked-answer}
 use Rattle.pile_report.specs.Promises.{between, Gathered}
 use Rattle.pile_report.specs.Report.{judged, joined}
-use Rattle.pile_report.specs.Taking.{ConvictsIn, Takes}
+use Rattle.pile_report.specs.Taking.{ConvictsIn, CutRefused, code-15, code-19, code-18, Takes}
 use Rattle.pile_report.specs.declared.Taken.{Taken}
-use Rattle.pile_report.specs.declared.Taken.the-variants.{Run, Bad, Short, NoRun}
+use Rattle.pile_report.specs.declared.Taken.the-variants.{Run, Refused}
+use Rattle.pile_report.proofs.Says.{pile-refused}
 
 -- the flag of a record after the first says whether it is linked
 pub joined-later : (pile : List ℕ) (k : ℕ) → 0 < k → joined pile k ≡ linkedOf pile k
@@ -58,25 +62,38 @@ run-gathered pile answers v r g a =
     same-answer v (judged pile answers) (linkedOf pile) (linkedOf pile) (recordsIn pile) (g .whole refl)
     (λ i z u. refl) r a
 
--- any two answers are the same
+-- the answers, of which any two are the same
 module _ (pile answers : List ℕ) (room : ℕ) where
+  -- where code 15 applies, which code has as x, both clauses of the cutter
+  pub cut-bad : {x : Refusal} (o : List ℕ) → x ≡ pileCode pile answers → (x .code ≡ 0 → ⊥)
+      → Takes pile answers room (Refused x) × (o ≡ written (x .code) [] o)
+  cut-bad {x} o e h =
+      let r = pile-refused pile answers e h in
+      (rw (r .0) (code-15 (r .1)), written-refused (x .code) [] o h)
+
+  -- a refusal leaves no run,
+  no-run : (i j : ℕ) (why : Refusal) → Takes pile answers room (Run i j) → CutRefused pile answers room why → ⊥
+  no-run i j why p (code-15 bad) = bad (p .0)
+  no-run i j why p (code-19 g short) = omega (arith, p .1)
+  no-run i j why p (code-18 g fits none) = none i j (p .2 .holds)
+
+  -- and only one is right
+  cut-refused-once : (x y : Refusal) → CutRefused pile answers room x → CutRefused pile answers room y → x ≡ y
+  cut-refused-once x y (code-15 bad) (code-15 worse) = refl
+  cut-refused-once x y (code-15 bad) (code-19 g short) = absurd (bad g)
+  cut-refused-once x y (code-15 bad) (code-18 g fits none) = absurd (bad g)
+  cut-refused-once x y (code-19 g short) (code-15 bad) = absurd (bad g)
+  cut-refused-once x y (code-19 g short) (code-19 h shorter) = refl
+  cut-refused-once x y (code-19 g short) (code-18 h fits none) = absurd (omega arith)
+  cut-refused-once x y (code-18 g fits none) (code-15 bad) = absurd (bad g)
+  cut-refused-once x y (code-18 g fits none) (code-19 h short) = absurd (omega arith)
+  cut-refused-once x y (code-18 g fits none) (code-18 h l m) = refl
+
   pub takes-once : (r s : Taken) → Takes pile answers room r → Takes pile answers room s → r ≡ s
   takes-once (Run i j) (Run a b) p q =
       let n = recordsIn pile in
       let e = run-settled (judged pile answers) (linkedOf pile) n (Places i j) (Places a b) (p .2) (q .2) in
       cc
-  takes-once (Run i j) Bad p q = absurd (q (p .0))
-  takes-once (Run i j) Short p q = absurd (omega (arith, p .1, q .1))
-  takes-once (Run i j) NoRun p q = absurd (q .2 i j (p .2 .holds))
-  takes-once Bad (Run i j) p q = absurd (p (q .0))
-  takes-once Bad Bad p q = refl
-  takes-once Bad Short p q = absurd (p (q .0))
-  takes-once Bad NoRun p q = absurd (p (q .0))
-  takes-once Short (Run i j) p q = absurd (omega (arith, p .1, q .1))
-  takes-once Short Bad p q = absurd (q (p .0))
-  takes-once Short Short p q = refl
-  takes-once Short NoRun p q = absurd (omega (arith, p .1, q .1))
-  takes-once NoRun (Run i j) p q = absurd (p .2 i j (q .2 .holds))
-  takes-once NoRun Bad p q = absurd (q (p .0))
-  takes-once NoRun Short p q = absurd (omega (arith, p .1, q .1))
-  takes-once NoRun NoRun p q = refl
+  takes-once (Run i j) (Refused why) p q = absurd (no-run i j why p q)
+  takes-once (Refused why) (Run i j) p q = absurd (no-run i j why q p)
+  takes-once (Refused x) (Refused y) p q = ap Refused (cut-refused-once x y p q)

@@ -11,9 +11,9 @@ use Rattle.check_response.specs.declared.Verdict.{Verdict}
 use Rattle.pile_runs.specs.Alike.{Alike}
 use Rattle.pile_runs.specs.Convict.{Contradiction}
 use Rattle.pile_runs.proofs.SamePile.{same-least, alike-same, alike-sym, alike-valid, alike-refused, alike-contradicting}
-use Rattle.pile_report.specs.Report.{refused, loose, Says}
+use Rattle.pile_report.specs.Report.{refused, loose, of-record, code-17, code-18, Says}
 use Rattle.pile_report.specs.declared.Report.{Report}
-use Rattle.pile_report.specs.declared.Report.the-variants.{Pair, Bad, Record, Unlinked, Clear}
+use Rattle.pile_report.specs.declared.Report.the-variants.{Pair, Refused}
 
 -- two tests that agree below n
 module _ (p q : ℕ → Bool) (n : ℕ) (e : (i : ℕ) → i < n → p i ≡ q i) where
@@ -60,13 +60,13 @@ module _
 
   pub says-alike : (r : Report) → Says v l n r → Says w k n r
   says-alike (Pair i j) s = (none-refused (s .0), none-loose (s .1), same-least same-pairs (s .2))
-  says-alike Bad s = s
-  says-alike (Record why i) s = (
-    first-moved (refused v) (refused w) n same-refused i (s .0),
-    alike-refused (v i) (w i) why (e i (s .0 .inside)) (s .1),
-  )
-  says-alike (Unlinked i) s = (none-refused (s .0), first-moved (loose l) (loose k) n same-loose i (s .1))
-  says-alike Clear s = (none-refused (s .0), none-loose (s .1), λ i j h. s .2 i j (same-pairs i j .1 h))
+  says-alike (Refused why i) (of-record g h) =
+      of-record (first-moved (refused v) (refused w) n same-refused i g)
+      (alike-refused (v i) (w i) why (e i (g .inside)) h)
+  says-alike (Refused why i) (code-17 g h) =
+      code-17 (none-refused g) (first-moved (loose l) (loose k) n same-loose i h)
+  says-alike (Refused why i) (code-18 g h m) =
+      code-18 (none-refused g) (none-loose h) (λ i j u. m i j (same-pairs i j .1 u))
 
 -- and so where the verdicts are the same
 pub says-moved : (v w : ℕ → Verdict) (l k : ℕ → Bool) (n : ℕ) → ((i : ℕ) → i < n → v i ≡ w i)

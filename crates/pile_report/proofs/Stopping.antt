@@ -11,9 +11,9 @@ use Rattle.laws.specs.Least.{IsFirst, Never}
 use Rattle.pile_runs.specs.Clash.{valid}
 use Rattle.check_response.specs.declared.Verdict.{Verdict}
 use Rattle.pile_report.specs.Promises.{UpToRefused}
-use Rattle.pile_report.specs.Report.{refused, Says}
+use Rattle.pile_report.specs.Report.{refused, of-record, code-17, code-18, Says}
 use Rattle.pile_report.specs.declared.Report.{Report}
-use Rattle.pile_report.specs.declared.Report.the-variants.{Pair, Bad, Record, Unlinked, Clear}
+use Rattle.pile_report.specs.declared.Report.the-variants.{Pair, Refused}
 use Rattle.pile_report.proofs.SameArrays.{says-moved}
 
 -- ---- what is said by such an array
@@ -36,19 +36,18 @@ module _ (v w : ℕ → Verdict) (l : ℕ → Bool) (n : ℕ) (u : UpToRefused v
 
   early : u .known < n → (r : Report) → Says v l n r → Says w l n r
   early h (Pair i j) s = absurd (not-none h (s .0))
-  early h Bad s = s
-  early h (Record why k) s =
-      let g = first-known h k (s .0) in (
-        record {
-          inside = s .0 .inside;
-          holds = subst (λ (x : Verdict). T (not (valid x))) (u .same k g) (s .0 .holds);
-          earlier = λ i q t.
-              s .0 .earlier i q (subst (λ (x : Verdict). T (not (valid x))) (sym (u .same i (omega arith))) t);
-        },
-        sym (u .same k g) ∙ s .1,
-      )
-  early h (Unlinked k) s = absurd (not-none h (s .0))
-  early h Clear s = absurd (not-none h (s .0))
+  early h (Refused why k) (of-record f e) =
+      let g = first-known h k f in
+      of-record
+      (record {
+        inside = f .inside;
+        holds = subst (λ (x : Verdict). T (not (valid x))) (u .same k g) (f .holds);
+        earlier = λ i q t.
+            f .earlier i q (subst (λ (x : Verdict). T (not (valid x))) (sym (u .same i (omega arith))) t);
+      })
+      (sym (u .same k g) ∙ e)
+  early h (Refused why k) (code-17 f g) = absurd (not-none h f)
+  early h (Refused why k) (code-18 f g m) = absurd (not-none h f)
 
   pub says-until : (r : Report) → Says v l n r → Says w l n r
   says-until r s =

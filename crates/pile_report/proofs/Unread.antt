@@ -16,10 +16,10 @@ use Rattle.pile_runs.specs.declared.Span.{Span}
 use Rattle.pile_runs.specs.declared.Span.the-variants.{Places, Nothing}
 use Rattle.pile_runs.proofs.SamePile.{alike-answer}
 use Rattle.pile_report.specs.Report.{judged, joined, Says, Reports}
-use Rattle.pile_report.specs.Taking.{ConvictsIn, Takes}
+use Rattle.pile_report.specs.Taking.{ConvictsIn, code-15, code-19, code-18, Takes}
 use Rattle.pile_report.specs.declared.Report.{Report}
 use Rattle.pile_report.specs.declared.Taken.{Taken}
-use Rattle.pile_report.specs.declared.Taken.the-variants.{Run, Bad, Short, NoRun}
+use Rattle.pile_report.specs.declared.Taken.the-variants.{Run, Refused}
 use Rattle.pile_report.proofs.Runs.{takes-once}
 use Rattle.pile_report.proofs.SameArrays.{says-alike}
 use Rattle.pile_report.proofs.Says.{good-says, says-of, report-once}
@@ -41,9 +41,10 @@ module _
 
     takes-moved : (room : ℕ) (r : Taken) → Takes pile answers room r → Takes other others room r
     takes-moved room (Run i j) t = (good-other, omega (arith, as-long, t .1), run-moved (Places i j) (t .2))
-    takes-moved room Bad t = absurd (t good)
-    takes-moved room Short t = (good-other, omega (arith, as-long, t .1))
-    takes-moved room NoRun t = (good-other, omega (arith, as-long, t .1), run-moved Nothing (t .2))
+    takes-moved room (Refused why) (code-15 bad) = absurd (bad good)
+    takes-moved room (Refused why) (code-19 g short) = code-19 good-other (omega (arith, as-long))
+    takes-moved room (Refused why) (code-18 g fits none) =
+        code-18 good-other (omega (arith, as-long)) (run-moved Nothing none)
 
     -- the cutter takes the same run, or none from either
     pub same-taken : (room : ℕ) (r s : Taken) → Takes pile answers room r → Takes other others room s → r ≡ s

@@ -9,11 +9,12 @@ use Rattle.pile.specs.Pile.{recordsIn, recordAt}
 use Rattle.pile.specs.Valid.{windowAt}
 use Rattle.pile.specs.Meaning.{GoodPile, ValidRecord, IsLinked, ZeroRand}
 use Rattle.pile_runs.specs.Clash.{windowsClash}
+use Rattle.pile_runs.specs.Convict.{Contradiction}
 use Rattle.check_response.specs.declared.Verdict.the-variants.{Valid}
 use Rattle.pile_report.specs.Report.{judged, joined}
 use Rattle.pile_report.specs.Taking.{runBytes, runAnswers}
 use Rattle.pile_report.specs.declared.Report.{Report}
-use Rattle.pile_report.specs.declared.Report.the-variants.{Pair, Bad, Record, Unlinked, Clear}
+use Rattle.pile_report.specs.declared.Report.the-variants.{Pair, Refused}
 
 -- each record is valid and each after the first is linked, the first rand is all zero, and for some i < j the windows
 -- contradict
@@ -35,13 +36,15 @@ pub record Sound (pile answers : List ℕ) : Type 0 where
   pub all-valid : (k : ℕ) → k < recordsIn pile → judged pile answers k ≡ Valid (windowAt pile k)
   pub all-joined : (k : ℕ) → k < recordsIn pile → joined pile k ≡ true
 
+-- and no pair contradicts
+pub record Clear (pile answers : List ℕ) : Type 0 where
+  pub sound : Sound pile answers
+  pub none : (i j : ℕ) → Contradiction (judged pile answers) (recordsIn pile) i j → ⊥
+
 -- the answer on a sound pile: it names a pair, or it is 18
 abbrev pub Decides : Report → Type 0
 Decides (Pair i j) = Unit {0}
-Decides Bad = ⊥
-Decides (Record why k) = ⊥
-Decides (Unlinked k) = ⊥
-Decides Clear = Unit {0}
+Decides (Refused why k) = why .code ≡ 18
 
 -- the run from record i to record j of a pile, cut out, is a report with its own answers
 pub record ReportIn (pile answers : List ℕ) (i j : ℕ) : Type 0 where
@@ -52,7 +55,4 @@ pub record ReportIn (pile answers : List ℕ) (i j : ℕ) : Type 0 where
 -- the answer names a pair
 abbrev pub Accepts : Report → Type 0
 Accepts (Pair i j) = Unit {0}
-Accepts Bad = ⊥
-Accepts (Record why k) = ⊥
-Accepts (Unlinked k) = ⊥
-Accepts Clear = ⊥
+Accepts (Refused why k) = ⊥

@@ -4,24 +4,24 @@ use mathlib.Core.Bool.{Bool, true, false, cond, _&&_}
 use Prim.Native.Nat.{ℕ, _-_, _≤_, _<_}
 use lib.Dec.{T, eqb}
 use Rattle.check_response.specs.declared.Verdict.{Verdict}
-use Rattle.check_response.specs.declared.Verdict.the-variants.{Valid, Refused}
+use Rattle.check_response.specs.declared.Verdict.the-variants.{Refused}
 use Rattle.laws.specs.Least.{IsFirst, Never}
 use Rattle.pile_runs.specs.Clash.{valid}
 use Rattle.pile_report.specs.Report.{refused}
 use Rattle.pile_report.specs.declared.Found.{Found}
 use Rattle.pile_report.specs.declared.Found.the-variants.{At, Nothing}
-use Rattle.pile_report.specs.declared.Report.{Report}
-use Rattle.pile_report.specs.declared.Report.the-variants.{Record, Clear}
+use Rattle.pile_report.specs.declared.Stopped.{Stopped}
+use Rattle.pile_report.specs.declared.Stopped.the-variants as stopped
 
 -- the first place below n at which p holds, or that there is none
 abbrev pub FirstAt : (ℕ → Bool) → ℕ → Found → Type 0
 FirstAt p n (At k) = IsFirst p n k
 FirstAt p n Nothing = Never p n
 
--- the answer that the verdict on the first refused record gives
-abbrev pub recordOf : Verdict → ℕ → Report
-recordOf (Refused why) k = Record why k
-recordOf (Valid w) k = Clear
+-- of n records with the verdicts v: the first that is refused, with its refusal, or that there is none
+abbrev pub StopsAt : (ℕ → Verdict) → ℕ → Stopped → Type 0
+StopsAt v n (stopped.At why k) = IsFirst (refused v) n k × (v k ≡ Refused why)
+StopsAt v n stopped.Nowhere = Never (refused v) n
 
 -- of n records with the verdicts w, v has those of the first `known`: all, or else the last of these is refused.
 -- Whether one before it is refused too is not said

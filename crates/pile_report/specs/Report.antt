@@ -8,9 +8,10 @@ use Prim.Native.Nat.{ℕ}
 use lib.Dec.{eqb}
 use Rattle.laws.specs.Pairs.{IsLeast}
 use Rattle.laws.specs.Least.{IsFirst, Never}
-use Rattle.check_response.specs.Check.{verdictNumber}
+use Rattle.refusal.specs.Refusal.{refusal}
+use Rattle.refusal.specs.declared.Refusal.{Refusal}
 use Rattle.check_response.specs.declared.Verdict.{Verdict}
-use Rattle.check_response.specs.declared.Verdict.the-variants.{Refused}
+use Rattle.check_response.specs.declared.Verdict.the-variants as verdict
 use Rattle.pile.specs.Pile.{recordsIn}
 use Rattle.pile.specs.Valid.{judgementOf}
 use Rattle.pile.specs.Links.{linkedOf, firstRandZero}
@@ -18,7 +19,7 @@ use Rattle.pile.specs.Meaning.{GoodPile}
 use Rattle.pile_runs.specs.Clash.{valid}
 use Rattle.pile_runs.specs.Convict.{Contradiction}
 use Rattle.pile_report.specs.declared.Report.{Report}
-use Rattle.pile_report.specs.declared.Report.the-variants.{Pair, Bad, Record, Unlinked, Clear}
+use Rattle.pile_report.specs.declared.Report.the-variants.{Pair, Refused}
 
 -- the verdict on record k: its window, or its refusal
 abbrev pub judged : List ℕ → List ℕ → ℕ → Verdict
@@ -36,53 +37,42 @@ refused v k = not (valid (v k))
 abbrev pub loose : (ℕ → Bool) → ℕ → Bool
 loose l k = not (l k)
 
--- the answer on n records that have the verdicts v and the flags l
+-- why n records with the verdicts v and the flags l are no report, and the place of the record that is to blame: the
+-- first that is refused, with its own refusal; else 17 and the first whose flag is not set; else 18, which no one record
+-- is to blame for
+pub data RecordsRefused (v : ℕ → Verdict) (l : ℕ → Bool) (n : ℕ) : Refusal → ℕ → Type 0 where
+  of-record : {why : Refusal} {k : ℕ} → IsFirst (refused v) n k → v k ≡ verdict.Refused why
+      → RecordsRefused v l n why k
+  code-17 : {k : ℕ} → Never (refused v) n → IsFirst (loose l) n k → RecordsRefused v l n (refusal 17) k
+  code-18 : Never (refused v) n → Never (loose l) n → ((i j : ℕ) → Contradiction v n i j → ⊥)
+      → RecordsRefused v l n (refusal 18) 0
+
+-- the answer on them
 abbrev pub Says : (ℕ → Verdict) → (ℕ → Bool) → ℕ → Report → Type 0
 Says v l n (Pair i j) = Never (refused v) n × Never (loose l) n × IsLeast (Contradiction v n) i j
-Says v l n Bad = ⊥
-Says v l n (Record why k) = IsFirst (refused v) n k × (v k ≡ Refused why)
-Says v l n (Unlinked k) = Never (refused v) n × IsFirst (loose l) n k
-Says v l n Clear = Never (refused v) n × Never (loose l) n × ((i j : ℕ) → Contradiction v n i j → ⊥)
+Says v l n (Refused why k) = RecordsRefused v l n why k
 
 -- the answer on the records of a pile
 abbrev pub SaysOf : List ℕ → List ℕ → Report → Type 0
 SaysOf pile answers = Says (judged pile answers) (joined pile) (recordsIn pile)
 
+-- why a pile is no report: 15, and else what is said of its records
+pub data PileRefused (pile answers : List ℕ) : Refusal → ℕ → Type 0 where
+  code-15 : (GoodPile pile answers → ⊥) → PileRefused pile answers (refusal 15) 0
+  of-records : {why : Refusal} {k : ℕ} → GoodPile pile answers → SaysOf pile answers (Refused why k)
+      → PileRefused pile answers why k
+
 -- the answer on a pile
 abbrev pub Reports : List ℕ → List ℕ → Report → Type 0
 Reports pile answers (Pair i j) = GoodPile pile answers × SaysOf pile answers (Pair i j)
-Reports pile answers Bad = GoodPile pile answers → ⊥
-Reports pile answers (Record why k) = GoodPile pile answers × SaysOf pile answers (Record why k)
-Reports pile answers (Unlinked k) = GoodPile pile answers × SaysOf pile answers (Unlinked k)
-Reports pile answers Clear = GoodPile pile answers × SaysOf pile answers Clear
+Reports pile answers (Refused why k) = PileRefused pile answers why k
 
--- document 01's number of each answer, 0 where the pile is a report
+-- document 01's number of an answer, 0 where the pile is a report
 abbrev pub reportNumber : Report → ℕ
 reportNumber (Pair i j) = 0
-reportNumber Bad = 15
-reportNumber (Record why k) = why .code
-reportNumber (Unlinked k) = 17
-reportNumber Clear = 18
+reportNumber (Refused why k) = why .code
 
--- the byte place of each answer, 0 where it carries none (request P8): that of the record's own refusal
+-- the byte place of an answer, 0 where it carries none (request P8)
 abbrev pub reportAt : Report → ℕ
 reportAt (Pair i j) = 0
-reportAt Bad = 0
-reportAt (Record why k) = why .at
-reportAt (Unlinked k) = 0
-reportAt Clear = 0
-
--- the order of the numbers: 15; each record in order, with the number of its own refusal; 17 in order; 18
-pub record ReportNumbered (pile answers : List ℕ) (number : ℕ) : Type 0 where
-  pub bad : (GoodPile pile answers → ⊥) → number ≡ 15
-  pub records : GoodPile pile answers
-      → (k : ℕ) → IsFirst (refused (judged pile answers)) (recordsIn pile) k
-      → number ≡ verdictNumber (judged pile answers k)
-  pub links : GoodPile pile answers → Never (refused (judged pile answers)) (recordsIn pile)
-      → (k : ℕ) → IsFirst (loose (joined pile)) (recordsIn pile) k → number ≡ 17
-  pub clear : GoodPile pile answers → Never (refused (judged pile answers)) (recordsIn pile)
-      → Never (loose (joined pile)) (recordsIn pile)
-      → ((i j : ℕ) → Contradiction (judged pile answers) (recordsIn pile) i j → ⊥) → number ≡ 18
-  pub pair : GoodPile pile answers → Never (refused (judged pile answers)) (recordsIn pile)
-      → Never (loose (joined pile)) (recordsIn pile)
-      → (i j : ℕ) → Contradiction (judged pile answers) (recordsIn pile) i j → number ≡ 0
+reportAt (Refused why k) = why .at

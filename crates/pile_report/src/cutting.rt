@@ -22,6 +22,8 @@ use pile::layout::REQUEST_LENGTH;
 use pile::pile_code;
 use pile_runs::Span;
 use pile_runs::shortest_run;
+use refusal::codes;
+use refusal::refuse;
 
 // Takes the shortest run that convicts by itself out of the pile, the first among equals. The buffer must be as long as
 // the pile at least, whatever the length of the run.
@@ -30,16 +32,16 @@ pub fn cut_run<'a>(pile: &'a [u8], answers: &'a [u8], out: &mut [u8]) -> Taken
     ensures { λ r. ⌜ now (out .exit) ≡ written (takenNumber r) (takenBytes r (now (pile .entry))) (now (out .entry)) ⌝ }
 {
     // Both are known before either is told, so that the order of 15 and 19 stands in the two tests alone.
-    let bad = pile_code(pile, answers).code != 0;
+    let bad = pile_code(pile, answers);
     let short = out.len() < pile.len();
-    if bad {
-        return Taken::Bad;
+    if bad.code != 0 {
+        return Taken::Refused(bad);
     }
     if short {
-        return Taken::Short;
+        return Taken::Refused(refuse(codes::ROOM));
     }
     match run_in(pile, answers) {
-        Span::Nothing => Taken::NoRun,
+        Span::Nothing => Taken::Refused(refuse(codes::NO_CONTRADICTION)),
         Span::Places(i, j) => {
             put_run(pile, i, j, out);
             Taken::Run(i, j)

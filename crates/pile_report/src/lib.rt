@@ -16,23 +16,23 @@ pub use cutting::run_in;
 pub use gathering::verdicts_of;
 use refusal::Refusal;
 
-// What is said of a pile: the two records that contradict, where it is a report, or why it is none. A refused record
-// comes with its refusal and then its place, a record that is not linked with its place.
+// What is said of a pile: the two records that contradict, where it is a report; or why it is none, and the place of the
+// record that is to blame, which is 0 where none is.
 pub enum Report {
     Pair(usize, usize),
-    Bad,
-    Record(Refusal, usize),
-    Unlinked(usize),
-    Clear,
+    Refused(Refusal, usize),
 }
 
-// What the cutter took: the places of the first and the last record of the run, or that the pile is bad, that the
-// buffer is too short, or that there is no run.
+// What the cutter took: the places of the first and the last record of the run, or why it took none.
 pub enum Taken {
     Run(usize, usize),
-    Bad,
-    Short,
-    NoRun,
+    Refused(Refusal),
+}
+
+// A record that is refused, with its place, or that there is none.
+enum Stopped {
+    At(Refusal, usize),
+    Nowhere,
 }
 
 // A place, or that there is none.

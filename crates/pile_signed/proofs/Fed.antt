@@ -34,7 +34,7 @@ pub report-signed-fed : (κs : _) (a : _) (x : _) (u : _) (ιs : _) (b : _) (y :
     → report-signed-reads.Learnt ιs b y (atExit (endedOf _ report-signed-kinds.ps report-signed-kinds.r) ιs b v)
     → now (a .0) ≡ now (b .0) → now (a .1 .0) ≡ ownAnswers (now (b .0)) → x ≡ y
 report-signed-fed κs a x u ιs b y v p q e f =
-    report-once (now (b .0)) (ownAnswers (now (b .0))) x y (rw (e, f) at (p .1)) (q .1)
+    report-once (now (b .0)) (ownAnswers (now (b .0))) x y (rw (e, f) at p) q
 
 -- `cut_run` and `cut_signed_run`, and what each leaves in its buffer
 pub cut-signed-fed : (κs : _) (a : _) (x : _) (u : _) (ιs : _) (b : _) (y : _) (v : _)

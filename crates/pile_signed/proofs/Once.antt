@@ -21,7 +21,7 @@ pub judge-signed-once : Settles judge-signed-kinds.ps judge-signed-kinds.r judge
 judge-signed-once κs a x u y v p q = (p .1 ∙ sym (q .1), refl)
 
 pub report-signed-once : Settles report-signed-kinds.ps report-signed-kinds.r report-signed-reads.Learnt
-report-signed-once κs a x u y v p q = (report-once _ _ x y (p .1) (q .1), refl)
+report-signed-once κs a x u y v p q = (report-once _ _ x y p q, refl)
 
 pub cut-signed-once : Settles cut-signed-kinds.ps cut-signed-kinds.r cut-signed-reads.Learnt
 cut-signed-once κs a x u y v p q =

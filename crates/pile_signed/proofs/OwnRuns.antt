@@ -15,12 +15,13 @@ use Rattle.laws.specs.Written.{written}
 use Rattle.laws.proofs.Pasted.{length-part}
 use Rattle.pile.specs.Meaning.{WholePile}
 use Rattle.pile.specs.Pile.{recordAt, keyIn}
+use Rattle.refusal.specs.Refusal.{refusal}
 use Rattle.pile_report.specs.Meaning.{IsReport, ReportIn}
 use Rattle.pile_report.specs.Report.{Reports}
 use Rattle.pile_report.specs.Taking.{Takes, runBytes, runAnswers}
 use Rattle.pile_report.specs.declared.Report.{Report}
 use Rattle.pile_report.specs.declared.Report.the-variants.{Pair}
-use Rattle.pile_report.specs.declared.Taken.the-variants.{Run, NoRun}
+use Rattle.pile_report.specs.declared.Taken.the-variants.{Run, Refused}
 use Rattle.pile_report.proofs.Behind.{same-response}
 use Rattle.pile_report.proofs.CutBytes.{RunIn, count-run, record-first, record-later, record-alike}
 use Rattle.pile_report.proofs.CutReports.{taken-exactly, none-exactly}
@@ -119,7 +120,7 @@ module _ (pile : List ℕ) (whole : WholePile pile) (bytes : Bytes pile) where
         )
 
     -- and none exactly where no part of the pile is one
-    pub none-alone : Takes pile (ownAnswers pile) room NoRun ↔ ((i j : ℕ) → SignedReportIn pile i j → ⊥)
+    pub none-alone : Takes pile (ownAnswers pile) room (Refused (refusal 18)) ↔ ((i j : ℕ) → SignedReportIn pile i j → ⊥)
     none-alone =
         let t = none-exactly pile (ownAnswers pile) (own-good pile whole) bytes room fits in (
           λ a i j p. t .0 a i j (part-alone i j .1 p),

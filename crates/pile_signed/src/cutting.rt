@@ -12,6 +12,8 @@ use pile_report::Taken;
 use pile_report::put_run;
 use pile_report::run_by;
 use pile_runs::Span;
+use refusal::codes;
+use refusal::refuse;
 
 // Takes the shortest run that convicts by itself out of the pile, the first among equals. The buffer must be as long as
 // the pile at least, whatever the length of the run.
@@ -22,13 +24,13 @@ pub fn cut_signed_run(pile: &[u8], out: &mut [u8]) -> Taken
     let bad = length_bad(pile);
     let short = out.len() < pile.len();
     if bad {
-        return Taken::Bad;
+        return Taken::Refused(refuse(codes::PILE));
     }
     if short {
-        return Taken::Short;
+        return Taken::Refused(refuse(codes::ROOM));
     }
     match signed_run(pile) {
-        Span::Nothing => Taken::NoRun,
+        Span::Nothing => Taken::Refused(refuse(codes::NO_CONTRADICTION)),
         Span::Places(i, j) => {
             put_run(pile, i, j, out);
             Taken::Run(i, j)

@@ -10,10 +10,11 @@ use borrow.Author.Tests.{eqb-true, eqb-false, ltb-true, ltb-false}
 use lib.Dec.{eqb, ltb}
 use lib.ListN.{length}
 use Rattle.laws.specs.Pick.{pick, either}
+use Rattle.refusal.specs.Refusal.{refusal}
 use Rattle.report_read.specs.Entry.{Entry, Entries, these, unread, entriesOf}
 use Rattle.report_read.specs.Read.{readNumber, isBig, anyBig, readOf}
 use Rattle.report_read.specs.declared.Read.{Read}
-use Rattle.report_read.specs.declared.Read.the-variants.{Records, NoReport, Amount, Short}
+use Rattle.report_read.specs.declared.Read.the-variants.{Records, Refused}
 use Rattle.report_read.proofs.Elements.{neither-left, neither-right}
 use Rattle.report_laws.specs.Reported.{ReportText, Small, all-small, small-then, RightAmount}
 use Rattle.report_laws.specs.Reported.{Big, big-request, big-response, big-later}
@@ -54,8 +55,8 @@ right-wrong r (too-long b) = not-both (r .small) b
 
 -- ---- what is answered of entries
 data Case (es : List Entry) (room : ℕ) : Read → Type 0 where
-  amiss : WrongAmount es → Case es room Amount
-  crowded : RightAmount es → room < length es * 4096 → Case es room Short
+  amiss : WrongAmount es → Case es room (Refused (refusal 25))
+  crowded : RightAmount es → room < length es * 4096 → Case es room (Refused (refusal 19))
   fine : RightAmount es → length es * 4096 ≤ room → Case es room (Records (length es))
 
 more-than : (n : ℕ) → (n ≡ 0 → ⊥) → 0 < n
@@ -75,33 +76,36 @@ case es room =
 
     by : (a : Bool) → eqb (length es) 0 ≡ a → (b : Bool) → ltb 16 (length es) ≡ b → (c : Bool) → anyBig es ≡ c
         → (d : Bool) → ltb room (length es * 4096) ≡ d
-        → Case es room (pick a Amount (pick b Amount (pick c Amount (pick d Short (Records (length es))))))
+        → Case es room
+        (pick a (Refused (refusal 25))
+        (pick b (Refused (refusal 25))
+        (pick c (Refused (refusal 25)) (pick d (Refused (refusal 19)) (Records (length es))))))
     by true e b f c g d h = amiss (no-entry (eqb-true _ 0 e))
     by false e true f c g d h = amiss (too-many (ltb-true 16 _ f))
     by false e false f true g d h = amiss (too-long (one-big es g))
     by false e false f false g true h = crowded (right e f g) (ltb-true room _ h)
     by false e false f false g false h = fine (right e f g) (ltb-false room _ h)
 
-wrong-then : {es : List Entry} {room : ℕ} (x : Read) → Case es room x → WrongAmount es → x ≡ Amount
-wrong-then Amount (amiss v) w = refl
-wrong-then Short (crowded r h) w = absurd (right-wrong r w)
-wrong-then (Records n) (fine r h) w = absurd (right-wrong r w)
+wrong-then : {es : List Entry} {room : ℕ} (x : Read) → Case es room x → WrongAmount es → x ≡ Refused (refusal 25)
+wrong-then x (amiss v) w = refl
+wrong-then x (crowded r h) w = absurd (right-wrong r w)
+wrong-then x (fine r h) w = absurd (right-wrong r w)
 
 short-then : {es : List Entry} {room : ℕ} (x : Read) → Case es room x → RightAmount es → room < length es * 4096
-    → x ≡ Short
-short-then Amount (amiss w) r h = absurd (right-wrong r w)
-short-then Short (crowded q g) r h = refl
-short-then (Records n) (fine q g) r h = absurd (omega (arith, g, h))
+    → x ≡ Refused (refusal 19)
+short-then x (amiss w) r h = absurd (right-wrong r w)
+short-then x (crowded q g) r h = refl
+short-then x (fine q g) r h = absurd (omega (arith, g, h))
 
 right-then : {es : List Entry} {room : ℕ} (x : Read) → Case es room x → RightAmount es → length es * 4096 ≤ room
     → x ≡ Records (length es)
-right-then Amount (amiss w) r h = absurd (right-wrong r w)
-right-then Short (crowded q g) r h = absurd (omega (arith, g, h))
-right-then (Records n) (fine q g) r h = refl
+right-then x (amiss w) r h = absurd (right-wrong r w)
+right-then x (crowded q g) r h = absurd (omega (arith, g, h))
+right-then x (fine q g) r h = refl
 
 -- ---- what is answered of a text
 data Told (s : List ℕ) (room : ℕ) : Read → Type 0 where
-  no-report : ((es : List Entry) → ReportText s es → ⊥) → Told s room NoReport
+  no-report : ((es : List Entry) → ReportText s es → ⊥) → Told s room (Refused (refusal 24))
   report-of : {x : Read} (es : List Entry) → ReportText s es → Case es room x → Told s room x
 
 told : (s : List ℕ) (room : ℕ) → Told s room (readOf (entriesOf s) room)
@@ -127,10 +131,10 @@ module _ (s : List ℕ) (room : ℕ) where
   no-report-exactly = (λ e. from _ (told s room) e, λ f. to _ (told s room) f)
     where
       from : (x : Read) → Told s room x → readNumber x ≡ 24 → (es : List Entry) → ReportText s es → ⊥
-      from NoReport (no-report f) e = f
-      from Amount (report-of es r (amiss w)) e = absurd (omega (arith, e))
-      from Short (report-of es r (crowded a h)) e = absurd (omega (arith, e))
-      from (Records n) (report-of es r (fine a h)) e = absurd (omega (arith, e))
+      from x (no-report f) e = f
+      from x (report-of es r (amiss w)) e = absurd (omega (arith, e))
+      from x (report-of es r (crowded a h)) e = absurd (omega (arith, e))
+      from x (report-of es r (fine a h)) e = absurd (omega (arith, e))
 
       to : (x : Read) → Told s room x → ((es : List Entry) → ReportText s es → ⊥) → readNumber x ≡ 24
       to x (no-report g) f = refl
@@ -141,10 +145,10 @@ module _ (s : List ℕ) (room : ℕ) where
   amount-exactly = (λ e. from _ (told s room) e, to)
     where
       from : (x : Read) → Told s room x → readNumber x ≡ 25 → Amiss s
-      from NoReport (no-report f) e = absurd (omega (arith, e))
-      from Amount (report-of es r (amiss w)) e = record { entries = es; report = r; wrong = w }
-      from Short (report-of es r (crowded a h)) e = absurd (omega (arith, e))
-      from (Records n) (report-of es r (fine a h)) e = absurd (omega (arith, e))
+      from x (no-report f) e = absurd (omega (arith, e))
+      from x (report-of es r (amiss w)) e = record { entries = es; report = r; wrong = w }
+      from x (report-of es r (crowded a h)) e = absurd (omega (arith, e))
+      from x (report-of es r (fine a h)) e = absurd (omega (arith, e))
 
       to : Amiss s → readNumber (readOf (entriesOf s) room) ≡ 25
       to a = ap readNumber (read-of room (a .report) ∙ wrong-then _ (case (a .entries) room) (a .wrong))
@@ -154,10 +158,10 @@ module _ (s : List ℕ) (room : ℕ) where
   short-exactly = (λ e. from _ (told s room) e, to)
     where
       from : (x : Read) → Told s room x → readNumber x ≡ 19 → Crowded s room
-      from NoReport (no-report f) e = absurd (omega (arith, e))
-      from Amount (report-of es r (amiss w)) e = absurd (omega (arith, e))
-      from Short (report-of es r (crowded a h)) e = record { entries = es; report = r; right = a; short = h }
-      from (Records n) (report-of es r (fine a h)) e = absurd (omega (arith, e))
+      from x (no-report f) e = absurd (omega (arith, e))
+      from x (report-of es r (amiss w)) e = absurd (omega (arith, e))
+      from x (report-of es r (crowded a h)) e = record { entries = es; report = r; right = a; short = h }
+      from x (report-of es r (fine a h)) e = absurd (omega (arith, e))
 
       to : Crowded s room → readNumber (readOf (entriesOf s) room) ≡ 19
       to a = ap readNumber (read-of room (a .report) ∙ short-then _ (case (a .entries) room) (a .right) (a .short))
@@ -168,10 +172,10 @@ module _ (s : List ℕ) (room : ℕ) where
   read-exactly n = (λ e. from _ (told s room) e, to)
     where
       from : (x : Read) → Told s room x → x ≡ Records n → Readable s room n
-      from NoReport (no-report f) e = let z : _≡_ {A = ℕ} 0 1 = cc in absurd (omega arith)
-      from Amount (report-of es r (amiss w)) e = let z : _≡_ {A = ℕ} 0 1 = cc in absurd (omega arith)
-      from Short (report-of es r (crowded a h)) e = let z : _≡_ {A = ℕ} 0 1 = cc in absurd (omega arith)
-      from (Records m) (report-of es r (fine a h)) e =
+      from x (no-report f) e = let z : _≡_ {A = ℕ} 0 1 = cc in absurd (omega arith)
+      from x (report-of es r (amiss w)) e = let z : _≡_ {A = ℕ} 0 1 = cc in absurd (omega arith)
+      from x (report-of es r (crowded a h)) e = let z : _≡_ {A = ℕ} 0 1 = cc in absurd (omega arith)
+      from x (report-of es r (fine a h)) e =
           record { entries = es; report = r; right = a; enough = h; count = cc }
 
       to : Readable s room n → readOf (entriesOf s) room ≡ Records n

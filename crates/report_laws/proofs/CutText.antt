@@ -14,13 +14,13 @@ use Rattle.laws.specs.Numbers.{le}
 use Rattle.laws.specs.Pasted.{part, pasted}
 use Rattle.laws.proofs.Pasted.{length-part, length-pasted}
 use Rattle.laws.proofs.Pieces.{pasted-behind, take-of-pasted}
+use Rattle.refusal.specs.Refusal.{refusal}
 use Rattle.pile.specs.Pile.{recordsIn, recordAt, keyIn, requestPacket}
 use Rattle.report_read.specs.Entry.{Entry}
 use Rattle.report_read.specs.Entry.{entriesOf}
 use Rattle.report_read.specs.Read.{readOf}
 use Rattle.report_read.specs.declared.Read.{Read}
-use Rattle.report_read.specs.declared.Read.the-variants.{Records, NoReport, Amount}
-use Rattle.report_read.specs.declared.Read.the-variants.{Short as ShortRead}
+use Rattle.report_read.specs.declared.Read.the-variants as read
 use Rattle.report_write.specs.Entries.{entryOf, entriesIn, textOf}
 use Rattle.report_write.specs.Text.{entriesText, jsonOf}
 use Rattle.report_write.specs.Published.{Publishes, publishedBytes}
@@ -31,8 +31,8 @@ use Rattle.report_write.proofs.Piles.{publishes-once}
 use Rattle.pile_report.specs.Taking.{Takes, runBytes, runAnswers}
 use Rattle.pile_report.specs.declared.Report.the-variants.{Pair}
 use Rattle.pile_report.specs.declared.Taken.{Taken}
-use Rattle.pile_report.specs.declared.Taken.the-variants.{Run, NoRun}
-use Rattle.pile_report.specs.declared.Taken.the-variants.{Bad as BadTaken, Short as ShortTaken}
+use Rattle.pile_report.specs.declared.Taken.the-variants.{Run}
+use Rattle.pile_report.specs.declared.Taken.the-variants as taken
 use Rattle.pile_report.proofs.Behind.{Alike, same-response}
 use Rattle.pile_report.proofs.Runs.{takes-once}
 use Rattle.pile_report.proofs.Stands.{taken-run, cut-names}
@@ -40,7 +40,7 @@ use Rattle.pile_signed.specs.OwnAnswers.{ownAnswers}
 use Rattle.pile_signed.proofs.OwnRuns.{own-run}
 use Rattle.report_text.specs.Forwarded.{ForwardsBy, cutOf, CutsText, Forwards, pileOf, forwardedBytes}
 use Rattle.report_text.specs.declared.Forwarded.{Forwarded}
-use Rattle.report_text.specs.declared.Forwarded.the-variants.{Text, Short}
+use Rattle.report_text.specs.declared.Forwarded.the-variants.{Text, Refused}
 use Rattle.report_text.proofs.Cuts.{forwardOf}
 use Rattle.report_laws.specs.Reported.{Readable}
 use Rattle.report_laws.proofs.Bytes.{text-bytes}
@@ -136,7 +136,8 @@ module _ (pile answers : List ℕ) (bytes : Bytes pile) (i j : ℕ)
 
   -- So the answer on the text of the pile and the writer's on the run are the same,
   room-same : (n : ℕ) (b : Bool)
-      → cond b Short (Text i j n) ≡ forwardOf i j (cond b published.Short (published.Text n))
+      → cond b (Refused (refusal 19)) (Text i j n)
+      ≡ forwardOf i j (cond b (published.Refused (refusal 19) 0) (published.Text n))
   room-same n true = refl
   room-same n false = refl
 
@@ -153,11 +154,7 @@ module _ (pile answers : List ℕ) (bytes : Bytes pile) (i j : ℕ)
   -- and so is what they write
   pub cut-bytes : (p : Published) → forwardedBytes (forwardOf i j p) pile ≡ publishedBytes p (runBytes i j pile)
   cut-bytes (published.Text n) = sym run-text
-  cut-bytes published.Bad = refl
-  cut-bytes (published.Record why k) = refl
-  cut-bytes (published.Unlinked k) = refl
-  cut-bytes published.Clear = refl
-  cut-bytes published.Short = refl
+  cut-bytes (published.Refused why k) = refl
 
 -- ---- where a text is read, and the cutter takes a run out of its records:
 module _ (text answers : List ℕ) (n i j : ℕ) (read : Readable text 65536 n)
@@ -188,7 +185,7 @@ signed-text-is-cut-and-written text n i j read t room r p f w =
 
 -- ---- And where `cut_text` answers a run, the cutter takes that run out of the text's records, and `write_report`
 -- answers as many bytes of it.
-told-run : {i j n : ℕ} (a b m : ℕ) (x : Bool) → Text i j n ≡ cond x Short (Text a b m)
+told-run : {i j n : ℕ} (a b m : ℕ) (x : Bool) → Text i j n ≡ cond x (Refused (refusal 19)) (Text a b m)
     → (x ≡ false) × (Run a b ≡ Run i j) × (n ≡ m)
 told-run a b m true e = let z : _≡_ {A = ℕ} 0 1 = cc in absurd (omega arith)
 told-run {i} {j} {n} a b m false e =
@@ -202,9 +199,7 @@ module _ (pile answers : List ℕ) (bytes : Bytes pile) (room i j n : ℕ) where
       told-run a b (length (textOf (part (4096 * a) (4096 * b + 4096) pile)))
       (ltb room (length (textOf (part (4096 * a) (4096 * b + 4096) pile)))) e in
       (subst (Takes pile answers (length pile)) (q .1) t, e ∙ ap (cutOf pile room) (q .1))
-  taken-so BadTaken t e = let z : _≡_ {A = ℕ} 0 1 = cc in absurd (omega arith)
-  taken-so ShortTaken t e = let z : _≡_ {A = ℕ} 0 1 = cc in absurd (omega arith)
-  taken-so NoRun t e = let z : _≡_ {A = ℕ} 0 1 = cc in absurd (omega arith)
+  taken-so (taken.Refused why) t e = let z : _≡_ {A = ℕ} 0 1 = cc in absurd (omega arith)
 
   pub run-was-cut : CutsText pile answers room (Text i j n)
       → Takes pile answers (length pile) (Run i j)
@@ -230,7 +225,5 @@ text-was-cut text answers room i j n f =
   where
     by : (x : Read) → ForwardsBy x (pileOf text) answers room (Text i j n)
         → CutsText (pileOf text) answers room (Text i j n)
-    by (Records m) f = f
-    by NoReport f = let z : _≡_ {A = ℕ} 0 1 = cc in absurd (omega arith)
-    by Amount f = let z : _≡_ {A = ℕ} 0 1 = cc in absurd (omega arith)
-    by ShortRead f = let z : _≡_ {A = ℕ} 0 1 = cc in absurd (omega arith)
+    by (read.Records m) f = f
+    by (read.Refused why) f = let z : _≡_ {A = ℕ} 0 1 = cc in absurd (omega arith)

@@ -21,9 +21,10 @@ use Rattle.json_tokens.specs.Scan.{pastWhile, blank}
 use Rattle.json.specs.Value.{isText}
 use Rattle.json_tokens.proofs.Picks.{inside}
 use Rattle.base64.specs.Decode.{Decoded, bytes, none}
+use Rattle.refusal.specs.Refusal.{refusal}
 use Rattle.report_read.specs.declared.Element.{Element}
 use Rattle.report_read.specs.declared.Element.the-variants.{At as Item, Done}
-use Rattle.report_read.specs.declared.Read.the-variants.{Records, NoReport, Amount, Short}
+use Rattle.report_read.specs.declared.Read.the-variants.{Records, Refused}
 use Rattle.pile.specs.Layout.{RECORD}
 use Rattle.report_read.specs.Entry.{memberOf, held, is32, randGood, hasAll, entryAt, inList, elementsOf, allOf}
 use Rattle.report_read.specs.Entry.{entriesAt, listOf, listPlace, these, entriesFrom, entriesOf, randName}
@@ -145,13 +146,13 @@ entries-length s first (k ∷ ks) = ap suc (entries-length s false ks)
 
 module _ (s out : List ℕ) {x : Skip} (e : x ≡ listPlace s) where
   pub read-none : x ≡ Bad
-      → (NoReport ≡ readOf (entriesOf s) (length out)) × (out ≡ written 24 (pileBytes (entriesOf s)) out)
+      → (Refused (refusal 24) ≡ readOf (entriesOf s) (length out)) × (out ≡ written 24 (pileBytes (entriesOf s)) out)
   unfolding entriesOf entriesFrom readOf pileBytes
   read-none h = rw (sym e ∙ h) (refl, refl)
 
   module _ {v : ℕ} (h : x ≡ Past v) {t : Bool} (a : t ≡ allOf s true (elementsOf s inList v)) where
     pub read-bad : not t ≡ true
-        → (NoReport ≡ readOf (entriesOf s) (length out)) × (out ≡ written 24 (pileBytes (entriesOf s)) out)
+        → (Refused (refusal 24) ≡ readOf (entriesOf s) (length out)) × (out ≡ written 24 (pileBytes (entriesOf s)) out)
     unfolding entriesOf entriesFrom readOf pileBytes pick
     read-bad g = rw (sym e ∙ h) (rw (sym a ∙ not-true t g) (refl, refl))
 
@@ -164,13 +165,13 @@ module _ (s out : List ℕ) {x : Skip} (e : x ≡ listPlace s) where
       many = c ∙ sym (entries-length s true (elementsOf s inList v))
 
       pub read-few : n ≡ 0
-          → (Amount ≡ readOf (entriesOf s) (length out)) × (out ≡ written 25 (pileBytes (entriesOf s)) out)
+          → (Refused (refusal 25) ≡ readOf (entriesOf s) (length out)) × (out ≡ written 25 (pileBytes (entriesOf s)) out)
       unfolding readOf pileBytes
       read-few z = rw are (hit-eq _ many z refl, refl)
 
       module _ (z : n ≡ 0 → ⊥) where
         pub read-many : 16 < n
-            → (Amount ≡ readOf (entriesOf s) (length out)) × (out ≡ written 25 (pileBytes (entriesOf s)) out)
+            → (Refused (refusal 25) ≡ readOf (entriesOf s) (length out)) × (out ≡ written 25 (pileBytes (entriesOf s)) out)
         unfolding readOf pileBytes
         read-many m =
             rw are (
@@ -181,7 +182,7 @@ module _ (s out : List ℕ) {x : Skip} (e : x ≡ listPlace s) where
 
         module _ (m : n ≤ 16) {b : Bool} (w : b ≡ anyBig (entriesAt s true (elementsOf s inList v))) where
           pub read-big : b ≡ true
-              → (Amount ≡ readOf (entriesOf s) (length out)) × (out ≡ written 25 (pileBytes (entriesOf s)) out)
+              → (Refused (refusal 25) ≡ readOf (entriesOf s) (length out)) × (out ≡ written 25 (pileBytes (entriesOf s)) out)
           unfolding readOf pileBytes
           read-big i =
               rw are (
@@ -194,7 +195,7 @@ module _ (s out : List ℕ) {x : Skip} (e : x ≡ listPlace s) where
               )
 
           pub read-short : b ≡ false → length out < n * RECORD
-              → (Short ≡ readOf (entriesOf s) (length out)) × (out ≡ written 19 (pileBytes (entriesOf s)) out)
+              → (Refused (refusal 19) ≡ readOf (entriesOf s) (length out)) × (out ≡ written 19 (pileBytes (entriesOf s)) out)
           unfolding readOf pileBytes
           read-short i l = rw are (
             miss-eq _ many z (miss _ refl (le-ltb 16 (length (entriesAt s true (elementsOf s inList v))) (omega (

@@ -5,18 +5,17 @@ use mathlib.Core.List.{List, [], _∷_, _++_}
 use lib.Dec.{eqb, ltb}
 use lib.ListN.{length}
 use Rattle.laws.specs.Pick.{pick, either}
+use Rattle.refusal.specs.Refusal.{refusal}
 use Rattle.pile.specs.Layout.{RECORD, AREA}
 use Rattle.report_read.specs.declared.Read.{Read}
-use Rattle.report_read.specs.declared.Read.the-variants.{Records, NoReport, Amount, Short}
+use Rattle.report_read.specs.declared.Read.the-variants.{Records, Refused}
 use Rattle.report_read.specs.Entry.{Entry, Entries, these, unread}
 use Rattle.report_read.specs.Record.{recordsOf}
 
--- the number of each answer, 0 where nothing is refused
+-- the number of an answer, 0 where nothing is refused
 abbrev pub readNumber : Read → ℕ
 readNumber (Records n) = 0
-readNumber NoReport = 24
-readNumber Amount = 25
-readNumber Short = 19
+readNumber (Refused why) = why .code
 
 -- a packet above 2,000 bytes
 unfoldable pub isBig : Entry → Bool
@@ -30,9 +29,11 @@ anyBig (e ∷ es) = either (isBig e) (anyBig es)
 -- fewer than 4,096 bytes a record; else how many records there are
 unfoldable pub readOf : Entries → ℕ → Read
 readOf (these es) room =
-    pick (eqb (length es) 0) Amount (pick (ltb 16 (length es)) Amount (pick (anyBig es) Amount
-    (pick (ltb room (length es * RECORD)) Short (Records (length es)))))
-readOf unread room = NoReport
+    pick (eqb (length es) 0) (Refused (refusal 25))
+    (pick (ltb 16 (length es)) (Refused (refusal 25))
+    (pick (anyBig es) (Refused (refusal 25))
+    (pick (ltb room (length es * RECORD)) (Refused (refusal 19)) (Records (length es)))))
+readOf unread room = Refused (refusal 24)
 
 -- what is written where nothing is refused
 unfoldable pub pileBytes : Entries → List ℕ

@@ -8,6 +8,7 @@ mod records;
 
 use json::DEPTH;
 pub use reading::read_report;
+use refusal::Refusal;
 
 // How deep values may nest in the outermost object,
 const IN_REPORT: usize = DEPTH - 1;
@@ -24,11 +25,8 @@ enum Element {
     Done,
 }
 
-// How many records stand at the front of the buffer; or that the text is no report, that it has too much or nothing for
-// a pile, or that the buffer is too short.
+// How many records stand at the front of the buffer, or why none do.
 pub enum Read {
     Records(usize),
-    NoReport,
-    Amount,
-    Short,
+    Refused(Refusal),
 }

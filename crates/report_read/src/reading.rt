@@ -19,6 +19,8 @@ use super::lists::next_item;
 use super::records::put_record;
 use json_tokens::Skip;
 use pile::RECORD;
+use refusal::codes;
+use refusal::refuse;
 
 // The records of all.
 fn put_all(s: &[u8], v: usize, out: &mut [u8])
@@ -54,23 +56,23 @@ pub fn read_report(text: &[u8], out: &mut [u8]) -> Read
         ⌝ }
 {
     let Skip::Past(v) = list_place(text) else {
-        return Read::NoReport;
+        return Read::Refused(refuse(codes::REPORT_TEXT));
     };
     if !all_of(text, v) {
-        return Read::NoReport; // whatever the number of entries
+        return Read::Refused(refuse(codes::REPORT_TEXT)); // whatever the number of entries
     }
     let n = count(text, v);
     if n == 0 {
-        return Read::Amount;
+        return Read::Refused(refuse(codes::ENTRIES));
     }
     if 16 < n {
-        return Read::Amount;
+        return Read::Refused(refuse(codes::ENTRIES));
     }
     if any_big(text, v) {
-        return Read::Amount;
+        return Read::Refused(refuse(codes::ENTRIES));
     }
     if out.len() < n * RECORD {
-        return Read::Short;
+        return Read::Refused(refuse(codes::ROOM));
     }
     put_all(text, v, out);
     Read::Records(n)

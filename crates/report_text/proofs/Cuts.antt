@@ -11,6 +11,8 @@ use Rattle.laws.specs.Pasted.{part, fronted}
 use Rattle.laws.specs.Written.{written}
 use Rattle.laws.proofs.Pasted.{length-part}
 use Rattle.laws.proofs.Pieces.{drop-take}
+use Rattle.refusal.specs.Refusal.{refusal}
+use Rattle.refusal.specs.declared.Refusal.{Refusal}
 use Rattle.pile.specs.Pile.{recordsIn, recordAt}
 use Rattle.pile.specs.Meaning.{GoodPile}
 use Rattle.pile_runs.specs.Clash.{valid}
@@ -18,7 +20,7 @@ use Rattle.pile_runs.specs.declared.Span.{Span}
 use Rattle.pile_runs.specs.declared.Span.the-variants.{Places, Nothing}
 use Rattle.pile_runs.specs.Spans.{Answers}
 use Rattle.pile_report.specs.Report.{judged}
-use Rattle.pile_report.specs.Taking.{ConvictsIn, Takes}
+use Rattle.pile_report.specs.Taking.{ConvictsIn, code-15, code-18, Takes}
 use Rattle.pile_report.specs.declared.Taken.{Taken}
 use Rattle.pile_report.specs.declared.Taken.the-variants as taken
 use Rattle.pile_report.proofs.Runs.{takes-once}
@@ -28,28 +30,24 @@ use Rattle.report_write.specs.Entries.{textOf}
 use Rattle.report_write.specs.Pieces.{Fits, Recorded, Piled, Writable}
 use Rattle.report_write.specs.Published.{publishedNumber}
 use Rattle.report_write.specs.Published.{roomed as publishRoomed}
-use Rattle.report_write.proofs.Piles.{valid-undamaged, record-long}
+use Rattle.report_write.proofs.Piles.{valid-undamaged, record-long, refused-left}
 use Rattle.report_text.specs.declared.Forwarded.{Forwarded}
-use Rattle.report_text.specs.declared.Forwarded.the-variants.{Text, NoReport, Amount, Bad, NoRun, Short}
+use Rattle.report_text.specs.declared.Forwarded.the-variants.{Text, Refused}
 use Rattle.report_text.specs.Forwarded.{roomed, cutOf, CutsText, forwardedNumber, forwardedBytes}
 
 -- ---- what the writer answers, told of the run
 abbrev pub forwardOf : ℕ → ℕ → Published → Forwarded
 forwardOf i j (published.Text n) = Text i j n
-forwardOf i j published.Bad = Short
-forwardOf i j (published.Record why k) = Short
-forwardOf i j (published.Unlinked k) = Short
-forwardOf i j published.Clear = Short
-forwardOf i j published.Short = Short
+forwardOf i j (published.Refused why k) = Refused why
 
 answer-of : (i j n : ℕ) (b : Bool)
-    → forwardOf i j (cond b published.Short (published.Text n)) ≡ cond b Short (Text i j n)
+    → forwardOf i j (cond b (published.Refused (refusal 19) 0) (published.Text n)) ≡ cond b (Refused (refusal 19)) (Text i j n)
 answer-of i j n true = refl
 answer-of i j n false = refl
 
 left-of : {to : List ℕ} (i j n : ℕ) (text out : List ℕ) (b : Bool)
-    → to ≡ written (publishedNumber (cond b published.Short (published.Text n))) text out
-    → to ≡ written (forwardedNumber (cond b Short (Text i j n))) text out
+    → to ≡ written (publishedNumber (cond b (published.Refused (refusal 19) 0) (published.Text n))) text out
+    → to ≡ written (forwardedNumber (cond b (Refused (refusal 19)) (Text i j n))) text out
 left-of i j n text out true h = h
 left-of i j n text out false h = h
 
@@ -118,33 +116,28 @@ cut-writable pile answers i j g v = (order, (inside, record { piled = piled; few
 
 -- ---- the answers on a pile
 module _ (pile answers out : List ℕ) where
-  pub cut-bad : (GoodPile pile answers → ⊥)
-      → CutsText pile answers (length out) Bad × (out ≡ written 15 [] out)
-  cut-bad f = (record { cut = taken.Bad; right = f; answer = refl }, refl)
+  -- whatever the cutter refuses
+  cut-refused : (why : Refusal) → Takes pile answers (length pile) (taken.Refused why)
+      → CutsText pile answers (length out) (Refused why) × (out ≡ written (why .code) [] out)
+  cut-refused why t = (record { cut = taken.Refused why; right = t; answer = refl }, refused-left why out)
+
+  pub cut-bad : {why : Refusal} → why ≡ refusal 15 → (GoodPile pile answers → ⊥)
+      → CutsText pile answers (length out) (Refused why) × (out ≡ written (why .code) [] out)
+  cut-bad {why} e f = cut-refused why (rw e (code-15 f))
 
   module _ (g : GoodPile pile answers) where
-    pub cut-none : {x : Span} → Answers (ConvictsIn pile answers) x → x ≡ Nothing
-        → CutsText pile answers (length out) NoRun × (out ≡ written 18 [] out)
-    cut-none a e = (
-      record {
-        cut = taken.NoRun;
-        right = (
-          g,
-          omega arith,
-          subst (Answers (ConvictsIn pile answers)) e a,
-        );
-        answer = refl;
-      },
-      refl,
-    )
+    pub cut-none : {x : Span} {why : Refusal} → Answers (ConvictsIn pile answers) x → x ≡ Nothing → why ≡ refusal 18
+        → CutsText pile answers (length out) (Refused why) × (out ≡ written (why .code) [] out)
+    cut-none {why = why} a e r =
+        cut-refused why (rw r (code-18 g (omega arith) (subst (Answers (ConvictsIn pile answers)) e a)))
 
     bytes-of : {to : List ℕ} (i j : ℕ) (b : Bool)
         → to ≡ written
-        (forwardedNumber (cond b Short (Text i j (length (textOf (part (4096 * i) (4096 * j + 4096) pile))))))
+        (forwardedNumber (cond b (Refused (refusal 19)) (Text i j (length (textOf (part (4096 * i) (4096 * j + 4096) pile))))))
         (textOf (part (4096 * i) (4096 * j + 4096) pile)) out
         → to ≡ written
-        (forwardedNumber (cond b Short (Text i j (length (textOf (part (4096 * i) (4096 * j + 4096) pile))))))
-        (forwardedBytes (cond b Short (Text i j (length (textOf (part (4096 * i) (4096 * j + 4096) pile))))) pile) out
+        (forwardedNumber (cond b (Refused (refusal 19)) (Text i j (length (textOf (part (4096 * i) (4096 * j + 4096) pile))))))
+        (forwardedBytes (cond b (Refused (refusal 19)) (Text i j (length (textOf (part (4096 * i) (4096 * j + 4096) pile))))) pile) out
     bytes-of i j true h = h
     bytes-of i j false h = h
 

@@ -11,17 +11,20 @@ use lib.Seq.{take-at}
 use Rattle.laws.specs.Pasted.{fronted}
 use Rattle.laws.specs.Pick.{pick}
 use Rattle.laws.specs.Written.{written}
+use Rattle.refusal.specs.Refusal.{refusal}
+use Rattle.refusal.specs.declared.Refusal.{Refusal}
 use Rattle.json_tokens.specs.declared.Skip.{Skip}
 use Rattle.json_tokens.specs.declared.Skip.the-variants as skip
 use Rattle.report_read.specs.Entry.{Entry, these, unread, elementsOf, allOf, entriesAt, listPlace, entriesFrom, entriesOf}
 use Rattle.report_read.specs.Read.{anyBig, readOf, readNumber, pileBytes}
 use Rattle.report_read.specs.Record.{recordsOf}
 use Rattle.report_read.specs.declared.Read.{Read}
-use Rattle.report_read.specs.declared.Read.the-variants.{Records, Amount, NoReport, Short}
+use Rattle.report_read.specs.declared.Read.the-variants.{Records, Refused}
 use Rattle.report_read.proofs.Piles.{records-length}
+use Rattle.report_write.proofs.Piles.{refused-left}
 use Rattle.pile_signed.specs.OwnAnswers.{ownAnswers}
 use Rattle.report_text.specs.declared.Forwarded.{Forwarded}
-use Rattle.report_text.specs.declared.Forwarded.the-variants.{NoReport as NoText, Amount as Much, Short as NoRoom}
+use Rattle.report_text.specs.declared.Forwarded.the-variants as forwarded
 use Rattle.report_text.specs.Forwarded.{CutsText, Forwards, pileOf, forwardedNumber, forwardedBytes}
 
 -- as many entries as elements
@@ -31,7 +34,9 @@ entries-length s first [] = refl
 entries-length s first (k ∷ ks) = ap suc (entries-length s false ks)
 
 inverted : (b₁ b₂ b₃ b₄ : Bool) (m n : ℕ)
-    → pick b₁ Amount (pick b₂ Amount (pick b₃ Amount (pick b₄ Short (Records m)))) ≡ Records n
+    → pick b₁ (Refused (refusal 25))
+    (pick b₂ (Refused (refusal 25)) (pick b₃ (Refused (refusal 25)) (pick b₄ (Refused (refusal 19)) (Records m))))
+    ≡ Records n
     → (b₂ ≡ false) × ((b₃ ≡ false) × (m ≡ n))
 unfolding pick
 inverted true b₂ b₃ b₄ m n e = let z : _≡_ {A = ℕ} 0 1 = cc in absurd (omega arith)
@@ -95,12 +100,7 @@ module _ {x : Read} {n : ℕ} (text : List ℕ) (e : x ≡ readOf (entriesOf tex
   text-cut-own out k p = (rw (sym e ∙ h) (rw k at (p .0)), rw k at (p .1))
 
 -- a text that is refused
-module _ {x : Read} (text answers out : List ℕ) (e : x ≡ readOf (entriesOf text) 65536) where
-  pub text-none : x ≡ NoReport → Forwards text answers (length out) NoText × (out ≡ written 24 [] out)
-  text-none h = (rw (sym e ∙ h) refl, refl)
-
-  pub text-much : x ≡ Amount → Forwards text answers (length out) Much × (out ≡ written 25 [] out)
-  text-much h = (rw (sym e ∙ h) refl, refl)
-
-  pub text-short : x ≡ Short → Forwards text answers (length out) NoRoom × (out ≡ written 19 [] out)
-  text-short h = (rw (sym e ∙ h) refl, refl)
+pub text-refused : {x : Read} {why : Refusal} (text answers out : List ℕ) → x ≡ readOf (entriesOf text) 65536
+    → x ≡ Refused why
+    → Forwards text answers (length out) (forwarded.Refused why) × (out ≡ written (why .code) [] out)
+text-refused {why = why} text answers out e h = (rw (sym e ∙ h) refl, refused-left why out)

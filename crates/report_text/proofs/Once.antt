@@ -6,7 +6,7 @@ use Rattle.laws.proofs.Once.{Settles}
 use Rattle.report_read.specs.Entry.{entriesOf}
 use Rattle.report_read.specs.Read.{readOf}
 use Rattle.report_read.specs.declared.Read.{Read}
-use Rattle.report_read.specs.declared.Read.the-variants.{Records, NoReport, Amount, Short}
+use Rattle.report_read.specs.declared.Read.the-variants.{Records, Refused}
 use Rattle.report_write.proofs.Piles.{publishes-once}
 use Rattle.report_text.specs.declared.Forwarded.{Forwarded}
 use Rattle.report_text.specs.Forwarded.{ForwardsBy, pileOf}
@@ -27,9 +27,7 @@ write-signed-report-once κs a x u y v p q =
 pub forwards-once : (x : Read) (pile answers : List ℕ) (room : ℕ) (r s : Forwarded)
     → ForwardsBy x pile answers room r → ForwardsBy x pile answers room s → r ≡ s
 forwards-once (Records n) pile answers room r s p q = cuts-once pile answers room r s p q
-forwards-once NoReport pile answers room r s p q = p ∙ sym q
-forwards-once Amount pile answers room r s p q = p ∙ sym q
-forwards-once Short pile answers room r s p q = p ∙ sym q
+forwards-once (Refused why) pile answers room r s p q = p ∙ sym q
 
 pub cut-text-once : Settles cut-text-kinds.ps cut-text-kinds.r cut-text-reads.Learnt
 cut-text-once κs a x u y v p q =

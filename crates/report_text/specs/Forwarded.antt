@@ -6,6 +6,7 @@ use mathlib.Core.List.{List, []}
 use mathlib.Core.Path.{_≡_}
 use lib.Dec.{ltb}
 use lib.ListN.{length}
+use Rattle.refusal.specs.Refusal.{refusal}
 use Rattle.report_read.specs.Entry.{entriesOf}
 use Rattle.report_read.specs.Read.{readOf, pileBytes}
 use Rattle.report_read.specs.declared.Read.{Read}
@@ -17,20 +18,18 @@ use Rattle.pile_report.specs.Taking.{Takes}
 use Rattle.pile_report.specs.declared.Taken.{Taken}
 use Rattle.pile_report.specs.declared.Taken.the-variants as taken
 use Rattle.report_text.specs.declared.Forwarded.{Forwarded}
-use Rattle.report_text.specs.declared.Forwarded.the-variants.{Text, NoReport, Amount, Bad, NoRun, Short}
+use Rattle.report_text.specs.declared.Forwarded.the-variants.{Text, Refused}
 
--- the text of the run from record i to record j, for a buffer of room bytes: its length, or that the buffer is too
+-- the text of the run from record i to record j, for a buffer of room bytes: its length, or 19 where the buffer is too
 -- short
 abbrev pub roomed : ℕ → ℕ → List ℕ → ℕ → Forwarded
-roomed i j text room = cond (ltb room (length text)) Short (Text i j (length text))
+roomed i j text room = cond (ltb room (length text)) (Refused (refusal 19)) (Text i j (length text))
 
 -- the answer, from what the cutter says of a pile where it has room enough: the text of the run is that of its records
 -- as they stand, since the rand of the first is not written
 abbrev pub cutOf : List ℕ → ℕ → Taken → Forwarded
 cutOf pile room (taken.Run i j) = roomed i j (textOf (part (RECORD * i) (RECORD * j + RECORD) pile)) room
-cutOf pile room taken.Bad = Bad
-cutOf pile room taken.Short = Short
-cutOf pile room taken.NoRun = NoRun
+cutOf pile room (taken.Refused why) = Refused why
 
 pub record CutsText (pile answers : List ℕ) (room : ℕ) (r : Forwarded) : Type 0 where
   pub cut : Taken
@@ -44,27 +43,17 @@ pileOf text = pileBytes (entriesOf text)
 -- the answer, from what the reader says of the text where it has room for 16 records
 abbrev pub ForwardsBy : Read → List ℕ → List ℕ → ℕ → Forwarded → Type 0
 ForwardsBy (read.Records n) pile answers room r = CutsText pile answers room r
-ForwardsBy read.NoReport pile answers room r = r ≡ NoReport
-ForwardsBy read.Amount pile answers room r = r ≡ Amount
-ForwardsBy read.Short pile answers room r = r ≡ Short
+ForwardsBy (read.Refused why) pile answers room r = r ≡ Refused why
 
 abbrev pub Forwards : List ℕ → List ℕ → ℕ → Forwarded → Type 0
 Forwards text answers room r = ForwardsBy (readOf (entriesOf text) 65536) (pileOf text) answers room r
 
--- the number of each answer, 0 where a text is written
+-- the number of an answer, 0 where a text is written
 abbrev pub forwardedNumber : Forwarded → ℕ
 forwardedNumber (Text i j n) = 0
-forwardedNumber NoReport = 24
-forwardedNumber Amount = 25
-forwardedNumber Bad = 15
-forwardedNumber NoRun = 18
-forwardedNumber Short = 19
+forwardedNumber (Refused why) = why .code
 
 -- what is written, by the answer
 abbrev pub forwardedBytes : Forwarded → List ℕ → List ℕ
 forwardedBytes (Text i j n) pile = textOf (part (RECORD * i) (RECORD * j + RECORD) pile)
-forwardedBytes NoReport pile = []
-forwardedBytes Amount pile = []
-forwardedBytes Bad pile = []
-forwardedBytes NoRun pile = []
-forwardedBytes Short pile = []
+forwardedBytes (Refused why) pile = []

@@ -16,6 +16,8 @@ use pile::pile_code;
 use pile_report::run_in;
 use pile_runs::Span;
 use pile_signed::signed_run;
+use refusal::codes;
+use refusal::refuse;
 use report_read::Read;
 use report_read::read_report;
 use report_write::Published;
@@ -39,11 +41,7 @@ fn put_cut(pile: &[u8], i: usize, j: usize, out: &mut [u8]) -> Forwarded
     let e = RECORD * j + RECORD;
     match put_report(&pile[a..e], out) {
         Published::Text(n) => Forwarded::Text(i, j, n),
-        Published::Bad => Forwarded::Short,
-        Published::Record(_, _) => Forwarded::Short,
-        Published::Unlinked(_) => Forwarded::Short,
-        Published::Clear => Forwarded::Short,
-        Published::Short => Forwarded::Short,
+        Published::Refused(why, _) => Forwarded::Refused(why),
     }
 }
 
@@ -54,11 +52,12 @@ fn cut_pile<'a>(pile: &'a [u8], answers: &'a [u8], out: &mut [u8]) -> Forwarded
         now (out .exit) ≡ written (forwardedNumber r) (forwardedBytes r (now (pile .entry))) (now (out .entry))
         ⌝ }
 {
-    if pile_code(pile, answers).code != 0 {
-        return Forwarded::Bad;
+    let bad = pile_code(pile, answers);
+    if bad.code != 0 {
+        return Forwarded::Refused(bad);
     }
     match run_in(pile, answers) {
-        Span::Nothing => Forwarded::NoRun,
+        Span::Nothing => Forwarded::Refused(refuse(codes::NO_CONTRADICTION)),
         Span::Places(i, j) => put_cut(pile, i, j, out),
     }
 }
@@ -75,9 +74,7 @@ pub fn cut_text<'a>(text: &'a [u8], answers: &'a [u8], out: &mut [u8]) -> Forwar
     let mut pile = [0u8; 65536];
     match read_report(text, &mut pile) {
         Read::Records(n) => cut_pile(&pile[..n * RECORD], answers, out),
-        Read::NoReport => Forwarded::NoReport,
-        Read::Amount => Forwarded::Amount,
-        Read::Short => Forwarded::Short,
+        Read::Refused(why) => Forwarded::Refused(why),
     }
 }
 
@@ -91,10 +88,10 @@ fn cut_signed_pile(pile: &[u8], out: &mut [u8]) -> Forwarded
         ⌝ }
 {
     if length_bad(pile) {
-        return Forwarded::Bad;
+        return Forwarded::Refused(refuse(codes::PILE));
     }
     match signed_run(pile) {
-        Span::Nothing => Forwarded::NoRun,
+        Span::Nothing => Forwarded::Refused(refuse(codes::NO_CONTRADICTION)),
         Span::Places(i, j) => put_cut(pile, i, j, out),
     }
 }
@@ -112,8 +109,6 @@ pub fn cut_signed_text(text: &[u8], out: &mut [u8]) -> Forwarded
     let mut pile = [0u8; 65536];
     match read_report(text, &mut pile) {
         Read::Records(n) => cut_signed_pile(&pile[..n * RECORD], out),
-        Read::NoReport => Forwarded::NoReport,
-        Read::Amount => Forwarded::Amount,
-        Read::Short => Forwarded::Short,
+        Read::Refused(why) => Forwarded::Refused(why),
     }
 }

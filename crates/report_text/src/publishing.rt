@@ -18,9 +18,6 @@ pub fn write_signed_report(pile: &[u8], out: &mut [u8]) -> Published
 {
     match check_signed_report(pile) {
         Report::Pair(_, _) => put_report(pile, out),
-        Report::Bad => Published::Bad,
-        Report::Record(why, k) => Published::Record(why, k),
-        Report::Unlinked(k) => Published::Unlinked(k),
-        Report::Clear => Published::Clear,
+        Report::Refused(why, k) => Published::Refused(why, k),
     }
 }

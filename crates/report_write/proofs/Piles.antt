@@ -10,7 +10,7 @@ use lib.ListN.{length, take, drop, length-take, length-drop}
 use Rattle.laws.specs.Pasted.{fronted}
 use Rattle.laws.specs.Written.{written}
 use Rattle.laws.proofs.First.{row-quiet, test-quiet}
-use Rattle.refusal.specs.Refusal.{refusals}
+use Rattle.refusal.specs.Refusal.{refusal, refusals}
 use Rattle.refusal.specs.declared.Refusal.{Refusal}
 use Rattle.check_response.specs.declared.Verdict.{Verdict}
 use Rattle.check_response.specs.declared.Verdict.the-variants.{Valid, Refused}
@@ -23,10 +23,9 @@ use Rattle.pile_runs.specs.Clash.{valid}
 use Rattle.pile_report.specs.Report.{judged, Reports}
 use Rattle.pile_report.specs.declared.Report.{Report}
 use Rattle.pile_report.specs.declared.Report.the-variants.{Pair}
-use Rattle.pile_report.specs.declared.Report.the-variants.{Record as BadRecord}
 use Rattle.pile_report.proofs.Says.{not-not, report-once}
 use Rattle.report_write.specs.declared.Published.{Published}
-use Rattle.report_write.specs.declared.Published.the-variants.{Text, Short}
+use Rattle.report_write.specs.declared.Published.the-variants.{Text, Refused}
 use Rattle.report_write.specs.Entries.{textOf}
 use Rattle.report_write.specs.Published.{roomed, publishedOf, Publishes, publishedNumber, publishedBytes}
 use Rattle.report_write.specs.Pieces.{Fits, Recorded, Piled, Writable}
@@ -79,7 +78,7 @@ writable pile answers i j r =
 
 -- ---- the returns of the writers
 pub report-short : (pile out : List ℕ) {n : ℕ} → n ≡ length (textOf pile) → length out < n
-    → (Short ≡ roomed (textOf pile) (length out)) × (out ≡ written 19 (textOf pile) out)
+    → (Refused (refusal 19) 0 ≡ roomed (textOf pile) (length out)) × (out ≡ written 19 (textOf pile) out)
 report-short pile out e h = (rw (lt-ltb (length out) (length (textOf pile)) (omega arith)) refl, refl)
 
 pub report-done : {to : List ℕ} (pile out : List ℕ) {n : ℕ} → n ≡ length (textOf pile) → n ≤ length out
@@ -88,9 +87,9 @@ pub report-done : {to : List ℕ} (pile out : List ℕ) {n : ℕ} → n ≡ leng
 report-done pile out e h f = (rw (le-ltb (length out) (length (textOf pile)) (omega arith)) (ap Text e), f)
 
 room-bytes : (pile out : List ℕ) (room : ℕ) → (b : Bool)
-    → written (publishedNumber (cond b Short (Text (length (textOf pile))))) (textOf pile) out
-    ≡ written (publishedNumber (cond b Short (Text (length (textOf pile)))))
-    (publishedBytes (cond b Short (Text (length (textOf pile)))) pile) out
+    → written (publishedNumber (cond b (Refused (refusal 19) 0) (Text (length (textOf pile))))) (textOf pile) out
+    ≡ written (publishedNumber (cond b (Refused (refusal 19) 0) (Text (length (textOf pile)))))
+    (publishedBytes (cond b (Refused (refusal 19) 0) (Text (length (textOf pile)))) pile) out
 room-bytes pile out room true = refl
 room-bytes pile out room false = refl
 
@@ -103,9 +102,8 @@ pair-left {r} {to} pile out e h =
     rw e (k ∙ room-bytes pile out (length out) (ltb (length out) (length (textOf pile))))
 
 -- a refusal with any number leaves the buffer
-pub refused-left : {x : Report} {why : Refusal} {k : ℕ} (out : List ℕ) → x ≡ BadRecord why k
-    → out ≡ written (why .code) [] out
-refused-left {why = why} out e = by (eqb (why .code) 0)
+pub refused-left : (why : Refusal) (out : List ℕ) → out ≡ written (why .code) [] out
+refused-left why out = by (eqb (why .code) 0)
   where
     by : (b : Bool) → out ≡ cond b (fronted [] out) out
     by true = refl

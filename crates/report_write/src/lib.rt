@@ -17,13 +17,9 @@ const CLOSING: usize = 2;
 // The length of the longest text there can be: of 16 records whose packets have 2,000 bytes each.
 pub const LONGEST: usize = 87_609;
 
-// How long the text is that stands at the front of the buffer; or why the pile is no report, as the check of a report
-// says it; or that the buffer is too short.
+// How long the text is that stands at the front of the buffer; or why there is none, and the place of the record that is
+// to blame, as the check of a report says it, 0 where none is.
 pub enum Published {
     Text(usize),
-    Bad,
-    Record(Refusal, usize),
-    Unlinked(usize),
-    Clear,
-    Short,
+    Refused(Refusal, usize),
 }

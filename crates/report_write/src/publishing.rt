@@ -11,6 +11,8 @@ use super::sizing::text_size;
 use pile::RECORD;
 use pile_report::Report;
 use pile_report::check_report;
+use refusal::codes;
+use refusal::refuse;
 
 // The text of a pile, at the front of out, where its records can be written at all: what is done once a check has
 // accepted it, whoever said whether its signatures verify.
@@ -22,7 +24,7 @@ pub fn put_report(pile: &[u8], out: &mut [u8]) -> Published
     let n = pile.len() / RECORD;
     let size = text_size(pile, n);
     if out.len() < size {
-        return Published::Short;
+        return Published::Refused(refuse(codes::ROOM), 0);
     }
     put_text(out, pile, n);
     Published::Text(size)
@@ -37,9 +39,6 @@ pub fn write_report<'a>(pile: &'a [u8], answers: &'a [u8], out: &mut [u8]) -> Pu
 {
     match check_report(pile, answers) {
         Report::Pair(_, _) => put_report(pile, out),
-        Report::Bad => Published::Bad,
-        Report::Record(why, k) => Published::Record(why, k),
-        Report::Unlinked(k) => Published::Unlinked(k),
-        Report::Clear => Published::Clear,
+        Report::Refused(why, k) => Published::Refused(why, k),
     }
 }

@@ -3,15 +3,15 @@
 -- SREP.
 use mathlib.Core.Bool.{true, false, not}
 use mathlib.Core.List.{List, [], _∷_}
-use mathlib.Core.Path.{_≡_, refl, sym, ap, subst, _∙_}
+use mathlib.Core.Path.{_≡_, refl, sym, ap, _∙_}
 use Prim.Native.Nat.{ℕ, _*_, _/_, _%_, _<_}
 use native.Mathlib.Omega.{arith}
 use borrow.Author.Tests.{eq-eqb, le-leb}
 use lib.ListN.{length, take}
 use mathlib.Core.List.{append-nil}
 use Rattle.tree_build.specs.Leaves.{most, countOf, heldOf}
-use Rattle.tree_build.specs.Building.{PlacesLeaf, fromBytes}
-use Rattle.tree_build.specs.declared.Placed.the-variants as placed
+use Rattle.tree_build.specs.Building.{pathAnswer, fromBytes}
+use Rattle.tree_build.proofs.BuildingLaws.{PathThere, path-there}
 use Rattle.tree_build.proofs.Leaves.{held-is}
 use Rattle.tree_build.proofs.Served.{last-long, served-leads}
 use Rattle.hash.specs.Hashes.{leafOf}
@@ -64,8 +64,11 @@ module _ (r : Round) (ok : Laid r) where
     abbrev a : Reply
     a = turnReply r t
 
+    laid-there : PathThere (heldOf (length (r .rows)) (r .count)) (t .place) (length (t .buffer)) (t .indx) (t .siblings)
+    laid-there = path-there _ (t .place) (length (t .buffer)) (t .indx) (t .siblings) (given .answered)
+
     there : t .place < r .count
-    there = rw (held-is (length (r .rows)) (r .count) refl (given .answered .0)) at (given .answered .0)
+    there = rw (held-is (length (r .rows)) (r .count) refl (laid-there .there)) at (laid-there .there)
 
     request-good : requestBad (a .request) ≡ false
     unfolding requestBad
@@ -75,8 +78,8 @@ module _ (r : Round) (ok : Laid r) where
     path-leads : leadsOf (leafOf (a .request)) (a .indx) (a .path) (a .root) ≡ true
     path-leads =
         let right =
-        subst (λ (n : ℕ). PlacesLeaf (heldOf (length (r .rows)) n) (t .place) (length (t .buffer))
-        (placed.Written (t .indx) (t .siblings))) (sym count-is) (given .answered) in
+        given .answered
+        ∙ ap (λ (n : ℕ). pathAnswer (heldOf (length (r .rows)) n) (t .place) (length (t .buffer))) (sym count-is) in
         let left =
         given .left
         ∙ ap (λ (n : ℕ). written 0 (fromBytes (r .rows) n (t .place)) (t .buffer)) (sym count-is) in
@@ -87,7 +90,7 @@ module _ (r : Round) (ok : Laid r) where
     typed : Typed a
     typed =
         record {
-          indx = omega (arith, given .answered .2, there, ok .few);
+          indx = omega (arith, laid-there .indx-is, there, ok .few);
           root = last-long (leavesOf r) (r .buffer) (r .rows) (r .depth) (ok .answered) (ok .left);
           midp = ok .midp;
           radi = ok .radi;

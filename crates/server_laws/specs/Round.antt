@@ -6,10 +6,10 @@ use mathlib.Core.Path.{_≡_}
 use Prim.Native.Nat.{ℕ, _*_, _-_, _^_, _≤_, _<_}
 use lib.ListN.{length, take}
 use Rattle.tree_build.specs.AllRows.{nodesOf}
-use Rattle.tree_build.specs.Building.{PlacesLeaf, fromBytes, LaysRows, rowsBytes}
+use Rattle.tree_build.specs.Building.{pathAnswer, fromBytes, rowsAnswer, rowsBytes}
 use Rattle.tree_build.specs.Leaves.{most, countOf, heldOf}
-use Rattle.tree_build.specs.declared.Laid.the-variants as laid
-use Rattle.tree_build.specs.declared.Placed.the-variants as placed
+use Rattle.tree_build.specs.declared.PathAnswer.the-variants as path-answer
+use Rattle.tree_build.specs.declared.RowsAnswer.the-variants as rows-answer
 use Rattle.hash.specs.Hashes.{leafOf}
 use Rattle.laws.specs.Flat.{flat}
 use Rattle.laws.specs.Upto.{upto}
@@ -52,7 +52,7 @@ pub record Laid (r : Round) : Type 0 where
   pub one : 1 ≤ r .count
   pub few : r .count ≤ most
   pub good : (k : ℕ) → k < r .count → requestCode (r .requests k) .code ≡ 0
-  pub answered : LaysRows (countOf (length (leavesOf r))) (length (r .buffer)) (laid.Written (r .depth))
+  pub answered : rows-answer.Written (r .depth) ≡ rowsAnswer (countOf (length (leavesOf r))) (length (r .buffer))
   pub left : r .rows ≡ written 0 (rowsBytes (leavesOf r)) (r .buffer)
   pub midp : r .midp < 2 ^ 64
   pub radi : r .radi < 2 ^ 32
@@ -68,8 +68,8 @@ pub record Turn : Type 0 where
 
 -- it was lent the rows, and wrote
 pub record Placed (r : Round) (t : Turn) : Type 0 where
-  pub answered : PlacesLeaf (heldOf (length (r .rows)) (r .count)) (t .place) (length (t .buffer))
-      (placed.Written (t .indx) (t .siblings))
+  pub answered : path-answer.Written (t .indx) (t .siblings)
+      ≡ pathAnswer (heldOf (length (r .rows)) (r .count)) (t .place) (length (t .buffer))
   pub left : t .path ≡ written 0 (fromBytes (r .rows) (r .count) (t .place)) (t .buffer)
 
 -- the call of `write_response` for that place: its own request, the INDX and the siblings that `path_from` answered, and

@@ -17,9 +17,9 @@ use Rattle.laws.proofs.Same.{same-refl, same-true}
 use Rattle.laws.proofs.Upto.{upto-length, upto-at}
 use Rattle.server_list.specs.Lists.{serverCount, serverAt, serversIn, srvIn, serves, servesAt}
 use Rattle.server_list.specs.Lookup.{searched, handed, whereNumber, sought}
-use Rattle.server_list.specs.Meaning.{WholeLists, IsFirstIn, NotIn, FindsServer, HasSrv, FirstWithSrv}
+use Rattle.server_list.specs.Meaning.{WholeLists, IsFirstIn, NotIn, code-21, code-22, FindsServer, HasSrv, FirstWithSrv}
 use Rattle.server_list.specs.declared.Where.{Where}
-use Rattle.server_list.specs.declared.Where.the-variants.{Owner, Shipped, Ragged, Unknown}
+use Rattle.server_list.specs.declared.Where.the-variants.{Owner, Shipped, Refused}
 use Rattle.server_list.proofs.Matching.{server-long, partOf, part-sought}
 use Rattle.server_list.proofs.Seeking.{sought-finds}
 
@@ -116,8 +116,8 @@ module _ (owner shipped srv : List ℕ) where
       by : (w : Where) → FindsServer owner shipped srv w → whereNumber w ≡ 21 ↔ (WholeLists owner shipped → ⊥)
       by (Owner k) f = (λ e. absurd (omega (arith, e)), λ r. absurd (r (f .0)))
       by (Shipped k) f = (λ e. absurd (omega (arith, e)), λ r. absurd (r (f .0)))
-      by Ragged f = (λ e. f, λ r. refl)
-      by Unknown f = (λ e. absurd (omega (arith, e)), λ r. absurd (r (f .0)))
+      by (Refused why) (code-21 f) = (λ e. f, λ r. refl)
+      by (Refused why) (code-22 w n m) = (λ e. absurd (omega (arith, e)), λ r. absurd (r w))
 
   -- 22 exactly where both are, and no record of either has the SRV value,
   pub unknown-exactly : whereNumber (sought owner shipped srv) ≡ 22
@@ -129,8 +129,8 @@ module _ (owner shipped srv : List ℕ) where
       by (Owner k) f = (λ e. absurd (omega (arith, e)), λ r. absurd (r .1 _ (first-owner k (f .1) .here)))
       by (Shipped k) f =
           (λ e. absurd (omega (arith, e)), λ r. absurd (r .1 _ (first-shipped k (f .1) (f .2) .here)))
-      by Ragged f = (λ e. absurd (omega (arith, e)), λ r. absurd (f (r .0)))
-      by Unknown f = (λ e. (f .0, none-at-all (f .1) (f .2)), λ r. refl)
+      by (Refused why) (code-21 f) = (λ e. absurd (omega (arith, e)), λ r. absurd (f (r .0)))
+      by (Refused why) (code-22 w n m) = (λ e. (w, none-at-all n m), λ r. refl)
 
   -- and 0 exactly where both are, and some record has it.
   pub found-exactly : whereNumber (sought owner shipped srv) ≡ 0
@@ -141,8 +141,8 @@ module _ (owner shipped srv : List ℕ) where
           → whereNumber w ≡ 0 ↔ WholeLists owner shipped × ((i : ℕ) × HasSrv srv (searched owner shipped) i)
       by (Owner k) f = (λ e. (f .0, (_, first-owner k (f .1) .here)), λ r. refl)
       by (Shipped k) f = (λ e. (f .0, (_, first-shipped k (f .1) (f .2) .here)), λ r. refl)
-      by Ragged f = (λ e. absurd (omega (arith, e)), λ r. absurd (f (r .0)))
-      by Unknown f = (λ e. absurd (omega (arith, e)), λ r. absurd (none-at-all (f .1) (f .2) (r .1 .0) (r .1 .1)))
+      by (Refused why) (code-21 f) = (λ e. absurd (omega (arith, e)), λ r. absurd (f (r .0)))
+      by (Refused why) (code-22 w n m) = (λ e. absurd (omega (arith, e)), λ r. absurd (none-at-all n m (r .1 .0) (r .1 .1)))
 
   -- Then the part is the first record that has it, the owner's list before the shipped one,
   pub found-first : whereNumber (sought owner shipped srv) ≡ 0
@@ -154,8 +154,8 @@ module _ (owner shipped srv : List ℕ) where
           → FirstWithSrv srv (searched owner shipped) (partOf owner shipped w)
       by (Owner k) f e = first-owner k (f .1)
       by (Shipped k) f e = first-shipped k (f .1) (f .2)
-      by Ragged f e = absurd (omega (arith, e))
-      by Unknown f e = absurd (omega (arith, e))
+      by (Refused why) (code-21 f) e = absurd (omega (arith, e))
+      by (Refused why) (code-22 w n m) e = absurd (omega (arith, e))
 
   -- and has 64 bytes;
   pub found-long : whereNumber (sought owner shipped srv) ≡ 0 → length (handed owner shipped srv) ≡ 64
@@ -165,8 +165,8 @@ module _ (owner shipped srv : List ℕ) where
       by : (w : Where) → FindsServer owner shipped srv w → whereNumber w ≡ 0 → length (partOf owner shipped w) ≡ 64
       by (Owner k) f e = server-long owner k (f .1 .inside)
       by (Shipped k) f e = server-long shipped k (f .2 .inside)
-      by Ragged f e = absurd (omega (arith, e))
-      by Unknown f e = absurd (omega (arith, e))
+      by (Refused why) (code-21 f) e = absurd (omega (arith, e))
+      by (Refused why) (code-22 w n m) e = absurd (omega (arith, e))
 
   -- on a refusal it is empty.
   pub refused-empty : (whereNumber (sought owner shipped srv) ≡ 0 → ⊥) → handed owner shipped srv ≡ []
@@ -175,5 +175,4 @@ module _ (owner shipped srv : List ℕ) where
       by : (w : Where) → (whereNumber w ≡ 0 → ⊥) → partOf owner shipped w ≡ []
       by (Owner k) r = absurd (r refl)
       by (Shipped k) r = absurd (r refl)
-      by Ragged r = refl
-      by Unknown r = refl
+      by (Refused why) r = refl

@@ -10,11 +10,11 @@ use lib.Dec.{ltb}
 use lib.ListN.{length, length-take, length-drop}
 use Rattle.laws.specs.Least.{least}
 use Rattle.laws.specs.Upto.{upto}
+use Rattle.refusal.specs.Refusal.{refusal}
 use Rattle.server_list.specs.Lists.{whole, serverCount, serverAt, serversIn, serves}
 use Rattle.server_list.specs.Lookup.{searched, firstMatch, handed, firstIn, known, sought, placeOf}
-use Rattle.server_list.specs.Meaning.{FindsServer}
 use Rattle.server_list.specs.declared.Where.{Where}
-use Rattle.server_list.specs.declared.Where.the-variants.{Owner, Shipped, Ragged, Unknown}
+use Rattle.server_list.specs.declared.Where.the-variants.{Owner, Shipped, Refused}
 use Rattle.server_list.proofs.Seeking.{finds-at, sought-at}
 
 -- the first match among n records by their rule, and then others: the least number tells it
@@ -52,8 +52,7 @@ server-long list k h = simp (length-take, length-drop) (omega arith)
 abbrev pub partOf : List ℕ → List ℕ → Where → List ℕ
 partOf owner shipped (Owner k) = serverAt owner k
 partOf owner shipped (Shipped k) = serverAt shipped k
-partOf owner shipped Ragged = []
-partOf owner shipped Unknown = []
+partOf owner shipped (Refused why) = []
 
 module _ (owner shipped srv : List ℕ) where
   -- of the answer that is right, they are the first match
@@ -76,7 +75,7 @@ module _ (owner shipped srv : List ℕ) where
           ∙ ap (cond (known owner srv) (serverAt owner i)) (rw append-nil at (first-of srv shipped []))
 
       by : (t u v : Bool)
-          → partOf owner shipped (cond t (cond u (Owner i) (cond v (Shipped j) Unknown)) Ragged)
+          → partOf owner shipped (cond t (cond u (Owner i) (cond v (Shipped j) (Refused (refusal 22)))) (Refused (refusal 21)))
           ≡ cond t (cond u (serverAt owner i) (cond v (serverAt shipped j) [])) []
       by true true v = refl
       by true false true = refl
@@ -86,18 +85,18 @@ module _ (owner shipped srv : List ℕ) where
   -- ---- the answer as code has it, x, which is w
 
   -- a record that is found lies within its list
-  pub within-owner : {x : Where} {k : ℕ} → x ≡ Owner k → FindsServer owner shipped srv x → k * 64 + 64 ≤ length owner
+  pub within-owner : {x : Where} {k : ℕ} → x ≡ Owner k → x ≡ sought owner shipped srv → k * 64 + 64 ≤ length owner
   within-owner e f = omega (arith, finds-at owner shipped srv e f .1 .inside)
 
-  pub within-shipped : {x : Where} {k : ℕ} → x ≡ Shipped k → FindsServer owner shipped srv x
+  pub within-shipped : {x : Where} {k : ℕ} → x ≡ Shipped k → x ≡ sought owner shipped srv
       → k * 64 + 64 ≤ length shipped
   within-shipped e f = omega (arith, finds-at owner shipped srv e f .2 .inside)
 
   -- its part is what is handed back, at its place
-  pub part-at : {x : Where} (w : Where) {b : List ℕ} → x ≡ w → FindsServer owner shipped srv x
+  pub part-at : {x : Where} (w : Where) {b : List ℕ} → x ≡ w → x ≡ sought owner shipped srv
       → b ≡ partOf owner shipped w → b ≡ handed owner shipped srv
   part-at w e f g = sought-at owner shipped srv (partOf owner shipped) w e f g ∙ part-sought
 
-  pub place-at : {x : Where} (w : Where) {a : ℕ × ℕ} (p q : ℕ × ℕ) → x ≡ w → FindsServer owner shipped srv x
+  pub place-at : {x : Where} (w : Where) {a : ℕ × ℕ} (p q : ℕ × ℕ) → x ≡ w → x ≡ sought owner shipped srv
       → a ≡ placeOf p q w → a ≡ placeOf p q (sought owner shipped srv)
   place-at w p q e f g = sought-at owner shipped srv (placeOf p q) w e f g

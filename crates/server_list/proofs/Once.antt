@@ -1,7 +1,6 @@
 -- Each operation's contract settles its result: of the part that is handed back, the bytes and the place in memory.
 use mathlib.Core.Path.{refl, sym, _∙_}
 use Rattle.laws.proofs.Once.{SettlesBy, Settles, SamePart}
-use Rattle.server_list.proofs.Seeking.{finds-once}
 use Rattle.server_list.proofs.lookup.find_server.Kinds as find-server-kinds
 use Rattle.server_list.proofs.lookup.find_server.Reads as find-server-reads
 use Rattle.server_list.proofs.lookup.find_code.Kinds as find-code-kinds
@@ -17,4 +16,4 @@ pub find-code-once : Settles find-code-kinds.ps find-code-kinds.r find-code-read
 find-code-once κs a x u y v p q = (p ∙ sym q, refl)
 
 pub search-once : Settles search-kinds.ps search-kinds.r search-reads.Learnt
-search-once κs a x u y v p q = (finds-once (a .0 .now) (a .1 .0 .now) (a .1 .1 .0) x y (p .1) (q .1), refl)
+search-once κs a x u y v p q = (p ∙ sym q, refl)

@@ -11,10 +11,10 @@ use Rattle.laws.proofs.Least.{least-first, least-never, first-least, never-leas
 use Rattle.refusal.specs.Refusal.{refusal}
 use Rattle.refusal.specs.declared.Refusal.{Refusal}
 use Rattle.server_list.specs.Lists.{whole, serverCount, servesAt}
-use Rattle.server_list.specs.Lookup.{whereNumber, firstIn, known, sought}
-use Rattle.server_list.specs.Meaning.{WholeLists, IsFirstIn, NotIn, FindsServer}
+use Rattle.server_list.specs.Lookup.{whereRefusal, firstIn, known, sought}
+use Rattle.server_list.specs.Meaning.{WholeLists, IsFirstIn, NotIn, NotFound, code-21, code-22, FindsServer}
 use Rattle.server_list.specs.declared.Where.{Where}
-use Rattle.server_list.specs.declared.Where.the-variants.{Owner, Shipped, Ragged, Unknown}
+use Rattle.server_list.specs.declared.Where.the-variants.{Owner, Shipped, Refused}
 
 -- one list: the number that the definition computes, as a sentence, and the other way
 module _ (list srv : List ℕ) where
@@ -42,11 +42,13 @@ module _ (list srv : List ℕ) where
 module _ (owner shipped srv : List ℕ) where
   -- ---- the ways out of the search
 
-  pub owner-ragged : (length owner % 64 ≡ 0 → ⊥) → FindsServer owner shipped srv Ragged
-  owner-ragged p w = p (w .owner-whole)
+  pub owner-ragged : {why : Refusal} → (length owner % 64 ≡ 0 → ⊥) → why ≡ refusal 21
+      → FindsServer owner shipped srv (Refused why)
+  owner-ragged p r = rw r (code-21 (λ w. p (w .owner-whole)))
 
-  pub shipped-ragged : (length shipped % 64 ≡ 0 → ⊥) → FindsServer owner shipped srv Ragged
-  shipped-ragged p w = p (w .shipped-whole)
+  pub shipped-ragged : {why : Refusal} → (length shipped % 64 ≡ 0 → ⊥) → why ≡ refusal 21
+      → FindsServer owner shipped srv (Refused why)
+  shipped-ragged p r = rw r (code-21 (λ w. p (w .shipped-whole)))
 
   module _ (p : length owner % 64 ≡ 0) (q : length shipped % 64 ≡ 0) where
     both : WholeLists owner shipped
@@ -59,9 +61,10 @@ module _ (owner shipped srv : List ℕ) where
         → j < serverCount shipped → FindsServer owner shipped srv (Shipped j)
     in-shipped e g f k = (both, not-in owner srv e g, first-in shipped srv f k)
 
-    pub in-neither : {i j : ℕ} → i ≡ firstIn owner srv → serverCount owner ≤ i → j ≡ firstIn shipped srv
-        → serverCount shipped ≤ j → FindsServer owner shipped srv Unknown
-    in-neither e g f k = (both, not-in owner srv e g, not-in shipped srv f k)
+    pub in-neither : {i j : ℕ} {why : Refusal} → i ≡ firstIn owner srv → serverCount owner ≤ i
+        → j ≡ firstIn shipped srv → serverCount shipped ≤ j → why ≡ refusal 22
+        → FindsServer owner shipped srv (Refused why)
+    in-neither e g f k r = rw r (code-22 both (not-in owner srv e g) (not-in shipped srv f k))
 
   -- ---- the answer that is right: the one that the definition computes,
 
@@ -71,14 +74,16 @@ module _ (owner shipped srv : List ℕ) where
     where
       by : (a b c d : Bool) → whole owner ≡ a → whole shipped ≡ b → known owner srv ≡ c → known shipped srv ≡ d
           → FindsServer owner shipped srv
-          (cond (a && b) (cond c (Owner (firstIn owner srv)) (cond d (Shipped (firstIn shipped srv)) Unknown)) Ragged)
-      by false b c d e f g h = owner-ragged (eqb-false _ _ e)
-      by true false c d e f g h = shipped-ragged (eqb-false _ _ f)
+          (cond (a && b) (cond c (Owner (firstIn owner srv)) (cond d (Shipped (firstIn shipped srv)) (Refused (refusal 22))))
+          (Refused (refusal 21)))
+      by false b c d e f g h = owner-ragged (eqb-false _ _ e) refl
+      by true false c d e f g h = shipped-ragged (eqb-false _ _ f) refl
       by true true true d e f g h = in-owner (eqb-true _ _ e) (eqb-true _ _ f) refl (ltb-true _ _ g)
       by true true false true e f g h =
           in-shipped (eqb-true _ _ e) (eqb-true _ _ f) refl (ltb-false _ _ g) refl (ltb-true _ _ h)
       by true true false false e f g h =
           in-neither (eqb-true _ _ e) (eqb-true _ _ f) refl (ltb-false _ _ g) refl (ltb-false _ _ h)
+          refl
 
   tests : WholeLists owner shipped → (whole owner && whole shipped) ≡ true
   tests w = simp (eq-eqb _ _ (w .owner-whole), eq-eqb _ _ (w .shipped-whole))
@@ -97,27 +102,19 @@ module _ (owner shipped srv : List ℕ) where
   finds-sought (Owner k) (w, f) = simp (tests w, known-in owner srv f) (ap Owner (in-first owner srv f))
   finds-sought (Shipped k) (w, n, f) =
       simp (tests w, not-known owner srv n, known-in shipped srv f) (ap Shipped (in-first shipped srv f))
-  finds-sought Ragged f = simp (ragged f)
-  finds-sought Unknown (w, n, m) = simp (tests w, not-known owner srv n, not-known shipped srv m)
-
-  pub finds-once : (w v : Where) → FindsServer owner shipped srv w → FindsServer owner shipped srv v → w ≡ v
-  finds-once w v f g = finds-sought w f ∙ sym (finds-sought v g)
-
-  -- so what is found has document 01's number of that answer: both clauses of the search
-  pub with-number : (w : Where) → FindsServer owner shipped srv w
-      → (whereNumber w ≡ whereNumber (sought owner shipped srv)) × FindsServer owner shipped srv w
-  with-number w f = (ap whereNumber (finds-sought w f), f)
+  finds-sought (Refused why) (code-21 f) = simp (ragged f)
+  finds-sought (Refused why) (code-22 w n m) = simp (tests w, not-known owner srv n, not-known shipped srv m)
 
   -- ---- the answer as code has it, x, which is w
 
-  pub finds-at : {x w : Where} → x ≡ w → FindsServer owner shipped srv x → FindsServer owner shipped srv w
-  finds-at e f = subst (FindsServer owner shipped srv) e f
+  pub finds-at : {x w : Where} → x ≡ w → x ≡ sought owner shipped srv → FindsServer owner shipped srv w
+  finds-at e f = subst (FindsServer owner shipped srv) (sym f ∙ e) sought-finds
 
-  -- what is said of w is said of the answer that the definition computes: any value of it, and the code
+  -- what is said of w is said of the answer that the definition computes: any value of it, and the refusal
   pub sought-at : {A : Type 0} (of : Where → A) {x : Where} (w : Where) {r : A} → x ≡ w
-      → FindsServer owner shipped srv x → r ≡ of w → r ≡ of (sought owner shipped srv)
-  sought-at of w e f g = g ∙ ap of (finds-sought w (finds-at e f))
+      → x ≡ sought owner shipped srv → r ≡ of w → r ≡ of (sought owner shipped srv)
+  sought-at of w e f g = g ∙ ap of (sym e ∙ f)
 
-  pub code-at : {x : Where} (w : Where) {r : Refusal} → x ≡ w → FindsServer owner shipped srv x
-      → r ≡ refusal (whereNumber w) → r ≡ refusal (whereNumber (sought owner shipped srv))
-  code-at w e f g = sought-at (λ v. refusal (whereNumber v)) w e f g
+  pub refusal-at : {x : Where} (w : Where) {r : Refusal} → x ≡ w → x ≡ sought owner shipped srv
+      → r ≡ whereRefusal w → r ≡ whereRefusal (sought owner shipped srv)
+  refusal-at w e f g = sought-at whereRefusal w e f g

@@ -1,4 +1,4 @@
--- Server lists: what a reader must believe is Lists, Lookup, and of Meaning what the search promises.
+-- Server lists: what a reader must believe is Lists and Lookup. Meaning is document 01's sentences, proved of them.
 pub mod Lists
 pub mod Lookup
 pub mod Meaning

@@ -5,9 +5,11 @@ use mathlib.Core.List.{List, [], _∷_, _++_}
 use Prim.Native.Nat.{ℕ, _+_, _*_}
 use lib.Dec.{ltb}
 use Rattle.laws.specs.Least.{least}
+use Rattle.refusal.specs.Refusal.{refusal, passed}
+use Rattle.refusal.specs.declared.Refusal.{Refusal}
 use Rattle.server_list.specs.Lists.{whole, serverCount, serversIn, serves, servesAt}
 use Rattle.server_list.specs.declared.Where.{Where}
-use Rattle.server_list.specs.declared.Where.the-variants.{Owner, Shipped, Ragged, Unknown}
+use Rattle.server_list.specs.declared.Where.the-variants.{Owner, Shipped, Refused}
 
 -- ---- The bytes that are handed back
 
@@ -26,12 +28,14 @@ handed owner shipped srv = cond (whole owner && whole shipped) (firstMatch srv (
 
 -- ---- Where the server stands
 
--- document 01's number of each answer, 0 where nothing is refused
+-- the refusal of an answer, which is none where the server is found, and document 01's number of it
+abbrev pub whereRefusal : Where → Refusal
+whereRefusal (Owner k) = passed
+whereRefusal (Shipped k) = passed
+whereRefusal (Refused why) = why
+
 abbrev pub whereNumber : Where → ℕ
-whereNumber (Owner k) = 0
-whereNumber (Shipped k) = 0
-whereNumber Ragged = 21
-whereNumber Unknown = 22
+whereNumber w = whereRefusal w .code
 
 -- the number of the first record of a list that has this SRV value, and of all its records where none does
 unfoldable pub firstIn : List ℕ → List ℕ → ℕ
@@ -48,8 +52,8 @@ sought owner shipped srv =
     (cond
     (known owner srv)
     (Owner (firstIn owner srv))
-    (cond (known shipped srv) (Shipped (firstIn shipped srv)) Unknown))
-    Ragged
+    (cond (known shipped srv) (Shipped (firstIn shipped srv)) (Refused (refusal 22))))
+    (Refused (refusal 21))
 
 -- ---- The place in memory of what is handed back
 
@@ -62,5 +66,4 @@ offsetBy p n = (p .0, n + p .1)
 abbrev pub placeOf : ℕ × ℕ → ℕ × ℕ → Where → ℕ × ℕ
 placeOf owner shipped (Owner k) = offsetBy owner (k * 64)
 placeOf owner shipped (Shipped k) = offsetBy shipped (k * 64)
-placeOf owner shipped Ragged = offsetBy owner 0
-placeOf owner shipped Unknown = offsetBy owner 0
+placeOf owner shipped (Refused why) = offsetBy owner 0

@@ -8,12 +8,11 @@ mod records;
 pub use lookup::find_code;
 pub use lookup::find_server;
 pub use lookup::search;
+use refusal::Refusal;
 
-// Where a server stands: the number of its record, from 0, in the list that holds it.
-// Or why it was not found: a list is not whole records, or no record has this SRV value.
+// Where a server stands: the number of its record, from 0, in the list that holds it; or why it was not found.
 pub enum Where {
     Owner(usize),
     Shipped(usize),
-    Ragged,
-    Unknown,
+    Refused(Refusal),
 }

@@ -1,8 +1,6 @@
 // A server sought in both lists.
 ghost use mathlib.Core.Path.{_≡_};
-ghost use Rattle.refusal.specs.Refusal.{refusal};
-ghost use Rattle.server_list.specs.Lookup.{sought, handed, placeOf, whereNumber};
-ghost use Rattle.server_list.specs.Meaning.{FindsServer};
+ghost use Rattle.server_list.specs.Lookup.{sought, handed, placeOf, whereRefusal};
 use super::Where;
 use super::records::SERVER;
 use super::records::index_in;
@@ -24,33 +22,30 @@ pub fn find_server<'a>(owner: &'a [u8], shipped: &'a [u8], srv: [u8; 32]) -> &'a
     match found {
         Where::Owner(k) => record_of(owner, k),
         Where::Shipped(k) => record_of(shipped, k),
-        Where::Ragged => &owner[0..0],
-        Where::Unknown => &owner[0..0],
+        Where::Refused(_) => &owner[0..0],
     }
 }
 
 // Why a lookup of the same server in the same lists is refused: 21 or 22, and 0 where its record is handed back.
 pub fn find_code<'a>(owner: &'a [u8], shipped: &'a [u8], srv: [u8; 32]) -> Refusal
-    ensures { λ r. ⌜ r ≡ refusal (whereNumber (sought (now (owner .entry)) (now (shipped .entry)) srv)) ⌝ }
+    ensures { λ r. ⌜ r ≡ whereRefusal (sought (now (owner .entry)) (now (shipped .entry)) srv) ⌝ }
 {
     match search(owner, shipped, srv) {
         Where::Owner(_) => PASSED,
         Where::Shipped(_) => PASSED,
-        Where::Ragged => refuse(codes::LISTS),
-        Where::Unknown => refuse(codes::UNKNOWN_SERVER),
+        Where::Refused(why) => why,
     }
 }
 
 // Where the server with this SRV value stands. Both lists are looked at for 21 before either is searched.
 pub fn search<'a>(owner: &'a [u8], shipped: &'a [u8], srv: [u8; 32]) -> Where
-    ensures { λ r. ⌜ whereNumber r ≡ whereNumber (sought (now (owner .entry)) (now (shipped .entry)) srv) ⌝ }
-    ensures { λ r. ⌜ FindsServer (now (owner .entry)) (now (shipped .entry)) srv r ⌝ }
+    ensures { λ r. ⌜ r ≡ sought (now (owner .entry)) (now (shipped .entry)) srv ⌝ }
 {
     if owner.len() % SERVER != 0 {
-        return Where::Ragged;
+        return Where::Refused(refuse(codes::LISTS));
     }
     if shipped.len() % SERVER != 0 {
-        return Where::Ragged;
+        return Where::Refused(refuse(codes::LISTS));
     }
     let i = index_in(owner, &srv);
     if i < owner.len() / SERVER {
@@ -60,5 +55,5 @@ pub fn search<'a>(owner: &'a [u8], shipped: &'a [u8], srv: [u8; 32]) -> Where
     if j < shipped.len() / SERVER {
         return Where::Shipped(j);
     }
-    Where::Unknown
+    Where::Refused(refuse(codes::UNKNOWN_SERVER))
 }

@@ -1,12 +1,12 @@
--- Laws of the builders' answers: what makes each right, that no two are right at once, and what is left in the buffer.
-use mathlib.Core.Path.{_≡_, sym, ap, _∙_}
-use mathlib.Core.Bool.{cond, false}
+-- Laws of the builders' answers: by each way out, what is known where one wrote, and what is left in the buffer.
+use mathlib.Core.Path.{_≡_, refl, sym, ap, _∙_}
+use mathlib.Core.Bool.{Bool, true, false, cond}
 use mathlib.Core.List.{List}
 use Prim.Native.Nat.{ℕ, _*_, _≤_, _<_}
 use native.Mathlib.Omega.{arith}
 use lib.Dec.{eqb, ltb, leb}
 use lib.ListN.{length, replicate}
-use borrow.Author.Tests.{le-leb, lt-leb, lt-ltb, le-ltb, eq-eqb, ne-eqb}
+use borrow.Author.Tests.{le-leb, lt-leb, lt-ltb, le-ltb, eq-eqb, ne-eqb, leb-false, ltb-false, eqb-false}
 use Rattle.laws.specs.Flat.{flat}
 use Rattle.laws.specs.Written.{written, Puts}
 use Rattle.laws.proofs.Written.{written-whole}
@@ -15,65 +15,98 @@ use Rattle.refusal.specs.declared.Refusal.{Refusal}
 use Rattle.tree.specs.Tree.{nodesIn, depthOf, rootOf, pathOf}
 use Rattle.tree_build.specs.AllRows.{levels, nodesOf, pathIn}
 use Rattle.tree_build.specs.Leaves.{countOf, heldOf}
-use Rattle.tree_build.specs.Building.{rootedOf, PlacesLeaf, pathBytes, fromBytes, LaysRows, rowsBytes}
-use Rattle.tree_build.specs.declared.Placed.{Placed}
-use Rattle.tree_build.specs.declared.Placed.the-variants as placed
-use Rattle.tree_build.specs.declared.Laid.{Laid}
-use Rattle.tree_build.specs.declared.Laid.the-variants as laid
+use Rattle.tree_build.specs.Building.{rootedOf, pathAnswer, pathBytes, fromBytes, rowsAnswer, rowsBytes}
+use Rattle.tree_build.specs.declared.PathAnswer.{PathAnswer}
+use Rattle.tree_build.specs.declared.PathAnswer.the-variants as path-answer
+use Rattle.tree_build.specs.declared.RowsAnswer.the-variants as rows-answer
 use Rattle.tree_build.proofs.Leaves.{held-is}
 
--- ---- Which answer is right. There are n leaves, which code has as m, and their tree has the depth d.
+-- ---- The answers by each way out. There are n leaves, which code has as m, and their tree has the depth d.
 
-module _ {m n d : ℕ} (same : m ≡ n) (deep : d ≡ depthOf m) where
-  height : d ≡ depthOf n
-  height = deep ∙ ap depthOf same
+module _ {m n : ℕ} (same : m ≡ n) where
+  pub path-none : {why : Refusal} (place room : ℕ) → m ≤ place → why ≡ refusal 20
+      → path-answer.Refused why ≡ pathAnswer n place room
+  unfolding pathAnswer
+  path-none place room h e = simp (le-leb n place (rw same at h), e)
 
-  module _ {place room : ℕ} (there : place < m) where
-    pub place-short : room < 32 * d → PlacesLeaf n place room placed.Short
-    place-short h = let k = height in omega arith
+  pub rows-none : {why : Refusal} (room : ℕ) → m ≡ 0 → why ≡ refusal 20 → rows-answer.Refused why ≡ rowsAnswer n room
+  unfolding rowsAnswer
+  rows-none room z e = simp (eq-eqb n 0 (sym same ∙ z), e)
 
-    pub place-written : {indx : ℕ} → indx ≡ place → 32 * d ≤ room → PlacesLeaf n place room (placed.Written indx d)
-    place-written e h = let k = height in (omega arith, omega arith, e, k)
+  module _ {d : ℕ} (deep : d ≡ depthOf m) where
+    height : d ≡ depthOf n
+    height = deep ∙ ap depthOf same
 
-  module _ {size room : ℕ} (some : m ≡ 0 → ⊥) (whole : size ≡ 32 * nodesOf d) where
-    pub rows-short : room < size → LaysRows n room laid.Short
-    rows-short h = (omega arith, rw (whole, height) at h)
+    module _ {place room : ℕ} (there : place < m) where
+      pub path-short : {why : Refusal} → room < 32 * d → why ≡ refusal 19
+          → path-answer.Refused why ≡ pathAnswer n place room
+      unfolding pathAnswer
+      path-short h e = simp (lt-leb n place (rw same at there), lt-ltb _ _ (rw height at h), e)
 
-    pub rows-written : size ≤ room → LaysRows n room (laid.Written d)
-    rows-written h = (omega arith, rw (whole, height) at h, height)
+      pub path-written : {indx : ℕ} → indx ≡ place → 32 * d ≤ room
+          → path-answer.Written indx d ≡ pathAnswer n place room
+      unfolding pathAnswer
+      path-written e h = simp (lt-leb n place (rw same at there), le-ltb _ _ (rw height at h), e, height)
 
--- ---- No two are right at once: each is the answer that the tests give.
+    module _ {size room : ℕ} (some : m ≡ 0 → ⊥) (whole : size ≡ 32 * nodesOf d) where
+      pub rows-short : {why : Refusal} → room < size → why ≡ refusal 19 → rows-answer.Refused why ≡ rowsAnswer n room
+      unfolding rowsAnswer
+      rows-short h e = simp (ne-eqb n 0 (λ z. some (same ∙ z)), lt-ltb _ _ (rw (whole, height) at h), e)
 
-module _ (n place room : ℕ) where
-  abbrev placedByTests : Placed
-  placedByTests =
-      cond (leb n place) placed.NoLeaf
-      (cond (ltb room (32 * depthOf n)) placed.Short (placed.Written place (depthOf n)))
+      pub rows-written : size ≤ room → rows-answer.Written d ≡ rowsAnswer n room
+      unfolding rowsAnswer
+      rows-written h = simp (ne-eqb n 0 (λ z. some (same ∙ z)), le-ltb _ _ (rw (whole, height) at h), height)
 
-  is-placed : (x : Placed) → PlacesLeaf n place room x → x ≡ placedByTests
-  is-placed placed.NoLeaf p = simp (le-leb n place p)
-  is-placed placed.Short p = simp (lt-leb n place (p .0), lt-ltb _ _ (p .1))
-  is-placed (placed.Written indx depth) p = simp (lt-leb n place (p .0), le-ltb _ _ (p .1), p .2, p .3)
+-- ---- What is known where a builder answered that it wrote, and where it refused
 
-  pub places-once : (x y : Placed) → PlacesLeaf n place room x → PlacesLeaf n place room y → x ≡ y
-  places-once x y p q = is-placed x p ∙ sym (is-placed y q)
+pub record PathThere (n place room indx depth : ℕ) : Type 0 where
+  pub there : place < n
+  pub fits : 32 * depthOf n ≤ room
+  pub indx-is : indx ≡ place
+  pub deep : depth ≡ depthOf n
 
-module _ (n room : ℕ) where
-  abbrev laidByTests : Laid
-  laidByTests =
-      cond (eqb n 0) laid.NoLeaves
-      (cond (ltb room (32 * nodesOf (depthOf n))) laid.Short (laid.Written (depthOf n)))
+-- what an answer says of the leaf at a place of n leaves
+abbrev PathSays : ℕ → ℕ → ℕ → PathAnswer → Type 0
+PathSays n place room (path-answer.Written indx depth) = PathThere n place room indx depth
+PathSays n place room (path-answer.Refused why) = why .code ≡ 0 → ⊥
 
-  some-leaves : 0 < n → eqb n 0 ≡ false
-  some-leaves h = ne-eqb n 0 (λ (z : n ≡ 0). omega arith)
+path-says : (n place room : ℕ) → PathSays n place room (pathAnswer n place room)
+unfolding pathAnswer
+path-says n place room = by (leb n place) (ltb room (32 * depthOf n)) refl refl
+  where
+    by : (a b : Bool) → leb n place ≡ a → ltb room (32 * depthOf n) ≡ b
+        → PathSays n place room
+        (cond a (path-answer.Refused (refusal 20))
+        (cond b (path-answer.Refused (refusal 19)) (path-answer.Written place (depthOf n))))
+    by true b p q = λ z. omega arith
+    by false true p q = λ z. omega arith
+    by false false p q =
+        record { there = leb-false _ _ p; fits = ltb-false _ _ q; indx-is = refl; deep = refl }
 
-  is-laid : (x : Laid) → LaysRows n room x → x ≡ laidByTests
-  is-laid laid.NoLeaves p = simp (eq-eqb n 0 p)
-  is-laid laid.Short p = simp (some-leaves (p .0), lt-ltb _ _ (p .1))
-  is-laid (laid.Written depth) p = simp (some-leaves (p .0), le-ltb _ _ (p .1), p .2)
+pub path-there : (n place room indx depth : ℕ) → path-answer.Written indx depth ≡ pathAnswer n place room
+    → PathThere n place room indx depth
+path-there n place room indx depth e = rw (← e) at (path-says n place room)
 
-  pub lays-once : (x y : Laid) → LaysRows n room x → LaysRows n room y → x ≡ y
-  lays-once x y p q = is-laid x p ∙ sym (is-laid y q)
+pub path-refused : (n place room : ℕ) (why : Refusal) → path-answer.Refused why ≡ pathAnswer n place room
+    → why .code ≡ 0 → ⊥
+path-refused n place room why e = rw (← e) at (path-says n place room)
+
+pub record RowsThere (n depth : ℕ) : Type 0 where
+  pub some : 0 < n
+  pub deep : depth ≡ depthOf n
+
+pub rows-there : (n room depth : ℕ) → rows-answer.Written depth ≡ rowsAnswer n room → RowsThere n depth
+unfolding rowsAnswer
+rows-there n room depth = by (eqb n 0) (ltb room (32 * nodesOf (depthOf n))) refl
+  where
+    by : (a b : Bool) → eqb n 0 ≡ a
+        → rows-answer.Written depth
+        ≡ cond a (rows-answer.Refused (refusal 20))
+        (cond b (rows-answer.Refused (refusal 19)) (rows-answer.Written (depthOf n)))
+        → RowsThere n depth
+    by true b p e = absurd (let z : _≡_ {A = ℕ} 0 1 = cc in omega arith)
+    by false true p e = absurd (let z : _≡_ {A = ℕ} 0 1 = cc in omega arith)
+    by false false p e = let g = eqb-false n 0 p in record { some = omega arith; deep = cc }
 
 -- ---- What a builder answers and leaves that was lent the leaves s. Code has their number as n, and the depth as d.
 

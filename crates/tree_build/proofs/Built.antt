@@ -14,14 +14,14 @@ use Rattle.hash.specs.Hashes.{emptyPlace}
 use Rattle.tree.specs.Tree.{nodeIn, nodesIn, nodeAt, depthOf, rootOf, siblings, pathOf}
 use Rattle.tree.specs.PathCheck.{climb, reached, leadsOf}
 use Rattle.tree_build.specs.Leaves.{countOf, leavesIn, depthIn, most}
-use Rattle.tree_build.specs.Building.{rootedOf, placedNumber, PlacesLeaf, pathBytes}
+use Rattle.tree_build.specs.Building.{rootedOf, pathNumber, pathAnswer, pathBytes}
 use Rattle.tree_build.specs.declared.Rooted.{Rooted}
-use Rattle.tree_build.specs.declared.Placed.the-variants.{Written}
+use Rattle.tree_build.specs.declared.PathAnswer.the-variants.{Written}
 use Rattle.tree_build.proofs.Leads.{path-leads}
 use Rattle.tree.proofs.Nodes.{Whole, whole-siblings, leaves-long, tree-long, nodes-at, nodes-flat, flat-length}
 use Rattle.tree_build.proofs.Depth.{depth-holds, depth-short}
 use Rattle.tree_build.proofs.Leaves.{count-bounds}
-use Rattle.tree_build.proofs.BuildingLaws.{rooted-some}
+use Rattle.tree_build.proofs.BuildingLaws.{rooted-some, path-there}
 
 path-length : (node : ℕ → ℕ → List ℕ) (d k j : ℕ) → length (siblings node d k j) ≡ d
 unfolding siblings
@@ -68,20 +68,21 @@ module _ (s : List ℕ) (n place : ℕ) (whole : 32 * n ≤ length s) (few : n �
 -- `path`, lent the leaves s and the buffer o, answered that it wrote, and left `out`; `root`, lent the leaves,
 -- answered r: the siblings at the front of `out` lead from that leaf to r's root
 pub answers-lead : (s o out : List ℕ) (place indx depth : ℕ) (r : Rooted)
-    → PlacesLeaf (countOf (length s)) place (length o) (Written indx depth)
-    → out ≡ written (placedNumber (Written indx depth)) (pathBytes s place) o
+    → Written indx depth ≡ pathAnswer (countOf (length s)) place (length o)
+    → out ≡ written (pathNumber (Written indx depth)) (pathBytes s place) o
     → r ≡ rootedOf s
     → leadsOf (nodeIn s place) indx (take (32 * depth) out) (r .root) ≡ true
 unfolding pathBytes
-answers-lead s o out place indx depth r right left rooted =
+answers-lead s o out place indx depth r answered left rooted =
     let n = countOf (length s) in
     let b = count-bounds (length s) in
-    let there = right .0 in
+    let right = path-there n place (length o) indx depth answered in
+    let there = right .there in
     let bytes = flat (pathOf (leavesIn s) (depthIn s) place) in
     let front : take (32 * depth) out ≡ bytes =
     ap (take (32 * depth)) left
     ∙ take-at bytes (drop (length bytes) o) (32 * depth)
-    (path-bytes s n place (b .1) (b .0) there ∙ ap (λ (x : ℕ). 32 * x) (sym (right .3))) in
+    (path-bytes s n place (b .1) (b .0) there ∙ ap (λ (x : ℕ). 32 * x) (sym (right .deep))) in
     let root : r .root ≡ rootOf (leavesIn s) (depthIn s) =
     ap (λ (x : Rooted). x .root) (rooted ∙ sym (rooted-some s {n = n} refl refl (λ (z : n ≡ 0). omega arith) refl)) in
-    rw (front, root, right .2) (built-leads s n place (b .1) (b .0) there)
+    rw (front, root, right .indx-is) (built-leads s n place (b .1) (b .0) there)

@@ -3,7 +3,6 @@ use mathlib.Core.Path.{refl, sym, ap, _∙_}
 use mathlib.Core.List.{List}
 use Prim.Native.Nat.{ℕ}
 use Rattle.laws.proofs.Once.{Settles}
-use Rattle.tree_build.proofs.BuildingLaws.{places-once, lays-once}
 use Rattle.tree_build.proofs.build.root.Kinds as root-kinds
 use Rattle.tree_build.proofs.build.root.Reads as root-reads
 use Rattle.tree_build.proofs.build.path.Kinds as path-kinds
@@ -20,17 +19,17 @@ root-once κs a x u y v p q = (p ∙ sym q, refl)
 
 pub path-once : Settles path-kinds.ps path-kinds.r path-reads.Learnt
 path-once κs a x u y v p q =
-    let same = places-once _ _ _ x y (p .0) (q .0) in
+    let same = p .0 ∙ sym (q .0) in
     (same, ap (λ (out : List ℕ). (tt, (tt, (out, tt)))) (cc))
 
 pub rows-once : Settles rows-kinds.ps rows-kinds.r rows-reads.Learnt
 rows-once κs a x u y v p q =
-    let same = lays-once _ _ x y (p .0) (q .0) in
+    let same = p .0 ∙ sym (q .0) in
     (same, ap (λ (out : List ℕ). (tt, (out, tt))) (cc))
 
 pub path-from-once : Settles path-from-kinds.ps path-from-kinds.r path-from-reads.Learnt
 path-from-once κs a x u y v p q =
-    let same = places-once _ _ _ x y (p .0) (q .0) in
+    let same = p .0 ∙ sym (q .0) in
     (same, ap (λ (out : List ℕ). (tt, (tt, (tt, (out, tt))))) (cc))
 
 pub rows-length-once : Settles rows-length-kinds.ps rows-length-kinds.r rows-length-reads.Learnt

@@ -1,10 +1,9 @@
 -- What the builders answer and write (document 01, "Hash and tree" and "Refusal codes"; INDX as request P2 has it). The
 -- order is 20, 19.
-use mathlib.Core.Path.{_≡_}
 use mathlib.Core.Bool.{cond}
 use mathlib.Core.List.{List}
-use Prim.Native.Nat.{ℕ, _*_, _≤_, _<_}
-use lib.Dec.{eqb}
+use Prim.Native.Nat.{ℕ, _*_}
+use lib.Dec.{eqb, leb, ltb}
 use lib.ListN.{length, replicate}
 use Rattle.laws.specs.Flat.{flat}
 use Rattle.refusal.specs.Refusal.{refusal, passed}
@@ -12,10 +11,10 @@ use Rattle.tree.specs.Tree.{depthOf, rootOf, pathOf}
 use Rattle.tree_build.specs.AllRows.{levels, nodesOf, pathIn}
 use Rattle.tree_build.specs.Leaves.{countOf, leavesIn, depthIn}
 use Rattle.tree_build.specs.declared.Rooted.{Rooted}
-use Rattle.tree_build.specs.declared.Placed.{Placed}
-use Rattle.tree_build.specs.declared.Placed.the-variants as placed
-use Rattle.tree_build.specs.declared.Laid.{Laid}
-use Rattle.tree_build.specs.declared.Laid.the-variants as laid
+use Rattle.tree_build.specs.declared.PathAnswer.{PathAnswer}
+use Rattle.tree_build.specs.declared.PathAnswer.the-variants as path-answer
+use Rattle.tree_build.specs.declared.RowsAnswer.{RowsAnswer}
+use Rattle.tree_build.specs.declared.RowsAnswer.the-variants as rows-answer
 
 -- ---- The root of a batch
 
@@ -28,19 +27,17 @@ rootedOf s =
 
 -- ---- The path of a leaf
 
--- document 01's number of each answer, 0 where the path is written
-abbrev pub placedNumber : Placed → ℕ
-placedNumber placed.NoLeaf = 20
-placedNumber placed.Short = 19
-placedNumber (placed.Written indx depth) = 0
+-- document 01's number of an answer, 0 where the path is written
+abbrev pub pathNumber : PathAnswer → ℕ
+pathNumber (path-answer.Written indx depth) = 0
+pathNumber (path-answer.Refused why) = why .code
 
--- the answer on the leaf at a place of n leaves, from the left, with a buffer of room bytes: INDX, which is its place,
--- and the depth of the tree, which is how many siblings are written
-abbrev pub PlacesLeaf : ℕ → ℕ → ℕ → Placed → Type 0
-PlacesLeaf n place room placed.NoLeaf = n ≤ place
-PlacesLeaf n place room placed.Short = (place < n) × (room < 32 * depthOf n)
-PlacesLeaf n place room (placed.Written indx depth) =
-    (place < n) × (32 * depthOf n ≤ room) × (indx ≡ place) × (depth ≡ depthOf n)
+-- the answer on the leaf at a place of n leaves, from the left, with a buffer of room bytes: 20, 19, or INDX, which is
+-- its place, and the depth of the tree, which is how many siblings are written
+unfoldable pub pathAnswer : ℕ → ℕ → ℕ → PathAnswer
+pathAnswer n place room =
+    cond (leb n place) (path-answer.Refused (refusal 20))
+    (cond (ltb room (32 * depthOf n)) (path-answer.Refused (refusal 19)) (path-answer.Written place (depthOf n)))
 
 -- what is written: the siblings of the leaf at a place of the leaves s,
 unfoldable pub pathBytes : List ℕ → ℕ → List ℕ
@@ -52,17 +49,16 @@ fromBytes rows count place = flat (pathIn rows (depthOf count) place)
 
 -- ---- All rows of a batch
 
--- document 01's number of each answer, 0 where the rows are written
-abbrev pub laidNumber : Laid → ℕ
-laidNumber laid.NoLeaves = 20
-laidNumber laid.Short = 19
-laidNumber (laid.Written depth) = 0
+-- document 01's number of an answer, 0 where the rows are written
+abbrev pub rowsNumber : RowsAnswer → ℕ
+rowsNumber (rows-answer.Written depth) = 0
+rowsNumber (rows-answer.Refused why) = why .code
 
--- the answer on n leaves, with a buffer of room bytes: the depth of the tree
-abbrev pub LaysRows : ℕ → ℕ → Laid → Type 0
-LaysRows n room laid.NoLeaves = n ≡ 0
-LaysRows n room laid.Short = (0 < n) × (room < 32 * nodesOf (depthOf n))
-LaysRows n room (laid.Written depth) = (0 < n) × (32 * nodesOf (depthOf n) ≤ room) × (depth ≡ depthOf n)
+-- the answer on n leaves, with a buffer of room bytes: 20, 19, or the depth of the tree
+unfoldable pub rowsAnswer : ℕ → ℕ → RowsAnswer
+rowsAnswer n room =
+    cond (eqb n 0) (rows-answer.Refused (refusal 20))
+    (cond (ltb room (32 * nodesOf (depthOf n))) (rows-answer.Refused (refusal 19)) (rows-answer.Written (depthOf n)))
 
 -- what is written: the rows of the tree over the leaves s
 unfoldable pub rowsBytes : List ℕ → List ℕ

@@ -3,11 +3,11 @@ ghost use mathlib.Core.Path.{_≡_};
 ghost use lib.ListN.{length};
 ghost use Rattle.laws.specs.Written.{written};
 ghost use Rattle.tree_build.specs.Leaves.{countOf, heldOf};
-ghost use Rattle.tree_build.specs.Building.{rootedOf, placedNumber, PlacesLeaf, pathBytes, fromBytes};
-ghost use Rattle.tree_build.specs.Building.{laidNumber, LaysRows, rowsBytes};
-use super::Laid;
-use super::Placed;
+ghost use Rattle.tree_build.specs.Building.{rootedOf, pathNumber, pathAnswer, pathBytes, fromBytes};
+ghost use Rattle.tree_build.specs.Building.{rowsNumber, rowsAnswer, rowsBytes};
+use super::PathAnswer;
 use super::Rooted;
+use super::RowsAnswer;
 use super::Wanted;
 use super::ascent::ascend;
 use super::siblings::put_node;
@@ -44,64 +44,64 @@ pub fn root(leaves: &[u8]) -> Rooted
 
 // The path of the leaf at place, at the front of out. For the paths of many leaves of one batch, use `rows` and
 // `path_from`.
-pub fn path(leaves: &[u8], place: usize, out: &mut [u8]) -> Placed
-    ensures { λ r. ⌜ PlacesLeaf (countOf (length (now (leaves .entry)))) place (length (now (out .entry))) r ⌝ }
+pub fn path(leaves: &[u8], place: usize, out: &mut [u8]) -> PathAnswer
+    ensures { λ r. ⌜ r ≡ pathAnswer (countOf (length (now (leaves .entry)))) place (length (now (out .entry))) ⌝ }
     ensures { λ r. ⌜
-        now (out .exit) ≡ written (placedNumber r) (pathBytes (now (leaves .entry)) place) (now (out .entry))
+        now (out .exit) ≡ written (pathNumber r) (pathBytes (now (leaves .entry)) place) (now (out .entry))
         ⌝ }
 {
     let count = count_of(leaves.len());
     if count <= place {
-        return Placed::NoLeaf;
+        return PathAnswer::Refused(refuse(codes::LEAVES));
     }
     let d = depth(count);
     if out.len() < 32 * (d as usize) {
-        return Placed::Short;
+        return PathAnswer::Refused(refuse(codes::ROOM));
     }
     ascend(leaves, count, d, Wanted::Sibling, place, out);
-    Placed::Written {
+    PathAnswer::Written {
         indx: place as u32,
         depth: d,
     }
 }
 
 // All rows of the tree of a batch, the leaves first and the root last, at the front of out.
-pub fn rows(leaves: &[u8], out: &mut [u8]) -> Laid
-    ensures { λ r. ⌜ LaysRows (countOf (length (now (leaves .entry)))) (length (now (out .entry))) r ⌝ }
-    ensures { λ r. ⌜ now (out .exit) ≡ written (laidNumber r) (rowsBytes (now (leaves .entry))) (now (out .entry)) ⌝ }
+pub fn rows(leaves: &[u8], out: &mut [u8]) -> RowsAnswer
+    ensures { λ r. ⌜ r ≡ rowsAnswer (countOf (length (now (leaves .entry)))) (length (now (out .entry))) ⌝ }
+    ensures { λ r. ⌜ now (out .exit) ≡ written (rowsNumber r) (rowsBytes (now (leaves .entry))) (now (out .entry)) ⌝ }
 {
     let count = count_of(leaves.len());
     if count == 0 {
-        return Laid::NoLeaves;
+        return RowsAnswer::Refused(refuse(codes::LEAVES));
     }
     let d = depth(count);
     let size = bytes(d);
     if out.len() < size {
-        return Laid::Short;
+        return RowsAnswer::Refused(refuse(codes::ROOM));
     }
     let root = ascend(leaves, count, d, Wanted::Row, 0, out);
     put_node(root, out, size - 32);
-    Laid::Written { depth: d }
+    RowsAnswer::Written { depth: d }
 }
 
 // The path of the leaf at place of count leaves, read out of what `rows` wrote for them. Rows that are too short have
 // no such leaf.
-pub fn path_from(rows: &[u8], count: usize, place: usize, out: &mut [u8]) -> Placed
-    ensures { λ r. ⌜ PlacesLeaf (heldOf (length (now (rows .entry))) count) place (length (now (out .entry))) r ⌝ }
+pub fn path_from(rows: &[u8], count: usize, place: usize, out: &mut [u8]) -> PathAnswer
+    ensures { λ r. ⌜ r ≡ pathAnswer (heldOf (length (now (rows .entry))) count) place (length (now (out .entry))) ⌝ }
     ensures { λ r. ⌜
-        now (out .exit) ≡ written (placedNumber r) (fromBytes (now (rows .entry)) count place) (now (out .entry))
+        now (out .exit) ≡ written (pathNumber r) (fromBytes (now (rows .entry)) count place) (now (out .entry))
         ⌝ }
 {
     let held = held_of(rows.len(), count);
     if held <= place {
-        return Placed::NoLeaf;
+        return PathAnswer::Refused(refuse(codes::LEAVES));
     }
     let d = depth(held);
     if out.len() < 32 * (d as usize) {
-        return Placed::Short;
+        return PathAnswer::Refused(refuse(codes::ROOM));
     }
     read_path(rows, d, place, out);
-    Placed::Written {
+    PathAnswer::Written {
         indx: place as u32,
         depth: d,
     }

@@ -24,17 +24,15 @@ pub struct Rooted {
 
 // What a writer of a path answers: INDX of the leaf and how many siblings stand at the front of the buffer, or why
 // none do.
-pub enum Placed {
+pub enum PathAnswer {
     Written { indx: u32, depth: u32 },
-    NoLeaf,
-    Short,
+    Refused(Refusal),
 }
 
 // What the writer of all rows answers: the depth of the tree, or why nothing is written.
-pub enum Laid {
+pub enum RowsAnswer {
     Written { depth: u32 },
-    NoLeaves,
-    Short,
+    Refused(Refusal),
 }
 
 // What is written of each level of a tree as it is built: nothing, where the root is all that is wanted; the sibling of

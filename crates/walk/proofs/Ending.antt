@@ -13,7 +13,7 @@ use Rattle.laws.specs.Bytes.{Bytes}
 use Rattle.laws.specs.Pasted.{fronted}
 use Rattle.laws.proofs.First.{row-quiet, test-quiet}
 use Rattle.laws.proofs.Zeros.{zeros-replicate}
-use Rattle.refusal.specs.Refusal.{refusals}
+use Rattle.refusal.specs.Refusal.{refusal, refusals}
 use Rattle.check_response.specs.Check.{checkCode, windowIn}
 use Rattle.check_response.specs.declared.Verdict.the-variants.{Valid}
 use Rattle.check_response.specs.declared.Window.{Window}
@@ -30,13 +30,13 @@ use Rattle.pile_report.specs.Report.{judged, joined, Reports, reportNumber}
 use Rattle.pile_report.specs.Meaning.{Sound, Accepts, Decides}
 use Rattle.pile_report.specs.Taking as cutter
 use Rattle.pile_report.specs.declared.Report.{Report}
-use Rattle.pile_report.specs.declared.Report.the-variants.{Pair, Clear}
+use Rattle.pile_report.specs.declared.Report.the-variants.{Pair}
 use Rattle.pile_report.specs.declared.Taken.{Taken}
-use Rattle.pile_report.specs.declared.Taken.the-variants.{Run, NoRun}
+use Rattle.pile_report.specs.declared.Taken.the-variants as taken
 use Rattle.pile_report.proofs.Says.{report-once}
 use Rattle.pile_report.proofs.Runs.{joined-later, takes-once}
 use Rattle.pile_report.proofs.Exactly.{joined-first}
-use Rattle.pile_report.proofs.Sound.{sound-decides, sound-convicts, sound-valid, sound-linked, sound-rand}
+use Rattle.pile_report.proofs.Sound.{sound-decides, sound-clear, sound-convicts, sound-valid, sound-linked, sound-rand}
 use Rattle.pile_report.proofs.Agree.{named-is-cut}
 use Rattle.walk.specs.State.{keyAt}
 use Rattle.walk.specs.Taking.{recorded, movedOn, pileOf, allYes, Takes, pileAfter}
@@ -238,26 +238,23 @@ module _
   malfeasance-accepted i j e s p = ap reportNumber (ends-checked s p ∙ e)
 
   -- and says 18 where it said consistent
-  pub consistent-clear : r ≡ Clear → (s : Report) → Reports left yeses s → reportNumber s ≡ 18
-  consistent-clear e s p = ap reportNumber (ends-checked s p ∙ e)
+  pub consistent-clear : reportNumber r ≡ 18 → (s : Report) → Reports left yeses s → reportNumber s ≡ 18
+  consistent-clear e s p = ap reportNumber (ends-checked s p) ∙ e
 
   -- the cutter, with room for the pile, takes a run where the walk said malfeasance, from record to record of the pair,
   pub ends-cut : (room i j : ℕ) (c : Taken) → r ≡ Pair i j → length left ≤ room → cutter.Takes left yeses room c
-      → c ≡ Run i j
+      → c ≡ taken.Run i j
   ends-cut room i j c e l u =
       named-is-cut left yeses room i j c (subst (λ (x : Report). Reports left yeses x) e (t .1 .1)) l u
 
   -- and none where it said consistent
-  pub ends-uncut : (room : ℕ) (c : Taken) → r ≡ Clear → length left ≤ room → cutter.Takes left yeses room c → c ≡ NoRun
+  pub ends-uncut : (room : ℕ) (c : Taken) → reportNumber r ≡ 18 → length left ≤ room → cutter.Takes left yeses room c
+      → c ≡ taken.Refused (refusal 18)
   ends-uncut room c e l u =
-      let s = subst (λ (x : Report). Reports left yeses x) e (t .1 .1) in
-      takes-once left yeses room c NoRun u (
-        s .0,
-        l,
-        λ i j v.
-            s .1 .2 (v .i) (v .j)
-            (record { order = v .order; inside = omega (arith, v .to, v .inside); holds = v .clash }),
-      )
+      takes-once left yeses room c (taken.Refused (refusal 18)) u
+      (cutter.code-18 (ends-sound .good) l (λ i j v.
+      sound-clear left yeses ends-sound r (t .1 .1) e (v .i) (v .j)
+      (record { order = v .order; inside = omega (arith, v .to, v .inside); holds = v .clash })))
 
   -- Where an earlier window lies wholly after a later one, it is malfeasance, whichever two they are and whatever the
   -- others say: of the windows of the pile,

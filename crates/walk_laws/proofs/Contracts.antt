@@ -43,7 +43,7 @@ use Rattle.walk_laws.proofs.Hearing.{with-answers, the-whole-way-alone}
 -- of the arguments a, with the answer x and u left of the parameters
 pub check-learnt : (κs : _) (a : _) (x : _) (u : _)
     → check-reads.Learnt κs a x (atExit (endedOf _ check-kinds.ps check-kinds.r) κs a u) → Checks (now (a .0)) x
-check-learnt κs a x u p = p .1
+check-learnt κs a x u p = p
 
 pub write-learnt : (κs : _) (a : _) (x : _) (u : _)
     → write-reads.Learnt κs a x (atExit (endedOf _ write-kinds.ps write-kinds.r) κs a u)

@@ -13,7 +13,7 @@ use Rattle.pile.proofs.Recorded.{record-front}
 use Rattle.pile_report.specs.Report.{Reports}
 use Rattle.pile_report.specs.Meaning.{Accepts}
 use Rattle.pile_report.specs.declared.Report.{Report}
-use Rattle.pile_report.specs.declared.Report.the-variants.{Pair, Bad, Record, Unlinked, Clear}
+use Rattle.pile_report.specs.declared.Report.the-variants.{Pair, Refused}
 use Rattle.pile_runs.specs.Clash.{windowsClash}
 use Rattle.check_response.specs.Check.{windowIn}
 use Rattle.check_response.specs.declared.Window.{Window}
@@ -77,7 +77,4 @@ lie-convicts keys nonce most n32 w b way h response rl o r t v bytes i j below l
         → Accepts x → Convicts (pileOf (2 * w .count) (recorded w response b))
     by (Pair a e) u v z =
         record { i = a; j = e; way = the-whole-way keys nonce most n32 w b way h response rl o a e u v bytes }
-    by Bad u v z = absurd z
-    by (Record why k) u v z = absurd z
-    by (Unlinked k) u v z = absurd z
-    by Clear u v z = absurd z
+    by (Refused why k) u v z = absurd z

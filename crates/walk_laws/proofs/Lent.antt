@@ -7,12 +7,13 @@ use mathlib.Core.List.{List, _++_}
 use native.Mathlib.Omega.{arith}
 use lib.ListN.{length, replicate, replicate-append-replicate}
 use Rattle.refusal.specs.declared.Refusal.{Refusal}
-use Rattle.pile_report.specs.Report.{Reports}
+use Rattle.refusal.specs.Refusal.{refusal}
+use Rattle.pile_report.specs.Report.{Reports, reportNumber}
 use Rattle.pile_report.specs.Taking as cutter
 use Rattle.pile_report.specs.declared.Report.{Report}
-use Rattle.pile_report.specs.declared.Report.the-variants.{Pair, Clear}
+use Rattle.pile_report.specs.declared.Report.the-variants.{Pair}
 use Rattle.pile_report.specs.declared.Taken.{Taken}
-use Rattle.pile_report.specs.declared.Taken.the-variants.{Run, NoRun}
+use Rattle.pile_report.specs.declared.Taken.the-variants as taken
 use Rattle.check_signatures.proofs.Verdicts.{until-check}
 use Rattle.walk_signed.proofs.Verified.{both-yes}
 use Rattle.check_response.specs.declared.Window.{Window}
@@ -82,11 +83,11 @@ module _
 
   -- and the cutter takes a run exactly where it said malfeasance
   pub cut-as-lent : (room i j : ℕ) (c : Taken) → r ≡ Pair i j → length left ≤ room
-      → cutter.Takes left (lent last-way) room c → c ≡ Run i j
+      → cutter.Takes left (lent last-way) room c → c ≡ taken.Run i j
   cut-as-lent room i j c e l u =
       ends-cut keys nonce most n32 w b way h response rl o r t room i j c e l (rw ends-lent at u)
 
-  pub uncut-as-lent : (room : ℕ) (c : Taken) → r ≡ Clear → length left ≤ room
-      → cutter.Takes left (lent last-way) room c → c ≡ NoRun
+  pub uncut-as-lent : (room : ℕ) (c : Taken) → reportNumber r ≡ 18 → length left ≤ room
+      → cutter.Takes left (lent last-way) room c → c ≡ taken.Refused (refusal 18)
   uncut-as-lent room c e l u =
       ends-uncut keys nonce most n32 w b way h response rl o r t room c e l (rw ends-lent at u)

@@ -15,10 +15,11 @@ use Rattle.pile_runs.specs.Spans.{Answers}
 use Rattle.pile_runs.specs.declared.Span.{Span}
 use Rattle.pile_runs.specs.declared.Span.the-variants.{Places, Nothing}
 use Rattle.pile_runs.proofs.Find.{runOf, run-exists}
+use Rattle.refusal.specs.Refusal.{refusal}
 use Rattle.pile_report.specs.Report.{judged, Reports}
-use Rattle.pile_report.specs.Taking.{ConvictsIn, Takes, runBytes}
+use Rattle.pile_report.specs.Taking.{ConvictsIn, code-18, Takes, runBytes}
 use Rattle.pile_report.specs.declared.Report.the-variants.{Pair}
-use Rattle.pile_report.specs.declared.Taken.the-variants.{Run, NoRun}
+use Rattle.pile_report.specs.declared.Taken.the-variants.{Run, Refused}
 use Rattle.pile_report.proofs.Says.{report-once}
 use Rattle.pile_report.proofs.Agree.{named-is-cut}
 use Rattle.pile_report.proofs.Stands.{taken-run, cut-names}
@@ -54,8 +55,9 @@ taken pile answers i j s =
         let t : Takes pile answers (length pile) (Run a b) = (s .0, le-refl (length pile), m) in
         subst (Takes pile answers (length pile)) (named-is-cut pile answers _ i j (Run a b) s (le-refl _) t) t
     by Nothing m =
-        let e : NoRun ≡ Run i j
-        = named-is-cut pile answers _ i j NoRun s (le-refl _) (s .0, le-refl (length pile), m) in
+        let e : Refused (refusal 18) ≡ Run i j
+        = named-is-cut pile answers _ i j (Refused (refusal 18)) s (le-refl _)
+        (code-18 (s .0) (le-refl (length pile)) m) in
         let z : _≡_ {A = ℕ} 0 1 = cc in absurd (omega arith)
 
 -- ---- of a pile in which the check names records i and j:

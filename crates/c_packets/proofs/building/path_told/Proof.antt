@@ -1,4 +1,4 @@
--- `told::building::path_told` meets its contract.
+-- `c_packets::building::path_told` meets its contract.
 use mathlib.Core.Path.{sym, ap}
 use Rattle.c_packets.specs.Building.{tbPlaced}
 use borrow.Author.Needs.{needs}
@@ -9,10 +9,7 @@ returns : tie.Need-returns
 returns c = sym (ap tbPlaced (c .before .p .given .1))
 
 returns-2 : tie.Need-returns-2
-returns-2 c = sym (ap tbPlaced (c .enum-told .given .1))
-
-returns-3 : tie.Need-returns-3
-returns-3 c = sym (ap tbPlaced (c .enum-told2 .given .1))
+returns-2 c = sym (ap tbPlaced (c .before .before .p2 .given .1))
 
 pub path-told-spec : {M : Type 1} → statement M
 path-told-spec =
@@ -22,5 +19,4 @@ path-told-spec =
     (λ c. search needs)
     (λ c. search needs)
     returns
-    returns-2
-    returns-3)
+    returns-2)

@@ -8,26 +8,24 @@ use borrow.Author.Needs.{needs}
 use Rattle.capi.proofs.finding.tb_find_server.Statement.{statement}
 use Rattle.capi.proofs.finding.tb_find_server.Tie as tie
 
-mul-t9 : tie.Need-mul-t9
-mul-t9 c =
-    omega (arith, within-owner _ _ _ (c .before .found .given .1) (c .before .before .before .search .ensures .1))
+mul-t10 : tie.Need-mul-t10
+mul-t10 c =
+    omega (arith, within-owner _ _ _ (c .before .found .given .1) (c .before .before .before .search .ensures))
 
-mul-t11 : tie.Need-mul-t11
-mul-t11 c =
-    omega (arith, within-shipped _ _ _ (c .before .found2 .given .1) (c .before .before .before .search .ensures .1))
+mul-t12 : tie.Need-mul-t12
+mul-t12 c =
+    omega (arith, within-shipped _ _ _ (c .before .found2 .given .1) (c .before .before .before .search .ensures))
 
 returns : tie.Need-returns
-returns c = sought-at _ _ _ tbFound _ (c .before .found .given .1) (c .before .before .before .search .ensures .1) refl
+returns c = sought-at _ _ _ tbFound _ (c .before .found .given .1) (c .before .before .before .search .ensures) refl
 
 returns-2 : tie.Need-returns-2
 returns-2 c =
-    sought-at _ _ _ tbFound _ (c .before .found2 .given .1) (c .before .before .before .search .ensures .1) refl
+    sought-at _ _ _ tbFound _ (c .before .found2 .given .1) (c .before .before .before .search .ensures) refl
 
 returns-3 : tie.Need-returns-3
-returns-3 c = sought-at _ _ _ tbFound _ (c .enum-told .given .1) (c .before .before .search .ensures .1) refl
-
-returns-4 : tie.Need-returns-4
-returns-4 c = sought-at _ _ _ tbFound _ (c .enum-told2 .given .1) (c .before .before .search .ensures .1) refl
+returns-3 c =
+    sought-at _ _ _ tbFound _ (c .before .before .found3 .given .1) (c .before .before .before .before .search .ensures) refl
 
 pub tb-find-server-spec : {M : Type 1} → statement M
 tb-find-server-spec =
@@ -35,12 +33,11 @@ tb-find-server-spec =
     (tie.spec
     (λ c κs. search needs)
     (λ c. search needs)
-    mul-t9
+    mul-t10
     (λ c. search needs)
-    mul-t11
+    mul-t12
     (λ c. search needs)
     (λ c. search needs)
     returns
     returns-2
-    returns-3
-    returns-4)
+    returns-3)

@@ -1,9 +1,7 @@
 -- `capi::publishing::tb_read_report` meets its contract.
 use mathlib.Core.Path.{ap, _∙_}
-use Rattle.report_read.specs.Entry.{entriesOf}
-use Rattle.report_read.specs.Read.{pileBytes}
 use Rattle.c_evidence.specs.Publishing.{tbRecords}
-use Rattle.capi.proofs.ReadNumbers.{read-left}
+use Rattle.capi.proofs.Numbers.{read-code}
 use borrow.Author.Needs.{needs}
 use Rattle.capi.proofs.publishing.tb_read_report.Statement.{statement}
 use Rattle.capi.proofs.publishing.tb_read_report.Tie as tie
@@ -11,10 +9,8 @@ use Rattle.capi.proofs.publishing.tb_read_report.Tie as tie
 returns : tie.Need-returns
 returns c =
     let read = c .before .before .before .read-report in
-    let e = read .ensures in
-    let a = c .before .before .before .before .before .before .before .args in
     let is = c .read-told .ensures in
-    (is ∙ ap tbRecords (e .0), read-left (read .result) (pileBytes (entriesOf (a .text .now))) (a .out .now) is (e .1))
+    (is ∙ ap tbRecords (read .ensures .0), rw (is, read-code (read .result)) (read .ensures .1))
 
 pub tb-read-report-spec : {M : Type 1} → statement M
 tb-read-report-spec =

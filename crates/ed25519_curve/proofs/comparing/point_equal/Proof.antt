@@ -4,7 +4,7 @@ use lib.Dec.{eqb}
 use Rattle.ed25519_field.specs.Limbs.{num}
 use Rattle.ed25519_field.specs.Field.{mulF}
 use Rattle.ed25519_field.proofs.Raise.{up}
-use Rattle.ed25519_curve.specs.Coords.{ptOf}
+use Rattle.ed25519_curve.specs.Coords.{ptOf, flatOf}
 use Rattle.ed25519_curve.proofs.Equality.{equal-1, equal-2}
 use Rattle.ed25519_curve.proofs.comparing.point_equal.Statement.{statement}
 use Rattle.ed25519_curve.proofs.comparing.point_equal.Tie as tie
@@ -45,13 +45,13 @@ returns : tie.Need-returns
 returns c =
     let t = c .before .before .before in
     let a = t .before .before .before .before .before .before .before .before .before .before .args in
-    equal-1 (ptOf (a .a)) (ptOf (a .b)) _ _ (first (t .before)) (t .if1 .taken) (c .same2 .ensures
+    λ z. equal-1 (flatOf (a .a) z) (ptOf (a .b)) _ _ (first (t .before)) (t .if1 .taken) (c .same2 .ensures
     ∙ ap₂ eqb (c .before .before .mul3 .ensures .is) (c .before .mul4 .ensures .is))
 
 returns-2 : tie.Need-returns-2
 returns-2 c =
     let a = c .before .before .before .before .before .before .before .before .before .before .args in
-    equal-2 (ptOf (a .a)) (ptOf (a .b)) _ (first (c .before)) (c .if1 .left)
+    λ z. equal-2 (flatOf (a .a) z) (ptOf (a .b)) _ (first (c .before)) (c .if1 .left)
 
 pub point-equal-spec : {M : Type 1} → statement M
 point-equal-spec =

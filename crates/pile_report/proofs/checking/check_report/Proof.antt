@@ -1,5 +1,4 @@
--- `report::checking::check_report` meets its contract. What is said of the arrays is said of the pile.
-use mathlib.Core.Path.{sym}
+-- `pile_report::checking::check_report` meets its contract. What is said of the arrays is said of the pile.
 use Rattle.laws.proofs.First.{quiet-of}
 use Rattle.refusal.specs.Refusal.{refusals}
 use Rattle.pile.specs.Meaning.{GoodPile}
@@ -7,9 +6,7 @@ use Rattle.pile.specs.Pile.{recordsIn}
 use Rattle.pile.proofs.Exactly.{pile-exactly}
 use Rattle.pile_runs.specs.Convict.{verdictIn}
 use Rattle.pile_report.specs.Report.{judged, joined}
-use Rattle.pile_report.specs.declared.Report.the-variants.{Bad}
-use Rattle.pile_report.proofs.Says.{good-says}
-use Rattle.pile_report.proofs.ReportNumbers.{both-clauses}
+use Rattle.pile_report.proofs.Says.{good-says, pile-bad}
 use Rattle.pile_report.proofs.Stopping.{says-until}
 use borrow.Author.Needs.{needs}
 use Rattle.pile_report.proofs.checking.check_report.Statement.{statement}
@@ -25,12 +22,7 @@ good-of c =
     (quiet-of refusals (c .before .before .pile-code .ensures) (c .if1 .left))
 
 returns : tie.Need-returns
-returns c =
-    let start = c .before .before .before .before .before in
-    let p = start .args .pile .now in
-    let a = start .args .answers .now in
-    both-clauses p a Bad
-    (λ g. c .if1 .taken (quiet-of refusals (sym (c .before .before .pile-code .ensures)) (pile-exactly p a .1 g)))
+returns c = pile-bad _ _ (c .before .before .pile-code .ensures) (c .if1 .taken)
 
 verdicts-of-requires : tie.Need-verdicts-of-requires
 verdicts-of-requires c κs = good-of c
@@ -45,9 +37,9 @@ returns-2 c =
     let start = passed .before .before .before .before .before in
     let p = start .args .pile .now in
     let a = start .args .answers .now in
-    both-clauses p a (c .said-of .result) (good-says p a (good-of passed) (c .said-of .result)
+    good-says p a (good-of passed) (c .said-of .result)
     (says-until (verdictIn (verdicts .result)) (judged p a) (joined p) (recordsIn p) (verdicts .ensures .early)
-    (c .said-of .result) (c .said-of .ensures)))
+    (c .said-of .result) (c .said-of .ensures))
 
 pub check-report-spec : {M : Type 1} → statement M
 check-report-spec =

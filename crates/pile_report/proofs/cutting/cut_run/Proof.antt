@@ -1,14 +1,14 @@
--- `report::cutting::cut_run` meets its contract. Each return knows which tests led to it.
-use mathlib.Core.Path.{refl, sym}
+-- `pile_report::cutting::cut_run` meets its contract. Each return knows which tests led to it.
 use native.Mathlib.Omega.{arith}
-use borrow.Author.Tests.{eqb-true, eqb-false, ltb-true, ltb-false, not-true, not-false}
+use borrow.Author.Tests.{ltb-true, ltb-false}
 use Rattle.laws.specs.Pairs.{IsLeast}
 use Rattle.laws.proofs.First.{quiet-of}
 use Rattle.laws.proofs.Written.{written-whole}
 use Rattle.refusal.specs.Refusal.{refusals}
 use Rattle.pile.specs.Meaning.{GoodPile}
 use Rattle.pile.proofs.Exactly.{pile-exactly}
-use Rattle.pile_report.specs.Taking.{ConvictsIn}
+use Rattle.pile_report.specs.Taking.{ConvictsIn, code-19, code-18}
+use Rattle.pile_report.proofs.Runs.{cut-bad}
 use borrow.Author.Needs.{needs}
 use Rattle.pile_report.proofs.cutting.cut_run.Statement.{statement}
 use Rattle.pile_report.proofs.cutting.cut_run.Tie as tie
@@ -20,7 +20,7 @@ good-of : (c : tie.Else1)
 good-of c =
     let start = c .before .before .before .before .before .before in
     pile-exactly (start .args .pile .now) (start .args .answers .now) .0
-    (quiet-of refusals (c .before .before .pile-code .ensures) (eqb-true _ 0 (not-false _ (c .if1 .left))))
+    (quiet-of refusals (c .before .before .pile-code .ensures) (c .if1 .left))
 
 -- where a run is found
 run-of : (c : tie.After-i)
@@ -28,15 +28,17 @@ run-of : (c : tie.After-i)
     IsLeast (ConvictsIn (start .args .pile .now) (start .args .answers .now)) (c .i .given .0 .0) (c .i .given .0 .1 .0)
 run-of c = rw (c .i .given .1) at (c .before .before .run-in .ensures)
 
-returns : tie.Need-returns
-returns c =
-    let start = c .before .before .before .before .before .before in
-    let code = c .before .before .pile-code in
-    let good = pile-exactly (start .args .pile .now) (start .args .answers .now) in
-    (λ g. eqb-false _ 0 (not-true _ (c .if1 .taken)) (quiet-of refusals (sym (code .ensures)) (good .1 g)), refl)
+bad-returns : tie.Need-returns
+bad-returns c = cut-bad _ _ _ _ (c .before .before .pile-code .ensures) (c .if1 .taken)
 
-returns-2 : tie.Need-returns-2
-returns-2 c = ((good-of (c .before), ltb-true _ _ (c .if2 .taken)), refl)
+room-requires : tie.Need-refuse-requires
+room-requires c κs = search needs
+
+short-returns : tie.Need-returns-2
+short-returns c = (
+  rw (c .refuse .ensures) (code-19 (good-of (c .before .before)) (ltb-true _ _ (c .before .if2 .taken))),
+  rw (c .refuse .ensures),
+)
 
 run-in-requires : tie.Need-run-in-requires
 run-in-requires c κs = good-of (c .before)
@@ -50,9 +52,13 @@ put-run-requires c κs =
 
 returns-3 : tie.Need-returns-3
 returns-3 c =
-    let called = c .before .before in
-    let none = rw (c .enum-told .given .1) at (called .run-in .ensures) in
-    ((good-of (called .before .before), ltb-false _ _ (called .before .if2 .left), none), refl)
+    let told = c .before in
+    let called = told .before .before in
+    let none = rw (told .enum-told .given .1) at (called .run-in .ensures) in (
+      rw (c .refuse2 .ensures)
+          (code-18 (good-of (called .before .before)) (ltb-false _ _ (called .before .if2 .left)) none),
+      rw (c .refuse2 .ensures),
+    )
 
 returns-4 : tie.Need-returns-4
 returns-4 c =
@@ -66,10 +72,12 @@ cut-run-spec =
     tie.close
     (tie.spec
     (λ c κs. search needs)
-    returns
-    returns-2
+    bad-returns
+    room-requires
+    short-returns
     run-in-requires
     (λ c. search needs)
+    (λ c κs. search needs)
     (λ c. search needs)
     put-run-requires
     returns-3

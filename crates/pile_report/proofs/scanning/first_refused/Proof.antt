@@ -1,4 +1,4 @@
--- `report::scanning::first_refused` meets its contract. No record before k is refused.
+-- `pile_report::scanning::first_refused` meets its contract. No record before k is refused.
 use Prim.Native.Nat.{_-_, _≤_}
 use native.Mathlib.Omega.{arith}
 use Rattle.pile_runs.specs.Convict.{verdictIn}
@@ -19,17 +19,21 @@ loop-holds : tie.Need-loop-holds Inv-loop μ-loop
 loop-holds c = (omega arith, never-none (refused (verdictIn (c .args .t1))))
 
 returns : tie.Need-returns Inv-loop μ-loop
-returns c = record {
-  inside = omega arith;
-  holds = rw (c .enum-told .given .1) tt;
-  earlier = c .before .before .before .before .loop .inv .1;
-}
+returns c =
+    let is = c .before .v2 .given .1 in (
+      record {
+        inside = omega arith;
+        holds = rw is tt;
+        earlier = c .before .before .before .before .before .loop .inv .1;
+      },
+      is,
+    )
 
 loop-again : tie.Need-loop-again Inv-loop μ-loop
 loop-again c =
     let loop = c .before .before .before .before .loop in
     let vs = c .before .before .before .before .before .args .t1 in
-    (omega arith, never-more (refused (verdictIn vs)) (loop .k) (loop .inv .1) (λ t. rw (c .enum-told2 .given .1) at t))
+    (omega arith, never-more (refused (verdictIn vs)) (loop .k) (loop .inv .1) (λ t. rw (c .enum-told .given .1) at t))
 
 returns-2 : tie.Need-returns-2 Inv-loop μ-loop
 returns-2 c = λ k l. c .before .loop .inv .1 k (omega arith)

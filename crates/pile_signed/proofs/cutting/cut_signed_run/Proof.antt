@@ -1,5 +1,5 @@
--- `signed::cutting::cut_signed_run` meets its contract. Each return knows which tests led to it.
-use mathlib.Core.Path.{refl, sym, _∙_}
+-- `pile_signed::cutting::cut_signed_run` meets its contract. Each return knows which tests led to it.
+use mathlib.Core.Path.{sym, _∙_}
 use mathlib.Core.Bool.{true≢false}
 use native.Mathlib.Omega.{arith}
 use borrow.Author.Tests.{ltb-true, ltb-false}
@@ -8,7 +8,7 @@ use Rattle.laws.proofs.Written.{written-whole}
 use Rattle.pile.specs.Meaning.{WholePile, GoodPile}
 use Rattle.pile.proofs.Exactly.{whole-exactly}
 use Rattle.pile.proofs.Wholes.{whole}
-use Rattle.pile_report.specs.Taking.{ConvictsIn}
+use Rattle.pile_report.specs.Taking.{ConvictsIn, code-15, code-19, code-18}
 use Rattle.pile_signed.specs.OwnAnswers.{ownAnswers}
 use Rattle.pile_signed.proofs.Own.{own-good}
 use borrow.Author.Needs.{needs}
@@ -33,12 +33,18 @@ run-of c = rw (c .i .given .1) at (c .before .before .signed-run .ensures)
 
 returns : tie.Need-returns
 returns c =
-    let p = c .before .before .before .before .args .pile .now in
-    let b = sym (c .before .length-bad .ensures) ∙ c .if1 .taken in
-    (λ g. true≢false (sym b ∙ whole-exactly p .1 (g .pile-whole)), refl)
+    let tested = c .before in
+    let p = tested .before .before .before .before .args .pile .now in
+    let b = sym (tested .before .length-bad .ensures) ∙ tested .if1 .taken in (
+      rw (c .refuse .ensures) (code-15 (λ g. true≢false (sym b ∙ whole-exactly p .1 (g .pile-whole)))),
+      rw (c .refuse .ensures),
+    )
 
 returns-2 : tie.Need-returns-2
-returns-2 c = ((good-of (c .before), ltb-true _ _ (c .if2 .taken)), refl)
+returns-2 c = (
+  rw (c .refuse2 .ensures) (code-19 (good-of (c .before .before)) (ltb-true _ _ (c .before .if2 .taken))),
+  rw (c .refuse2 .ensures),
+)
 
 signed-run-requires : tie.Need-signed-run-requires
 signed-run-requires c κs = whole-of (c .before)
@@ -52,9 +58,13 @@ put-run-requires c κs =
 
 returns-3 : tie.Need-returns-3
 returns-3 c =
-    let called = c .before .before in
-    let none = rw (c .enum-told .given .1) at (called .signed-run .ensures) in
-    ((good-of (called .before .before), ltb-false _ _ (called .before .if2 .left), none), refl)
+    let told = c .before in
+    let called = told .before .before in
+    let none = rw (told .enum-told .given .1) at (called .signed-run .ensures) in (
+      rw (c .refuse3 .ensures)
+          (code-18 (good-of (called .before .before)) (ltb-false _ _ (called .before .if2 .left)) none),
+      rw (c .refuse3 .ensures),
+    )
 
 returns-4 : tie.Need-returns-4
 returns-4 c =
@@ -68,10 +78,13 @@ cut-signed-run-spec =
     tie.close
     (tie.spec
     (λ c κs. search needs)
+    (λ c κs. search needs)
     returns
+    (λ c κs. search needs)
     returns-2
     signed-run-requires
     (λ c. search needs)
+    (λ c κs. search needs)
     (λ c. search needs)
     put-run-requires
     returns-3

@@ -7,16 +7,22 @@ use Rattle.report_read.proofs.reading.read_report.Statement.{statement}
 use Rattle.report_read.proofs.reading.read_report.Tie as tie
 
 returns : tie.Need-returns
-returns c = let a = c .before .before .before .before .before .args in
-    read-none (a .text .now) (a .out .now) (c .before .before .list-place .ensures) (c .enum-told .given .1)
+returns c =
+    let d = c .before in
+    let a = d .before .before .before .before .before .args in
+    rw (c .refuse .ensures)
+    (read-none (a .text .now) (a .out .now) (d .before .before .list-place .ensures) (d .enum-told .given .1))
 
 all-of-requires : tie.Need-all-of-requires
 all-of-requires c κs = list-inside _ (c .before .before .before .list-place .ensures) (c .before .v .given .1)
 
 returns-2 : tie.Need-returns-2
-returns-2 c = let a = c .before .before .before .before .before .before .before .before .args in
-    read-bad (a .text .now) (a .out .now) (c .before .before .before .before .before .list-place .ensures)
-    (c .before .before .before .v .given .1) (c .before .all-of .ensures) (c .if1 .taken)
+returns-2 c =
+    let d = c .before in
+    let a = d .before .before .before .before .before .before .before .before .args in
+    rw (c .refuse2 .ensures)
+    (read-bad (a .text .now) (a .out .now) (d .before .before .before .before .before .list-place .ensures)
+    (d .before .before .before .v .given .1) (d .before .all-of .ensures) (d .if1 .taken))
 
 count-requires : tie.Need-count-requires
 count-requires c κs =
@@ -24,20 +30,25 @@ count-requires c κs =
     (c .before .before .before .v .given .1)
 
 returns-3 : tie.Need-returns-3
-returns-3 c = let a = c .before .before .before .before .before .before .before .before .before .before .args in
-    read-few (a .text .now) (a .out .now)
-    (c .before .before .before .before .before .before .before .list-place .ensures)
-    (c .before .before .before .before .before .v .given .1) (c .before .before .before .all-of .ensures)
-    (c .before .before .if1 .left) (c .before .count .ensures) (c .if2 .taken)
+returns-3 c =
+    let d = c .before in
+    let a = d .before .before .before .before .before .before .before .before .before .before .args in
+    rw (c .refuse3 .ensures)
+    (read-few (a .text .now) (a .out .now)
+    (d .before .before .before .before .before .before .before .list-place .ensures)
+    (d .before .before .before .before .before .v .given .1) (d .before .before .before .all-of .ensures)
+    (d .before .before .if1 .left) (d .before .count .ensures) (d .if2 .taken))
 
 returns-4 : tie.Need-returns-4
 returns-4 c =
-    let a = c .before .before .before .before .before .before .before .before .before .before .before .args in
-    read-many (a .text .now) (a .out .now)
-    (c .before .before .before .before .before .before .before .before .list-place .ensures)
-    (c .before .before .before .before .before .before .v .given .1)
-    (c .before .before .before .before .all-of .ensures) (c .before .before .before .if1 .left)
-    (c .before .before .count .ensures) (c .before .if2 .left) (c .if3 .taken)
+    let d = c .before in
+    let a = d .before .before .before .before .before .before .before .before .before .before .before .args in
+    rw (c .refuse4 .ensures)
+    (read-many (a .text .now) (a .out .now)
+    (d .before .before .before .before .before .before .before .before .list-place .ensures)
+    (d .before .before .before .before .before .before .v .given .1)
+    (d .before .before .before .before .all-of .ensures) (d .before .before .before .if1 .left)
+    (d .before .before .count .ensures) (d .before .if2 .left) (d .if3 .taken))
 
 any-big-requires : tie.Need-any-big-requires
 any-big-requires c κs = (
@@ -48,27 +59,31 @@ any-big-requires c κs = (
 
 returns-5 : tie.Need-returns-5
 returns-5 c =
+    let d = c .before in
     let a =
-    c .before .before .before .before .before .before .before .before .before .before .before .before .before .args in
-    read-big (a .text .now) (a .out .now)
-    (c .before .before .before .before .before .before .before .before .before .before .list-place .ensures)
-    (c .before .before .before .before .before .before .before .before .v .given .1)
-    (c .before .before .before .before .before .before .all-of .ensures)
-    (c .before .before .before .before .before .if1 .left) (c .before .before .before .before .count .ensures)
-    (c .before .before .before .if2 .left) (c .before .before .if3 .left) (c .before .any-big .ensures) (c .if4 .taken)
+    d .before .before .before .before .before .before .before .before .before .before .before .before .before .args in
+    rw (c .refuse5 .ensures)
+    (read-big (a .text .now) (a .out .now)
+    (d .before .before .before .before .before .before .before .before .before .before .list-place .ensures)
+    (d .before .before .before .before .before .before .before .before .v .given .1)
+    (d .before .before .before .before .before .before .all-of .ensures)
+    (d .before .before .before .before .before .if1 .left) (d .before .before .before .before .count .ensures)
+    (d .before .before .before .if2 .left) (d .before .before .if3 .left) (d .before .any-big .ensures) (d .if4 .taken))
 
 returns-6 : tie.Need-returns-6
 returns-6 c =
+    let d = c .before in
     let a =
-    c .before .before .before .before .before .before .before .before .before .before .before .before .before .before
+    d .before .before .before .before .before .before .before .before .before .before .before .before .before .before
     .args in
-    read-short (a .text .now) (a .out .now)
-    (c .before .before .before .before .before .before .before .before .before .before .before .list-place .ensures)
-    (c .before .before .before .before .before .before .before .before .before .v .given .1)
-    (c .before .before .before .before .before .before .before .all-of .ensures)
-    (c .before .before .before .before .before .before .if1 .left)
-    (c .before .before .before .before .before .count .ensures) (c .before .before .before .before .if2 .left)
-    (c .before .before .before .if3 .left) (c .before .before .any-big .ensures) (c .before .if4 .left) (c .if5 .taken)
+    rw (c .refuse6 .ensures)
+    (read-short (a .text .now) (a .out .now)
+    (d .before .before .before .before .before .before .before .before .before .before .before .list-place .ensures)
+    (d .before .before .before .before .before .before .before .before .before .v .given .1)
+    (d .before .before .before .before .before .before .before .all-of .ensures)
+    (d .before .before .before .before .before .before .if1 .left)
+    (d .before .before .before .before .before .count .ensures) (d .before .before .before .before .if2 .left)
+    (d .before .before .before .if3 .left) (d .before .before .any-big .ensures) (d .before .if4 .left) (d .if5 .taken))
 
 put-all-requires : tie.Need-put-all-requires
 put-all-requires c κs =
@@ -121,15 +136,21 @@ read-report-spec =
     (λ c κs. search needs)
     (λ c. search needs)
     (λ c. search needs)
+    (λ c κs. search needs)
     returns
     all-of-requires
+    (λ c κs. search needs)
     returns-2
     count-requires
+    (λ c κs. search needs)
     returns-3
+    (λ c κs. search needs)
     returns-4
     any-big-requires
+    (λ c κs. search needs)
     returns-5
     (λ c. search needs)
+    (λ c κs. search needs)
     returns-6
     put-all-requires
     (λ c. search needs)

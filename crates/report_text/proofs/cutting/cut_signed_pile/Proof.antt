@@ -1,4 +1,4 @@
--- `forward::cutting::cut_signed_pile` meets its contract.
+-- `report_text::cutting::cut_signed_pile` meets its contract.
 use borrow.Author.Needs.{needs}
 use mathlib.Core.Bool.{true≢false}
 use mathlib.Core.Path.{sym, subst, _∙_}
@@ -14,10 +14,12 @@ use Rattle.report_text.proofs.cutting.cut_signed_pile.Tie as tie
 
 returns : tie.Need-returns
 returns c =
-    let p = c .before .before .before .before .args .pile .now in
-    let b = sym (c .before .length-bad .ensures) ∙ c .if1 .taken in
-    cut-bad p (ownAnswers p) (c .before .before .before .before .args .out .now) (λ g. true≢false (sym b
-    ∙ whole-exactly p .1 (g .pile-whole)))
+    let tested = c .before in
+    let a = tested .before .before .before .before .args in
+    let p = a .pile .now in
+    let b = sym (tested .before .length-bad .ensures) ∙ tested .if1 .taken in
+    cut-bad p (ownAnswers p) (a .out .now) (c .refuse .ensures)
+    (λ g. true≢false (sym b ∙ whole-exactly p .1 (g .pile-whole)))
 
 signed-run-requires : tie.Need-signed-run-requires
 signed-run-requires c κs =
@@ -34,11 +36,14 @@ put-cut-requires c κs =
 
 returns-2 : tie.Need-returns-2
 returns-2 c =
-    let p = c .before .before .before .before .before .before .before .args .pile .now in
-    let g = own-good p (whole p (sym (c .before .before .before .before .length-bad .ensures)
-    ∙ c .before .before .before .if1 .left)) in
-    cut-none p (ownAnswers p) (c .before .before .before .before .before .before .before .args .out .now) g
-    (c .before .before .signed-run .ensures) (c .enum-told .given .1)
+    let told = c .before in
+    let called = told .before .before in
+    let passed = called .before in
+    let a = passed .before .before .before .before .args in
+    let p = a .pile .now in
+    let g = own-good p (whole p (sym (passed .before .length-bad .ensures) ∙ passed .if1 .left)) in
+    cut-none p (ownAnswers p) (a .out .now) g (called .signed-run .ensures) (told .enum-told .given .1)
+    (c .refuse2 .ensures)
 
 returns-3 : tie.Need-returns-3
 returns-3 c =
@@ -60,9 +65,11 @@ cut-signed-pile-spec =
     tie.close
     (tie.spec
     (λ c κs. search needs)
+    (λ c κs. search needs)
     returns
     signed-run-requires
     (λ c. search needs)
+    (λ c κs. search needs)
     (λ c. search needs)
     put-cut-requires
     returns-2

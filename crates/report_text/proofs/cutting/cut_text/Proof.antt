@@ -1,6 +1,6 @@
--- `forward::cutting::cut_text` meets its contract.
+-- `report_text::cutting::cut_text` meets its contract.
 use borrow.Author.Needs.{needs}
-use Rattle.report_text.proofs.Lengths.{few, pile-front, front-count, text-cut, text-none, text-much, text-short}
+use Rattle.report_text.proofs.Lengths.{few, pile-front, front-count, text-cut, text-refused}
 use Rattle.report_text.proofs.cutting.cut_text.Statement.{statement}
 use Rattle.report_text.proofs.cutting.cut_text.Tie as tie
 
@@ -35,21 +35,9 @@ returns c =
 
 returns-2 : tie.Need-returns-2
 returns-2 c =
-    let a = c .before .before .before .before .before .before .before .before .args in
-    text-none (a .text .now) (a .answers .now) (a .out .now) (c .before .before .before .read-report .ensures .0)
-    (c .enum-told .given .1)
-
-returns-3 : tie.Need-returns-3
-returns-3 c =
-    let a = c .before .before .before .before .before .before .before .before .args in
-    text-much (a .text .now) (a .answers .now) (a .out .now) (c .before .before .before .read-report .ensures .0)
-    (c .enum-told2 .given .1)
-
-returns-4 : tie.Need-returns-4
-returns-4 c =
-    let a = c .before .before .before .before .before .before .before .before .args in
-    text-short (a .text .now) (a .answers .now) (a .out .now) (c .before .before .before .read-report .ensures .0)
-    (c .enum-told3 .given .1)
+    let a = c .before .before .before .before .before .before .before .before .before .args in
+    text-refused (a .text .now) (a .answers .now) (a .out .now) (c .before .before .before .before .read-report .ensures .0)
+    (c .before .why .given .1)
 
 pub cut-text-spec : {M : Type 1} → statement M
 cut-text-spec =
@@ -64,9 +52,5 @@ cut-text-spec =
     (λ c κs. search needs)
     (λ c. search needs)
     (λ c. search needs)
-    (λ c. search needs)
-    (λ c. search needs)
     returns
-    returns-2
-    returns-3
-    returns-4)
+    returns-2)

@@ -1,4 +1,4 @@
--- `forward::cutting::put_cut` meets its contract.
+-- `report_text::cutting::put_cut` meets its contract.
 use borrow.Author.Needs.{needs}
 use Prim.Native.Nat.{_+_, _*_}
 use Rattle.laws.specs.Pasted.{part}
@@ -19,38 +19,10 @@ returns c =
 
 returns-2 : tie.Need-returns-2
 returns-2 c =
-    let a = c .before .before .before .before .before .before .before .before .before .args in
-    let p = c .before .before .before .before .put-report .ensures in
+    let a = c .before .before .before .before .before .before .before .before .before .before .args in
+    let p = c .before .before .before .before .before .put-report .ensures in
     cut-arm (a .i) (a .j) (textOf (part (4096 * a .i) (4096 * a .j + 4096) (a .pile .now))) (a .out .now) (p .0) (p .1)
-    (c .enum-told .given .1)
-
-returns-3 : tie.Need-returns-3
-returns-3 c =
-    let a = c .before .before .before .before .before .before .before .before .before .args in
-    let p = c .before .before .before .before .put-report .ensures in
-    cut-arm (a .i) (a .j) (textOf (part (4096 * a .i) (4096 * a .j + 4096) (a .pile .now))) (a .out .now) (p .0) (p .1)
-    (c .enum-told2 .given .1)
-
-returns-4 : tie.Need-returns-4
-returns-4 c =
-    let a = c .before .before .before .before .before .before .before .before .before .args in
-    let p = c .before .before .before .before .put-report .ensures in
-    cut-arm (a .i) (a .j) (textOf (part (4096 * a .i) (4096 * a .j + 4096) (a .pile .now))) (a .out .now) (p .0) (p .1)
-    (c .enum-told3 .given .1)
-
-returns-5 : tie.Need-returns-5
-returns-5 c =
-    let a = c .before .before .before .before .before .before .before .before .before .args in
-    let p = c .before .before .before .before .put-report .ensures in
-    cut-arm (a .i) (a .j) (textOf (part (4096 * a .i) (4096 * a .j + 4096) (a .pile .now))) (a .out .now) (p .0) (p .1)
-    (c .enum-told4 .given .1)
-
-returns-6 : tie.Need-returns-6
-returns-6 c =
-    let a = c .before .before .before .before .before .before .before .before .before .args in
-    let p = c .before .before .before .before .put-report .ensures in
-    cut-arm (a .i) (a .j) (textOf (part (4096 * a .i) (4096 * a .j + 4096) (a .pile .now))) (a .out .now) (p .0) (p .1)
-    (c .enum-told5 .given .1)
+    (c .before .why .given .1)
 
 pub put-cut-spec : {M : Type 1} → statement M
 put-cut-spec =
@@ -66,18 +38,6 @@ put-cut-spec =
     (λ c. search needs)
     (λ c. search needs)
     (λ c. search needs)
-    (λ c. search needs)
-    (λ c. search needs)
-    (λ c. search needs)
-    (λ c. search needs)
     returns
     (λ c. search needs)
-    returns-2
-    (λ c. search needs)
-    returns-3
-    (λ c. search needs)
-    returns-4
-    (λ c. search needs)
-    returns-5
-    (λ c. search needs)
-    returns-6)
+    returns-2)

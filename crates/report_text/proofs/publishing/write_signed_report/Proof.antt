@@ -1,4 +1,4 @@
--- `forward::publishing::write_signed_report` meets its contract.
+-- `report_text::publishing::write_signed_report` meets its contract.
 use borrow.Author.Needs.{needs}
 use mathlib.Core.Path.{refl}
 use Rattle.report_write.proofs.Piles.{pair-writable, publishes-by, pair-left, refused-left}
@@ -10,12 +10,12 @@ put-report-requires : tie.Need-put-report-requires
 put-report-requires c κs =
     let a = c .before .before .before .before .before .before .args in
     pair-writable (a .pile .now) (ownAnswers (a .pile .now))
-    (c .before .before .before .check-signed-report .ensures .1) (c .before .enum-told .given .1)
+    (c .before .before .before .check-signed-report .ensures) (c .before .enum-told .given .1)
 
 returns : tie.Need-returns
 returns c =
     let a = c .before .before .before .before .before .before .before .before .before .args in
-    let h = c .before .before .before .before .before .before .check-signed-report .ensures .1 in
+    let h = c .before .before .before .before .before .before .check-signed-report .ensures in
     let p = c .before .before .put-report .ensures in (
       publishes-by (a .pile .now) (ownAnswers (a .pile .now)) h _
           (c .before .before .before .before .enum-told .given .1) (p .0),
@@ -24,29 +24,11 @@ returns c =
 
 returns-2 : tie.Need-returns-2
 returns-2 c =
-    let a = c .before .before .before .before .before .args in
-    let h = c .before .before .check-signed-report .ensures .1 in
-    (publishes-by (a .pile .now) (ownAnswers (a .pile .now)) h _ (c .enum-told2 .given .1) refl, refl)
-
-returns-3 : tie.Need-returns-3
-returns-3 c =
     let a = c .before .before .before .before .before .before .args in
-    let h = c .before .before .before .check-signed-report .ensures .1 in (
+    let h = c .before .before .before .check-signed-report .ensures in (
       publishes-by (a .pile .now) (ownAnswers (a .pile .now)) h _ (c .before .why .given .1) refl,
-      refused-left (a .out .now) (c .before .why .given .1),
+      refused-left (c .before .why .given .0 .0) (a .out .now),
     )
-
-returns-4 : tie.Need-returns-4
-returns-4 c =
-    let a = c .before .before .before .before .before .before .args in
-    let h = c .before .before .before .check-signed-report .ensures .1 in
-    (publishes-by (a .pile .now) (ownAnswers (a .pile .now)) h _ (c .before .k .given .1) refl, refl)
-
-returns-5 : tie.Need-returns-5
-returns-5 c =
-    let a = c .before .before .before .before .before .args in
-    let h = c .before .before .check-signed-report .ensures .1 in
-    (publishes-by (a .pile .now) (ownAnswers (a .pile .now)) h _ (c .enum-told3 .given .1) refl, refl)
 
 pub write-signed-report-spec : {M : Type 1} → statement M
 write-signed-report-spec =
@@ -57,11 +39,5 @@ write-signed-report-spec =
     put-report-requires
     (λ c. search needs)
     (λ c. search needs)
-    (λ c. search needs)
-    (λ c. search needs)
-    (λ c. search needs)
     returns
-    returns-2
-    returns-3
-    returns-4
-    returns-5)
+    returns-2)

@@ -1,4 +1,4 @@
--- `publish::publishing::put_report` meets its contract.
+-- `report_write::publishing::put_report` meets its contract.
 use borrow.Author.Needs.{needs}
 use native.Mathlib.Omega.{arith}
 use Rattle.report_write.specs.Entries.{textOf}
@@ -12,8 +12,10 @@ text-size-requires c κs = let w = c .before .before .pre in (w .piled, w .few)
 returns : tie.Need-returns
 unfolding textOf
 returns c =
-    let a = c .before .before .before .before .args in
-    report-short (a .pile .now) (a .out .now) (c .before .text-size .ensures) (c .if1 .taken)
+    let tested = c .before in
+    let a = tested .before .before .before .before .args in
+    rw (c .refuse .ensures)
+    (report-short (a .pile .now) (a .out .now) (tested .before .text-size .ensures) (tested .if1 .taken))
 
 put-text-requires : tie.Need-put-text-requires
 put-text-requires c κs = let w = c .before .before .before .before .before .pre in
@@ -31,6 +33,7 @@ put-report-spec =
     tie.close
     (tie.spec
     text-size-requires
+    (λ c κs. search needs)
     returns
     put-text-requires
     (λ c. search needs)

@@ -1,4 +1,4 @@
--- `publish::publishing::write_report` meets its contract.
+-- `report_write::publishing::write_report` meets its contract.
 use borrow.Author.Needs.{needs}
 use mathlib.Core.Path.{refl}
 use Rattle.report_write.proofs.Piles.{pair-writable, publishes-by, pair-left, refused-left}
@@ -8,7 +8,7 @@ use Rattle.report_write.proofs.publishing.write_report.Tie as tie
 put-report-requires : tie.Need-put-report-requires
 put-report-requires c κs =
     let a = c .before .before .before .before .before .before .before .args in
-    pair-writable (a .pile .now) (a .answers .now) (c .before .before .before .check-report .ensures .1)
+    pair-writable (a .pile .now) (a .answers .now) (c .before .before .before .check-report .ensures)
     (c .before .enum-told .given .1)
 
 returns : tie.Need-returns
@@ -16,41 +16,17 @@ returns c =
     let a = c .before .before .before .before .before .before .before .before .before .before .args in
     let p = c .before .before .put-report .ensures in (
       publishes-by (a .pile .now) (a .answers .now)
-          (c .before .before .before .before .before .before .check-report .ensures .1) _
+          (c .before .before .before .before .before .before .check-report .ensures) _
           (c .before .before .before .before .enum-told .given .1) (p .0),
       pair-left (a .pile .now) (a .out .now) (p .0) (p .1),
     )
 
 returns-2 : tie.Need-returns-2
 returns-2 c =
-    let a = c .before .before .before .before .before .before .args in (
-      publishes-by (a .pile .now) (a .answers .now) (c .before .before .check-report .ensures .1) _
-          (c .enum-told2 .given .1) refl,
-      refl,
-    )
-
-returns-3 : tie.Need-returns-3
-returns-3 c =
     let a = c .before .before .before .before .before .before .before .args in (
-      publishes-by (a .pile .now) (a .answers .now) (c .before .before .before .check-report .ensures .1) _
+      publishes-by (a .pile .now) (a .answers .now) (c .before .before .before .check-report .ensures) _
           (c .before .why .given .1) refl,
-      refused-left (a .out .now) (c .before .why .given .1),
-    )
-
-returns-4 : tie.Need-returns-4
-returns-4 c =
-    let a = c .before .before .before .before .before .before .before .args in (
-      publishes-by (a .pile .now) (a .answers .now) (c .before .before .before .check-report .ensures .1) _
-          (c .before .k .given .1) refl,
-      refl,
-    )
-
-returns-5 : tie.Need-returns-5
-returns-5 c =
-    let a = c .before .before .before .before .before .before .args in (
-      publishes-by (a .pile .now) (a .answers .now) (c .before .before .check-report .ensures .1) _
-          (c .enum-told3 .given .1) refl,
-      refl,
+      refused-left (c .before .why .given .0 .0) (a .out .now),
     )
 
 pub write-report-spec : {M : Type 1} → statement M
@@ -62,11 +38,5 @@ write-report-spec =
     put-report-requires
     (λ c. search needs)
     (λ c. search needs)
-    (λ c. search needs)
-    (λ c. search needs)
-    (λ c. search needs)
     returns
-    returns-2
-    returns-3
-    returns-4
-    returns-5)
+    returns-2)

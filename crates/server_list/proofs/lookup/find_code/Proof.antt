@@ -1,5 +1,5 @@
--- `servers::lookup::find_code` meets its contract. By the answer of the search.
-use Rattle.server_list.proofs.Seeking.{code-at}
+-- `server_list::lookup::find_code` meets its contract. By the answer of the search.
+use Rattle.server_list.proofs.Seeking.{refusal-at}
 use borrow.Author.Needs.{needs}
 use Rattle.server_list.proofs.lookup.find_code.Statement.{statement}
 use Rattle.server_list.proofs.lookup.find_code.Tie as tie
@@ -12,10 +12,6 @@ find-code-spec =
     (λ c. search needs)
     (λ c. search needs)
     (λ c. search needs)
-    (λ c κs. search needs)
-    (λ c. search needs)
-    (λ c κs. search needs)
-    (λ c. search (code-at, needs))
-    (λ c. search (code-at, needs))
-    (λ c. search (code-at, needs))
-    (λ c. search (code-at, needs)))
+    (λ c. search (refusal-at, needs))
+    (λ c. search (refusal-at, needs))
+    (λ c. search (refusal-at, needs)))

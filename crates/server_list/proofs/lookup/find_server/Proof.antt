@@ -1,4 +1,4 @@
--- `servers::lookup::find_server` meets its contract. By the answer of the search.
+-- `server_list::lookup::find_server` meets its contract. By the answer of the search.
 use Rattle.server_list.proofs.Matching.{within-owner, within-shipped, part-at, place-at}
 use borrow.Author.Needs.{needs}
 use Rattle.server_list.proofs.lookup.find_server.Statement.{statement}
@@ -17,11 +17,6 @@ find-server-spec =
     (λ c. search needs)
     (λ c. search needs)
     (λ c. search needs)
-    (λ c. search needs)
-    (λ c. search needs)
-    (λ c. search needs)
-    (λ c. search needs)
-    (λ c. (search (part-at, needs), search (place-at, needs)))
     (λ c. (search (part-at, needs), search (place-at, needs)))
     (λ c. (search (part-at, needs), search (place-at, needs)))
     (λ c. (search (part-at, needs), search (place-at, needs))))

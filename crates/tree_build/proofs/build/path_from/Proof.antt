@@ -1,16 +1,31 @@
--- `batch::build::path_from` meets its contract. Each way out has its law, and what is left in the buffer has one.
+-- `tree_build::build::path_from` meets its contract. Each way out has its law, and what is left in the buffer has one.
 use mathlib.Core.Path.{refl}
 use Rattle.tree_build.proofs.Leaves.{held-rows}
-use Rattle.tree_build.proofs.BuildingLaws.{place-short, place-written, from-left}
+use Rattle.tree_build.proofs.BuildingLaws.{path-none, path-short, path-written, from-left}
 use borrow.Author.Needs.{needs}
 use Rattle.tree_build.proofs.build.path_from.Statement.{statement}
 use Rattle.tree_build.proofs.build.path_from.Tie as tie
+
+returns : tie.Need-returns
+returns c = (
+  path-none (c .before .before .held-of .ensures .0) _ _ (c .before .if1 .taken) (c .refuse .ensures),
+  rw (c .refuse .ensures),
+)
+
+returns-2 : tie.Need-returns-2
+returns-2 c =
+    let at-depth = c .before .before in
+    let there = at-depth .before in (
+      path-short (there .before .held-of .ensures .0) (at-depth .depth .ensures .0) (there .if1 .left) (c .before .if2 .taken)
+          (c .refuse2 .ensures),
+      rw (c .refuse2 .ensures),
+    )
 
 returns-3 : tie.Need-returns-3
 returns-3 c =
     let fits = c .before .before .before .before in
     let there = fits .before .before in (
-      place-written (there .before .held-of .ensures .0) (fits .before .depth .ensures .0) (there .if1 .left) refl
+      path-written (there .before .held-of .ensures .0) (fits .before .depth .ensures .0) (there .if1 .left) refl
           (fits .if2 .left),
       search (from-left, needs),
     )
@@ -20,11 +35,13 @@ path-from-spec =
     tie.close
     (tie.spec
     (λ c κs. search needs)
-    (λ c. search needs)
+    (λ c κs. search needs)
+    returns
     (λ c κs. search needs)
     (λ c. search needs)
     (λ c. search needs)
-    (λ c. search (place-short, needs))
+    (λ c κs. search needs)
+    returns-2
     (λ c κs. search (held-rows, needs))
     (λ c. search needs)
     (λ c. search needs)

@@ -1,11 +1,27 @@
--- `batch::build::rows` meets its contract. Each way out has its law, and what is left in the buffer has one.
+-- `tree_build::build::rows` meets its contract. Each way out has its law, and what is left in the buffer has one.
 use native.Mathlib.Omega.{arith}
 use lib.Pow.{pow-pos}
 use Rattle.tree_build.proofs.Ascending.{rows-puts}
-use Rattle.tree_build.proofs.BuildingLaws.{rows-short, rows-written, rows-left}
+use Rattle.tree_build.proofs.BuildingLaws.{rows-none, rows-short, rows-written, rows-left}
 use borrow.Author.Needs.{needs}
 use Rattle.tree_build.proofs.build.rows.Statement.{statement}
 use Rattle.tree_build.proofs.build.rows.Tie as tie
+
+returns : tie.Need-returns
+returns c = (
+  rows-none (c .before .before .count-of .ensures .0) _ (c .before .if1 .taken) (c .refuse .ensures),
+  rw (c .refuse .ensures),
+)
+
+returns-2 : tie.Need-returns-2
+returns-2 c =
+    let at-bytes = c .before .before in
+    let at-depth = at-bytes .before in
+    let there = at-depth .before in (
+      rows-short (there .before .count-of .ensures .0) (at-depth .depth .ensures .0) (there .if1 .left)
+          (at-bytes .bytes .ensures) (c .before .if2 .taken) (c .refuse2 .ensures),
+      rw (c .refuse2 .ensures),
+    )
 
 sub-put-node : tie.Need-sub-put-node
 sub-put-node c =
@@ -31,10 +47,12 @@ rows-spec =
     tie.close
     (tie.spec
     (λ c κs. search needs)
-    (λ c. search needs)
+    (λ c κs. search needs)
+    returns
     (λ c κs. search needs)
     (λ c κs. search needs)
-    (λ c. search (rows-short, needs))
+    (λ c κs. search needs)
+    returns-2
     (λ c κs. search needs)
     sub-put-node
     (λ c κs. search needs)

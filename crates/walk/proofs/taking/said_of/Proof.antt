@@ -24,7 +24,7 @@ returns-2 c =
     let s = c .before .before .before .before .before .before .before in
     let w = s .args .w in
     ends w (s .args .window) (s .args .pile .now) (2 * w .count) (c .check-report .result) (s .pre .0) (omega arith) refl
-    (c .check-report .ensures .1)
+    (c .check-report .ensures)
 
 pub said-of-spec : {M : Type 1} → statement M
 said-of-spec =

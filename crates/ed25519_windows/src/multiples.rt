@@ -1,0 +1,38 @@
+// Rows of the multiples of a point.
+ghost use Rattle.ed25519_curve.specs.Coords.{Even};
+ghost use Rattle.ed25519_windows.specs.Windows.{Rows, Turned};
+use ed25519_curve::Row;
+use ed25519_curve::joined;
+use ed25519_curve::opposite;
+use ed25519_curve::row_of;
+use ed25519_curve::with_t;
+use ed25519_curve::zero_point;
+
+// 0, P, 2P, .. 8P, of P's own row.
+pub fn multiples(r: Row) -> [Row; 9]
+    requires { ⌜ Even r ⌝ }
+    ensures { λ t. ⌜ Rows r t 9 ⌝ }
+{
+    let mut q = zero_point();
+    let mut t = [row_of(q); 9];
+    let mut i: usize = 1;
+    while i < 9 {
+        let n = with_t(joined(q, r));
+        let w = row_of(n);
+        t[i] = w;
+        q = n;
+        i += 1;
+    }
+    t
+}
+
+// A row, or its opposite.
+pub fn signed(r: Row, off: bool) -> Row
+    requires { ⌜ Even r ⌝ }
+    ensures { λ s. ⌜ Turned off r s ⌝ }
+{
+    if off {
+        return opposite(r);
+    }
+    r
+}

@@ -1,0 +1,47 @@
+// The multiples themselves.
+ghost use Rattle.digits.specs.Digits.{value};
+ghost use Rattle.ed25519_field.specs.Limbs.{radix, Digits};
+ghost use Rattle.ed25519_curve.specs.Coords.{GoodFlat, Even};
+ghost use Rattle.ed25519_windows.specs.Windows.{Turn, Paired};
+use super::base::base_row;
+use super::digit::digit;
+use super::doubles::sixteen;
+use super::multiples::multiples;
+use super::multiples::signed;
+use ed25519_curve::Flat;
+use ed25519_curve::Row;
+use ed25519_curve::joined;
+use ed25519_curve::with_t;
+use ed25519_curve::without_t;
+use ed25519_curve::zero_flat;
+use ed25519_scalar::Scalar;
+
+// 16 q, and the points of two rows or their opposites.
+fn turned(q: Flat, x: Row, xoff: bool, y: Row, yoff: bool) -> Flat
+    requires { ⌜ GoodFlat q × Even x × Even y ⌝ }
+    ensures { λ r. ⌜ Turn q x xoff y yoff r ⌝ }
+{
+    let m = sixteen(q);
+    let n = with_t(joined(m, signed(x, xoff)));
+    without_t(joined(n, signed(y, yoff)))
+}
+
+// [s]B + [k]A, where u is the row of A.
+pub fn times_two(s: Scalar, k: Scalar, u: Row) -> Flat
+    requires { ⌜ Digits s × Digits k × Even u ⌝ }
+    ensures { λ r. ⌜ Paired u (value radix s) (value radix k) r ⌝ }
+{
+    let v = multiples(u);
+    let mut q = zero_flat();
+    let mut i: usize = 64;
+    while 0 < i {
+        i -= 1;
+        let d = digit(s, i);
+        let e = digit(k, i);
+        let n = e.size;
+        let y = v[n];
+        let next = turned(q, base_row(d.size), d.off, y, e.off);
+        q = next;
+    }
+    q
+}
