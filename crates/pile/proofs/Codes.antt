@@ -1,7 +1,7 @@
 -- The codes of a record: of document 01's order, 16, 14 and 1 to 13, none is above 16. So a refusal of a record is told
 -- from those of a whole pile, 17 to 19, by its number.
 use Prim.Native.Nat.{ℕ, _≤_}
-use mathlib.Core.Path.{_≡_, sym, _∙_, ap}
+use mathlib.Core.Path.{_≡_}
 use mathlib.Core.Bool.{Bool, true, false, cond}
 use mathlib.Core.List.{List, [], _∷_}
 use native.Mathlib.Omega.{arith}

@@ -1,6 +1,6 @@
 -- Which codes the check of a report tells: none above 18, and 18 exactly where the pile has all that a report has but
 -- the pair. The codes of a record are not above 16, so that none is taken for 18.
-use mathlib.Core.Path.{_≡_, refl, ap}
+use mathlib.Core.Path.{_≡_, ap}
 use mathlib.Core.List.{List}
 use mathlib.Core.Logic.{_↔_}
 use Prim.Native.Nat.{ℕ, _≤_}

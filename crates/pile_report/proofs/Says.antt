@@ -21,7 +21,7 @@ use Rattle.pile_runs.specs.declared.Span.{Span}
 use Rattle.pile_runs.specs.declared.Span.the-variants.{Places, Nothing}
 use Rattle.pile_runs.proofs.Find.{once}
 use Rattle.pile_runs.proofs.Pair.{pair-of-run}
-use Rattle.laws.specs.Least.{IsFirst, Never}
+use Rattle.laws.specs.Least.{Never}
 use Rattle.pile_report.specs.Report.{judged, joined, refused, loose, Says, SaysOf, Reports}
 use Rattle.pile_report.specs.Report.{RecordsRefused, of-record, code-17, code-18, code-15, of-records}
 use Rattle.pile_report.specs.declared.Report.{Report}

@@ -6,7 +6,7 @@ use mathlib.Core.Bool.{Bool, true, false, not}
 use mathlib.Core.List.{List, [], _∷_, _++_}
 use native.Mathlib.Omega.{arith}
 use lib.Dec.{eqb}
-use lib.ListN.{length, getD, drop, length-append, length-replicate}
+use lib.ListN.{length, getD, length-append, length-replicate}
 use borrow.Author.Tests.{eqb-true, lt-ltb, le-ltb, ltb-false, not-true, not-false}
 use Rattle.laws.specs.Pick.{pick, either}
 use Rattle.laws.specs.Pasted.{pasted, fronted}

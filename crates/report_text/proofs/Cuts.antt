@@ -1,13 +1,13 @@
 -- The text of a run that convicts: its records can be written, and the writer's answer is that of the cut.
-use Prim.Native.Nat.{ℕ, _+_, _*_, _-_, _/_, _≤_, _<_}
+use Prim.Native.Nat.{ℕ, _+_, _*_, _-_, _≤_, _<_}
 use mathlib.Core.Path.{_≡_, refl, sym, subst, _∙_, ap}
 use mathlib.Core.Bool.{Bool, true, false, cond}
 use mathlib.Core.List.{List, []}
 use native.Mathlib.Omega.{arith}
-use lib.Dec.{T, eqb, ltb}
+use lib.Dec.{ltb}
 use lib.ListN.{length, take, drop}
 use lib.Seq.{take-take, drop-drop}
-use Rattle.laws.specs.Pasted.{part, fronted}
+use Rattle.laws.specs.Pasted.{part}
 use Rattle.laws.specs.Written.{written}
 use Rattle.laws.proofs.Pasted.{length-part}
 use Rattle.laws.proofs.Pieces.{drop-take}
@@ -15,11 +15,9 @@ use Rattle.refusal.specs.Refusal.{refusal}
 use Rattle.refusal.specs.declared.Refusal.{Refusal}
 use Rattle.pile.specs.Pile.{recordsIn, recordAt}
 use Rattle.pile.specs.Meaning.{GoodPile}
-use Rattle.pile_runs.specs.Clash.{valid}
 use Rattle.pile_runs.specs.declared.Span.{Span}
 use Rattle.pile_runs.specs.declared.Span.the-variants.{Places, Nothing}
 use Rattle.pile_runs.specs.Spans.{Answers}
-use Rattle.pile_report.specs.Report.{judged}
 use Rattle.pile_report.specs.Taking.{ConvictsIn, code-15, code-18, Takes}
 use Rattle.pile_report.specs.declared.Taken.{Taken}
 use Rattle.pile_report.specs.declared.Taken.the-variants as taken
@@ -27,7 +25,7 @@ use Rattle.pile_report.proofs.Runs.{takes-once}
 use Rattle.report_write.specs.declared.Published.{Published}
 use Rattle.report_write.specs.declared.Published.the-variants as published
 use Rattle.report_write.specs.Entries.{textOf}
-use Rattle.report_write.specs.Pieces.{Fits, Recorded, Piled, Writable}
+use Rattle.report_write.specs.Pieces.{Recorded, Piled, Writable}
 use Rattle.report_write.specs.Published.{publishedNumber}
 use Rattle.report_write.specs.Published.{roomed as publishRoomed}
 use Rattle.report_write.proofs.Piles.{valid-undamaged, record-long, refused-left}

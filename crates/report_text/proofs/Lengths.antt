@@ -1,12 +1,12 @@
 -- How many bytes the records of a text have, and what is read of them at the front of a buffer.
-use Prim.Native.Nat.{ℕ, suc, _+_, _*_, _≤_}
+use Prim.Native.Nat.{ℕ, suc, _*_, _≤_}
 use mathlib.Core.Path.{_≡_, refl, sym, _∙_, ap}
 use mathlib.Core.Bool.{Bool, true, false}
-use mathlib.Core.List.{List, [], _∷_, _++_}
+use mathlib.Core.List.{List, [], _∷_}
 use native.Mathlib.Omega.{arith}
 use borrow.Author.Tests.{ltb-false}
 use lib.Dec.{eqb, ltb}
-use lib.ListN.{length, take, drop}
+use lib.ListN.{length, take}
 use lib.Seq.{take-at}
 use Rattle.laws.specs.Pasted.{fronted}
 use Rattle.laws.specs.Pick.{pick}
@@ -15,9 +15,8 @@ use Rattle.refusal.specs.Refusal.{refusal}
 use Rattle.refusal.specs.declared.Refusal.{Refusal}
 use Rattle.json_tokens.specs.declared.Skip.{Skip}
 use Rattle.json_tokens.specs.declared.Skip.the-variants as skip
-use Rattle.report_read.specs.Entry.{Entry, these, unread, elementsOf, allOf, entriesAt, listPlace, entriesFrom, entriesOf}
+use Rattle.report_read.specs.Entry.{these, unread, elementsOf, allOf, entriesAt, listPlace, entriesFrom, entriesOf}
 use Rattle.report_read.specs.Read.{anyBig, readOf, readNumber, pileBytes}
-use Rattle.report_read.specs.Record.{recordsOf}
 use Rattle.report_read.specs.declared.Read.{Read}
 use Rattle.report_read.specs.declared.Read.the-variants.{Records, Refused}
 use Rattle.report_read.proofs.Piles.{records-length}

@@ -1,12 +1,12 @@
 -- A pile that the check of a report accepts can be written; and the writer's answer is settled.
-use Prim.Native.Nat.{ℕ, _+_, _*_, _/_, _≤_, _<_}
+use Prim.Native.Nat.{ℕ, _+_, _*_, _≤_, _<_}
 use mathlib.Core.Path.{_≡_, refl, sym, subst, _∙_, ap}
-use mathlib.Core.Bool.{Bool, true, false, not, cond}
-use mathlib.Core.List.{List, [], _∷_}
+use mathlib.Core.Bool.{Bool, true, false, cond}
+use mathlib.Core.List.{List, []}
 use native.Mathlib.Omega.{arith}
 use lib.Dec.{T, eqb, ltb}
 use borrow.Author.Tests.{lt-ltb, le-ltb}
-use lib.ListN.{length, take, drop, length-take, length-drop}
+use lib.ListN.{length, length-take, length-drop}
 use Rattle.laws.specs.Pasted.{fronted}
 use Rattle.laws.specs.Written.{written}
 use Rattle.laws.proofs.First.{row-quiet, test-quiet}
@@ -28,7 +28,7 @@ use Rattle.report_write.specs.declared.Published.{Published}
 use Rattle.report_write.specs.declared.Published.the-variants.{Text, Refused}
 use Rattle.report_write.specs.Entries.{textOf}
 use Rattle.report_write.specs.Published.{roomed, publishedOf, Publishes, publishedNumber, publishedBytes}
-use Rattle.report_write.specs.Pieces.{Fits, Recorded, Piled, Writable}
+use Rattle.report_write.specs.Pieces.{Recorded, Writable}
 
 -- a record to which no code applies is whole
 code-undamaged : (pile answers : List ℕ) (k : ℕ) → judgeCode pile answers k .code ≡ 0 → Undamaged (recordAt pile k)

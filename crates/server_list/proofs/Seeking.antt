@@ -12,7 +12,7 @@ use Rattle.refusal.specs.Refusal.{refusal}
 use Rattle.refusal.specs.declared.Refusal.{Refusal}
 use Rattle.server_list.specs.Lists.{whole, serverCount, servesAt}
 use Rattle.server_list.specs.Lookup.{whereRefusal, firstIn, known, sought}
-use Rattle.server_list.specs.Meaning.{WholeLists, IsFirstIn, NotIn, NotFound, code-21, code-22, FindsServer}
+use Rattle.server_list.specs.Meaning.{WholeLists, IsFirstIn, NotIn, code-21, code-22, FindsServer}
 use Rattle.server_list.specs.declared.Where.{Where}
 use Rattle.server_list.specs.declared.Where.the-variants.{Owner, Shipped, Refused}
 
