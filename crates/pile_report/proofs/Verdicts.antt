@@ -1,6 +1,6 @@
 -- Laws for the loops that gather the verdicts w on the records of a pile, one after the other: the same whoever says
 -- whether signatures verify.
-use mathlib.Core.Path.{_≡_, sym, subst}
+use mathlib.Core.Path.{_≡_, refl, sym, subst, _∙_}
 use mathlib.Core.Bool.{Bool, true, false, not, _||_, true≢false}
 use mathlib.Core.List.{List, []}
 use Prim.Native.Nat.{ℕ, _+_, _-_, _≤_, _<_}
@@ -12,7 +12,7 @@ use Rattle.laws.proofs.Fill.{fill-next}
 use Rattle.pile_runs.specs.Clash.{valid}
 use Rattle.pile_runs.specs.Convict.{verdictIn}
 use Rattle.check_response.specs.declared.Verdict.{Verdict}
-use Rattle.pile_report.specs.Promises.{Gathered}
+use Rattle.pile_report.specs.Promises.{UpToRefused, Gathered}
 
 -- the verdicts on the first k of n records are known
 pub record Gathering (w : ℕ → Verdict) (n k : ℕ) (vs : List Verdict) : Type 0 where

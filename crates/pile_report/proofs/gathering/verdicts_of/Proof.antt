@@ -1,6 +1,6 @@
 -- `pile_report::gathering::verdicts_of` meets its contract. Each place passed holds the verdict on its record.
 use mathlib.Core.Path.{_≡_, refl, sym, _∙_}
-use Prim.Native.Nat.{_-_}
+use Prim.Native.Nat.{_-_, _<_}
 use native.Mathlib.Omega.{arith}
 use Rattle.pile.specs.Pile.{recordsIn}
 use Rattle.pile.proofs.Exactly.{judged-at}

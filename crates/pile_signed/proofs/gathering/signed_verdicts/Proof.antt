@@ -1,6 +1,6 @@
 -- `pile_signed::gathering::signed_verdicts` meets its contract. Each place passed holds the verdict on its record.
 use mathlib.Core.Path.{_≡_, refl, sym, ap, _∙_}
-use Prim.Native.Nat.{_-_}
+use Prim.Native.Nat.{_-_, _<_}
 use native.Mathlib.Omega.{arith}
 use Rattle.pile.specs.Pile.{recordsIn}
 use Rattle.pile.proofs.Exactly.{judged-at}
