@@ -11,7 +11,7 @@ use lib.ListN.{length}
 use Rattle.ed25519_field.specs.Limbs.{radix, Digits}
 use Rattle.ed25519_curve.specs.declared.Point.{Point as Coords}
 use Rattle.ed25519_curve.specs.declared.Flat.{Flat}
-use Rattle.ed25519_curve.specs.declared.Row.{Row}
+use Rattle.ed25519_curve.specs.declared.Addend.{Addend}
 use Rattle.ed25519_curve.specs.Points.{base, pointMul, pointAdd, pointEqual}
 use Rattle.ed25519_curve.specs.Coords.{ptOf, flatOf, Cached, Opposed}
 use Rattle.ed25519_group_laws.specs.Affine.{Affine, timesOf, pointOf}
@@ -32,7 +32,7 @@ digits-low l h e =
     let k : value radix l < 2 ^ 255 = rw h at (value-lt 2251799813685247 l e) in
     lt-trans k (lit< tt)
 
-pub equation-is : (a r : Coords) (u m : Row) (q : Flat) (b : Bool) (S K : ℕ) → Itself (ptOf a) → Itself (ptOf r)
+pub equation-is : (a r : Coords) (u m : Addend) (q : Flat) (b : Bool) (S K : ℕ) → Itself (ptOf a) → Itself (ptOf r)
     → S < 2 ^ 256 → K < 2 ^ 256 → Cached (ptOf a) u → Opposed u m → Paired m S K q
     → ((t : ℕ) → b ≡ pointEqual (flatOf q t) (ptOf r)) → b ≡ groupEquation (ptOf a) (ptOf r) S K
 equation-is a r u m q b S K sa sr ls lk c o w e =

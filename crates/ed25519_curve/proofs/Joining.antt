@@ -6,7 +6,7 @@ use Rattle.digits.proofs.Mods.{add-cong, mul-cong}
 use Rattle.ed25519_field.specs.Field.{p, addF, subF, mulF}
 use Rattle.ed25519_field.specs.Limbs.{num, Limbs}
 use Rattle.ed25519_field.proofs.Elements.{in-left, in-right, mul-rest, mul-most, sub-below, difference, minus-plus}
-use Rattle.ed25519_curve.specs.declared.Row.{Row}
+use Rattle.ed25519_curve.specs.declared.Addend.{Addend}
 use Rattle.ed25519_curve.specs.Points.{Pt, twoD, addWith, pointAdd}
 use Rattle.ed25519_curve.specs.Coords.{Cached, oppositeOf, Opposed, Even}
 
@@ -38,7 +38,7 @@ times-minus x y h =
     (add-cong p (n * y) (x * y % p) (n * y) (x * y) refl (mul-rest x y) ∙ ap (λ k. k % p) e
     ∙ mul-cong p (n + x) y 0 y (minus-plus 0 x h) refl ∙ ap (λ k. k % p) z)
 
-pub opposed : (r s : Row) → s .minus ≡ r .plus → s .plus ≡ r .minus → s .twice ≡ r .twice
+pub opposed : (r s : Addend) → s .minus ≡ r .plus → s .plus ≡ r .minus → s .twice ≡ r .twice
     → num (s .scaled) ≡ subF 0 (num (r .scaled)) → Limbs 1 (s .scaled) → Opposed r s
 opposed r s em ep et es l = record { even = even; is = is }
   where
@@ -66,11 +66,11 @@ swap-add x y =
     let e : x * (y + y) ≡ (x + x) * y = omega arith in
     in-right x (y + y) ∙ ap (λ n. n % p) e ∙ sym (in-left (x + x) y)
 
-pub joined-is : (P Q : Pt) (r : Row) → Cached Q r
+pub summed-is : (P Q : Pt) (r : Addend) → Cached Q r
     → addWith (mulF (subF (P .Y) (P .X)) (num (r .minus))) (mulF (addF (P .Y) (P .X)) (num (r .plus)))
     (mulF (P .T) (num (r .scaled))) (mulF (P .Z) (num (r .twice))) ≡ pointAdd P Q
 unfolding pointAdd
-joined-is P Q r h =
+summed-is P Q r h =
     let c : mulF (P .T) (num (r .scaled)) ≡ mulF (mulF (P .T) twoD) (Q .T) =
     ap (mulF (P .T)) (h .scaled-is) ∙ swap-mul (P .T) (Q .T) twoD in
     let e : mulF (P .Z) (num (r .twice)) ≡ mulF (addF (P .Z) (P .Z)) (Q .Z) =

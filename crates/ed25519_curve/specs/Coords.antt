@@ -6,7 +6,7 @@ use Rattle.ed25519_field.specs.Limbs.{num, Limbs}
 use Rattle.ed25519_curve.specs.declared.Point.{Point}
 use Rattle.ed25519_curve.specs.declared.Flat.{Flat}
 use Rattle.ed25519_curve.specs.declared.Ends.{Ends}
-use Rattle.ed25519_curve.specs.declared.Row.{Row}
+use Rattle.ed25519_curve.specs.declared.Addend.{Addend}
 use Rattle.ed25519_curve.specs.Points.{Pt, twoD, finishOf, pointDouble}
 
 abbrev pub ptOf : Point → Pt
@@ -43,14 +43,14 @@ pub record Doubled (X Y Z : ℕ) (R : Pt) : Type 0 where
   pub is : (t : ℕ) → R ≡ pointDouble (record { X = X; Y = Y; Z = Z; T = t })
 
 -- a row that may be multiplied
-pub record Even (r : Row) : Type 0 where
+pub record Even (r : Addend) : Type 0 where
   pub minus : Limbs 3 (r .minus)
   pub plus : Limbs 3 (r .plus)
   pub twice : Limbs 2 (r .twice)
   pub scaled : Limbs 1 (r .scaled)
 
 -- the row of P
-pub record Cached (P : Pt) (r : Row) : Type 0 where
+pub record Cached (P : Pt) (r : Addend) : Type 0 where
   pub minus-is : num (r .minus) ≡ subF (P .Y) (P .X)
   pub plus-is : num (r .plus) ≡ addF (P .Y) (P .X)
   pub twice-is : num (r .twice) ≡ addF (P .Z) (P .Z)
@@ -62,6 +62,6 @@ abbrev pub oppositeOf : Pt → Pt
 oppositeOf P = record { X = subF 0 (P .X); Y = P .Y; Z = P .Z; T = subF 0 (P .T) }
 
 -- s is the row of the opposite of any point of which r is the row
-pub record Opposed (r s : Row) : Type 0 where
+pub record Opposed (r s : Addend) : Type 0 where
   pub even : Even r → Even s
   pub is : (P : Pt) → P .X ≤ p → P .T ≤ p → Cached P r → Cached (oppositeOf P) s

@@ -4,9 +4,9 @@ ghost use Rattle.ed25519_field.specs.Field.{addF, subF, mulF};
 ghost use Rattle.ed25519_field.specs.Limbs.{num, Limbs};
 ghost use Rattle.ed25519_curve.specs.Coords.{Good, endOf, Loose, Even};
 ghost use Rattle.ed25519_curve.specs.Points.{addWith};
+use super::Addend;
 use super::Ends;
 use super::Point;
-use super::Row;
 use ed25519_field::Fe;
 use ed25519_field::add;
 use ed25519_field::mul;
@@ -25,7 +25,7 @@ fn add_with(a: Fe, b: Fe, c: Fe, d: Fe) -> Ends
 }
 
 // p with the row's point added.
-pub fn joined(p: Point, r: Row) -> Ends
+pub fn summed(p: Point, r: Addend) -> Ends
     requires { ⌜ Good p × Even r ⌝ }
     ensures { λ s. ⌜
         (endOf s ≡ addWith (mulF (subF (num (p .y)) (num (p .x))) (num (r .minus)))

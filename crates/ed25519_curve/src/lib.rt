@@ -6,7 +6,7 @@ mod doubling;
 mod finishing;
 mod rows;
 
-pub use adding::joined;
+pub use adding::summed;
 pub use comparing::point_equal;
 pub use constants::zero_flat;
 pub use constants::zero_point;
@@ -41,7 +41,7 @@ pub struct Ends {
 }
 
 // What an addition takes of its second point: Y - X, Y + X, 2 Z and 2 d T.
-pub struct Row {
+pub struct Addend {
     pub minus: Fe,
     pub plus: Fe,
     pub twice: Fe,

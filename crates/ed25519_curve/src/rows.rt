@@ -2,14 +2,14 @@
 ghost use mathlib.Core.Path.{_≡_};
 ghost use Rattle.ed25519_field.specs.Limbs.{Limbs};
 ghost use Rattle.ed25519_curve.specs.Coords.{ptOf, Good, Cached, Opposed};
+use super::Addend;
 use super::Point;
-use super::Row;
 use super::constants::two_d;
 use ed25519_field::add;
 use ed25519_field::mul;
 use ed25519_field::sub;
 
-pub fn row_of(p: Point) -> Row
+pub fn row_of(p: Point) -> Addend
     requires { ⌜ Good p ⌝ }
     ensures { λ r. ⌜ Cached (ptOf p) r ⌝ }
 {
@@ -21,7 +21,7 @@ pub fn row_of(p: Point) -> Row
     let plus = add(y, x);
     let twice = add(z, z);
     let scaled = mul(t, two_d());
-    Row {
+    Addend {
         minus,
         plus,
         twice,
@@ -30,7 +30,7 @@ pub fn row_of(p: Point) -> Row
 }
 
 // The row of (-x, y).
-pub fn opposite(r: Row) -> Row
+pub fn opposite(r: Addend) -> Addend
     requires { ⌜ Limbs 1 (r .scaled) ⌝ }
     ensures { λ s. ⌜ Opposed r s ⌝ }
 {
@@ -39,7 +39,7 @@ pub fn opposite(r: Row) -> Row
     let twice = r.twice;
     let t = r.scaled;
     let scaled = ed25519_field::minus(t);
-    Row {
+    Addend {
         minus,
         plus,
         twice,

@@ -98,11 +98,11 @@ module _ (u v x : ℕ) (u-below : u < p) (v-other : v % p ≡ 0 → ⊥) (solves
   W-is =
       let v8 : v ^ 4 * v ^ 4 ≡ v ^ 7 * v = sym (pow-add v 4 4) ∙ pow-suc v 7 in
       let s : v * (x * x) * v ^ 7 ≡ x * v ^ 4 * (x * v ^ 4) =
-      joined x v (v ^ 4) (v ^ 7) (ap (λ (k : ℕ). x * x * k) v8) in
+      summed x v (v ^ 4) (v ^ 7) (ap (λ (k : ℕ). x * x * k) v8) in
       mul-cong p u (v ^ 7) (v * (x * x)) (v ^ 7) (mod-eq-of-lt u-below ∙ sym solves) refl ∙ ap (λ (k : ℕ). k % p) s
     where
-      joined : (x v v4 v7 : ℕ) → x * x * (v4 * v4) ≡ x * x * (v7 * v) → v * (x * x) * v7 ≡ x * v4 * (x * v4)
-      joined x v v4 v7 e = omega arith
+      summed : (x v v4 v7 : ℕ) → x * x * (v4 * v4) ≡ x * x * (v7 * v) → v * (x * x) * v7 ≡ x * v4 * (x * v4)
+      summed x v v4 v7 e = omega arith
 
   -- a root of 1: t = (x v^4)^((p-1)/2)
   t : ℕ

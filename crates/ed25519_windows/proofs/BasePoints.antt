@@ -15,7 +15,7 @@ use Rattle.ed25519_field.specs.Field.{p, addF, subF, mulF}
 use Rattle.ed25519_field.specs.Limbs.{num, unit, Limbs}
 use Rattle.ed25519_field.proofs.Elements.{mul-most}
 use Rattle.ed25519_field.proofs.Raise.{written, up2, up3}
-use Rattle.ed25519_curve.specs.declared.Row.{Row}
+use Rattle.ed25519_curve.specs.declared.Addend.{Addend}
 use Rattle.ed25519_curve.specs.Points.{d, twoD, affine, base, pointAdd, pointEqual}
 use Rattle.ed25519_curve.specs.Coords.{Even, Cached}
 use Rattle.ed25519_group_laws.specs.Affine.{Affine, sumOf, zeroPoint, timesOf, pointOf}
@@ -161,7 +161,7 @@ unfolding num value p addF
 two-is = refl
 
 -- a row by the test
-module _ (a : Affine) (r : Row) (m q s : List ℕ) (em : r .minus ≡ m) (eq : r .plus ≡ q)
+module _ (a : Affine) (r : Addend) (m q s : List ℕ) (em : r .minus ≡ m) (eq : r .plus ≡ q)
     (et : r .twice ≡ 2 ∷ 0 ∷ 0 ∷ 0 ∷ 0 ∷ []) (es : r .scaled ≡ s) (t : T (fits a m q s)) where
   minus-fits : T (limbs m (subF (a .y) (a .x)))
   minus-fits = both-left (limbs m (subF (a .y) (a .x))) _ t
@@ -192,7 +192,7 @@ module _ (a : Affine) (r : Row) (m q s : List ℕ) (em : r .minus ≡ m) (eq : r
     even = even;
   }
 
-row-at : (j : ℕ) (r : Row) (m q s : List ℕ) → j < 9 → r .minus ≡ m → r .plus ≡ q
+row-at : (j : ℕ) (r : Addend) (m q s : List ℕ) → j < 9 → r .minus ≡ m → r .plus ≡ q
     → r .twice ≡ 2 ∷ 0 ∷ 0 ∷ 0 ∷ 0 ∷ [] → r .scaled ≡ s → T (fits (getD (zeroPoint ∷ points) j zeroPoint) m q s)
     → BaseRow j r
 row-at j r m q s h em eq et es t =
@@ -209,7 +209,7 @@ row-at j r m q s h em eq et es t =
       });
     }
 
-pub row-is : (i j : ℕ) (r : Row) (m q s : List ℕ) → j ≡ i → i < 9
+pub row-is : (i j : ℕ) (r : Addend) (m q s : List ℕ) → j ≡ i → i < 9
     → (r .minus ≡ m) × (r .plus ≡ q) × (r .twice ≡ 2 ∷ 0 ∷ 0 ∷ 0 ∷ 0 ∷ []) × (r .scaled ≡ s)
     → T (fits (getD (zeroPoint ∷ points) i zeroPoint) m q s) → BaseRow j r
 row-is i j r m q s e h f t = rw e (row-at i r m q s h (f .0) (f .1) (f .2) (f .3) t)

@@ -11,10 +11,10 @@ use Rattle.ed25519_field.proofs.Elements.{sub-below}
 use Rattle.ed25519_curve.specs.declared.Point.{Point as Coords}
 use Rattle.ed25519_curve.specs.declared.Flat.{Flat}
 use Rattle.ed25519_curve.specs.declared.Ends.{Ends}
-use Rattle.ed25519_curve.specs.declared.Row.{Row}
+use Rattle.ed25519_curve.specs.declared.Addend.{Addend}
 use Rattle.ed25519_curve.specs.Points.{addWith}
 use Rattle.ed25519_curve.specs.Coords.{ptOf, flatOf, endOf, Doubled, Even, Cached, oppositeOf, Opposed}
-use Rattle.ed25519_curve.proofs.Joining.{joined-is}
+use Rattle.ed25519_curve.proofs.Joining.{summed-is}
 use Rattle.ed25519_group_laws.specs.Affine.{Affine, sumOf, timesOf}
 use Rattle.ed25519_group_laws.specs.Group.{Point}
 use Rattle.ed25519_group_laws.specs.Standing.{StandsFor}
@@ -46,25 +46,25 @@ module _ (q q1 q2 q3 : Flat) (t1 : Twice q q1) (t2 : Twice q1 q2) (t3 : Twice q2
       rw (next 8) at (doubled-stands q3 s (timesOf 8 a) d h3)
 
 -- an addition of a row
-pub joined-stands : (q : Coords) (r : Row) (s : Ends) (a b : Affine) → StandsFor (ptOf q) a → RowFor r b
+pub summed-stands : (q : Coords) (r : Addend) (s : Ends) (a b : Affine) → StandsFor (ptOf q) a → RowFor r b
     → endOf s ≡ addWith (mulF (subF (num (q .y)) (num (q .x))) (num (r .minus)))
     (mulF (addF (num (q .y)) (num (q .x))) (num (r .plus))) (mulF (num (q .t)) (num (r .scaled)))
     (mulF (num (q .z)) (num (r .twice)))
     → StandsFor (endOf s) (sumOf a b)
-joined-stands q r s a b h f e =
-    rw (e, joined-is (ptOf q) (f .P) r (f .cached)) (sum-stands (ptOf q) (f .P) a b h (f .stands))
+summed-stands q r s a b h f e =
+    rw (e, summed-is (ptOf q) (f .P) r (f .cached)) (sum-stands (ptOf q) (f .P) a b h (f .stands))
 
 num-low : (l : List ℕ) → num l ≤ p
 num-low l = omega (arith, num-lt l)
 
 -- a row of coordinates that stand for a point
-pub row-for : (q : Coords) (r : Row) (a : Affine) → Cached (ptOf q) r → StandsFor (ptOf q) a → RowFor r a
+pub row-for : (q : Coords) (r : Addend) (a : Affine) → Cached (ptOf q) r → StandsFor (ptOf q) a → RowFor r a
 row-for q r a c h = record { P = ptOf q; low = num-low (q .t); cached = c; stands = h }
 
-pub turned-on : (r : Row) → Even r → Turned false r r
+pub turned-on : (r : Addend) → Even r → Turned false r r
 turned-on r e = record { even = e; stands = λ a h. h }
 
-pub turned-off : (r s : Row) → Even s → Opposed r s → Turned true r s
+pub turned-off : (r s : Addend) → Even s → Opposed r s → Turned true r s
 turned-off r s e o = record {
   even = e;
   stands =

@@ -11,7 +11,7 @@ use native.Mathlib.Omega.{arith}
 use native.Mathlib.Decide.{ℕ-discrete}
 use Rattle.ed25519_curve.specs.declared.Point.{Point as Coords}
 use Rattle.ed25519_curve.specs.declared.Flat.{Flat}
-use Rattle.ed25519_curve.specs.declared.Row.{Row}
+use Rattle.ed25519_curve.specs.declared.Addend.{Addend}
 use Rattle.ed25519_curve.specs.Points.{base, neutral}
 use Rattle.ed25519_curve.specs.Coords.{ptOf, flatOf, GoodFlat, Cached}
 use Rattle.ed25519_group_laws.specs.Affine.{Affine, sumOf, zeroPoint, timesOf, pointOf}
@@ -28,13 +28,13 @@ use Rattle.ed25519_windows.proofs.Recoding.{rounded-first, rounded-last
 use Rattle.ed25519_windows.proofs.Coordinates.{row-for}
 
 -- q is the j-fold of what r is
-abbrev pub Fold : Row → Coords → ℕ → Type 0
+abbrev pub Fold : Addend → Coords → ℕ → Type 0
 Fold r q j = (a : Affine) → RowFor r a → StandsFor (ptOf q) (timesOf j a)
 
-pub fold-first : (r : Row) (z : Coords) → ptOf z ≡ neutral → Fold r z 0
+pub fold-first : (r : Addend) (z : Coords) → ptOf z ≡ neutral → Fold r z 0
 fold-first r z e a h = rw (e, times-zero a) neutral-stands
 
-pub fold-next : (r : Row) (q n : Coords) (i : ℕ) → 1 ≤ i → Fold r q (i - 1)
+pub fold-next : (r : Addend) (q n : Coords) (i : ℕ) → 1 ≤ i → Fold r q (i - 1)
     → ((a b : Affine) → StandsFor (ptOf q) a → RowFor r b → StandsFor (ptOf n) (sumOf a b)) → Fold r n i
 fold-next r q n i one f g a h =
     let z : i - 1 + 1 ≡ i = omega arith in
@@ -43,21 +43,21 @@ fold-next r q n i one f g a h =
     let w : StandsFor (ptOf n) (timesOf (i - 1 + 1) a) = rw s (g (timesOf (i - 1) a) a (f a h) h) in
     rw z at w
 
-pub fold-again : (r : Row) (n : Coords) (i : ℕ) → Fold r n i → Fold r n (i + 1 - 1)
+pub fold-again : (r : Addend) (n : Coords) (i : ℕ) → Fold r n i → Fold r n (i + 1 - 1)
 fold-again r n i f = let z : i + 1 - 1 ≡ i = omega arith in rw z f
 
-multiple : (r : Row) (q : Coords) (s : Row) (j : ℕ) → Cached (ptOf q) s → Fold r q j → Multiple r s j
+multiple : (r : Addend) (q : Coords) (s : Addend) (j : ℕ) → Cached (ptOf q) s → Fold r q j → Multiple r s j
 multiple r q s j c f = record { even = c .even; stands = λ a h. row-for q s (timesOf j a) c (f a h) }
 
 -- the rows of a table, one after the other
-pub first-row : (r : Row) (z : Coords) (s : Row) (t : List Row) → length t ≡ 9 → at t 0 ≡ s → Cached (ptOf z) s
+pub first-row : (r : Addend) (z : Coords) (s : Addend) (t : List Addend) → length t ≡ 9 → at t 0 ≡ s → Cached (ptOf z) s
     → Fold r z 0 → Rows r t 1
 first-row r z s t h e c f = record { long = h; row = zeroth }
   where
     zeroth : (j : ℕ) → j < 1 → Multiple r (at t j) j
     zeroth j k = let q : j ≡ 0 = omega arith in rw (q, e) (multiple r z s 0 c f)
 
-pub next-row : (r : Row) (n : Coords) (s : Row) (t : List Row) (i : ℕ) → i < 9 → Rows r t i → Cached (ptOf n) s
+pub next-row : (r : Addend) (n : Coords) (s : Addend) (t : List Addend) (i : ℕ) → i < 9 → Rows r t i → Cached (ptOf n) s
     → Fold r n i → Rows r (set t i s) (i + 1)
 next-row r n s t i low rs c f = record { long = length-set t i s ∙ rs .long; row = row-at }
   where
@@ -117,15 +117,15 @@ module _ (x y : Affine) (px : Point x) (py : Point y) (S K i : ℕ) (d e : Signe
       ∙ ap₂ (λ (m n : Affine). sumOf m n) (digit-more S i d cd x px) (digit-more K i e ce y py)
 
 -- the rows of multiples of y
-abbrev pub Stand : List Row → Affine → Type 0
+abbrev pub Stand : List Addend → Affine → Type 0
 Stand u y = (j : ℕ) → j < 9 → RowFor (at u j) (timesOf j y)
 
 -- r is [s]B + [k]A, by the table of A
-pub record Sum (u : List Row) (s k : ℕ) (r : Flat) : Type 0 where
+pub record Sum (u : List Addend) (s k : ℕ) (r : Flat) : Type 0 where
   pub good : GoodFlat r
   pub stands : (y : Affine) → Point y → Stand u y → FlatFor r (pairOf (pointOf base) y s k)
 
-pub pair-first : (u : List Row) (z : Flat) (s k : List ℕ) → length s ≡ 5 → length k ≡ 5 → Digits s → Digits k
+pub pair-first : (u : List Addend) (z : Flat) (s k : List ℕ) → length s ≡ 5 → length k ≡ 5 → Digits s → Digits k
     → flatOf z 0 ≡ neutral → GoodFlat z → Sum u (rounded (value radix s) 64) (rounded (value radix k) 64) z
 pair-first u z s k hs hk ds dk f g = record { good = g; stands = stand }
   where
@@ -145,7 +145,7 @@ pair-first u z s k hs hk ds dk f g = record { good = g; stands = stand }
     }
 
 -- a turn
-pub pair-turn : (u : List Row) (x : Row) (q r : Flat) (S K i : ℕ) (d e : Signed)
+pub pair-turn : (u : List Addend) (x : Addend) (q r : Flat) (S K i : ℕ) (d e : Signed)
     → Sum u (rounded S (i + 1)) (rounded K (i + 1)) q → Counted S i d → Counted K i e → BaseRow (d .size) x
     → Turn q x (d .off) (at u (e .size)) (e .off) r → Sum u (rounded S i) (rounded K i) r
 pair-turn u x q r S K i d e h cd ce b w = record { good = w .good; stands = stand }
@@ -156,7 +156,7 @@ pair-turn u x q r S K i d e h cd ce b w = record { good = w .good; stands = stan
         rw (pair-more (pointOf base) y (base-stands .point) py S K i d e cd ce) at
         (w .stands _ _ _ (h .stands y py sy) (b .stands) (sy (e .size) l))
 
-pub pair-last : (u : Row) (v : List Row) (S K : ℕ) (q : Flat) (i : ℕ) → i ≡ 0 → Rows u v 9
+pub pair-last : (u : Addend) (v : List Addend) (S K : ℕ) (q : Flat) (i : ℕ) → i ≡ 0 → Rows u v 9
     → Sum v (rounded S i) (rounded K i) q → Paired u S K q
 pair-last u v S K q i h ru e =
     let f : Sum v (rounded S 0) (rounded K 0) q = rw h at e in

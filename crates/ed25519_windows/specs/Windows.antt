@@ -7,7 +7,7 @@ use lib.ListN.{length, getD}
 use Rattle.ed25519_field.specs.Field.{p}
 use Rattle.ed25519_curve.specs.declared.Point.{Point}
 use Rattle.ed25519_curve.specs.declared.Flat.{Flat}
-use Rattle.ed25519_curve.specs.declared.Row.{Row}
+use Rattle.ed25519_curve.specs.declared.Addend.{Addend}
 use Rattle.ed25519_curve.specs.Points.{Pt, base}
 use Rattle.ed25519_curve.specs.Coords.{ptOf, Good, flatOf, GoodFlat, Even, Cached}
 use Rattle.ed25519_group_laws.specs.Affine.{Affine, sumOf, timesOf, pointOf}
@@ -21,7 +21,7 @@ pub record FlatFor (q : Flat) (a : Affine) : Type 0 where
   pub stands : StandsFor (flatOf q t) a
 
 -- a row is that of coordinates that stand for a point
-pub record RowFor (r : Row) (a : Affine) : Type 0 where
+pub record RowFor (r : Addend) (a : Affine) : Type 0 where
   pub P : Pt
   pub low : P .T ≤ p
   pub cached : Cached P r
@@ -42,20 +42,20 @@ abbrev pub sideOf : Bool → Affine → Affine
 sideOf off a = cond off (minusOf a) a
 
 -- s is the row r, or its opposite
-pub record Turned (off : Bool) (r s : Row) : Type 0 where
+pub record Turned (off : Bool) (r s : Addend) : Type 0 where
   pub even : Even s
   pub stands : (a : Affine) → RowFor r a → RowFor s (sideOf off a)
 
-abbrev pub at : List Row → ℕ → Row
+abbrev pub at : List Addend → ℕ → Addend
 at t j = getD t j (record { minus = []; plus = []; twice = []; scaled = [] })
 
 -- s is the row of the j-fold of what r is
-pub record Multiple (r s : Row) (j : ℕ) : Type 0 where
+pub record Multiple (r s : Addend) (j : ℕ) : Type 0 where
   pub even : Even s
   pub stands : (a : Affine) → RowFor r a → RowFor s (timesOf j a)
 
 -- the first n rows of a table of multiples
-pub record Rows (r : Row) (t : List Row) (n : ℕ) : Type 0 where
+pub record Rows (r : Addend) (t : List Addend) (n : ℕ) : Type 0 where
   pub long : length t ≡ 9
   pub row : (j : ℕ) → j < n → Multiple r (at t j) j
 
@@ -70,12 +70,12 @@ pub record Counted (v i : ℕ) (d : Signed) : Type 0 where
   pub off : d .off ≡ true → rounded v i + d .size ≡ 16 * rounded v (i + 1)
 
 -- r is the row of [j]B
-pub record BaseRow (j : ℕ) (r : Row) : Type 0 where
+pub record BaseRow (j : ℕ) (r : Addend) : Type 0 where
   pub even : Even r
   pub stands : RowFor r (timesOf j (pointOf base))
 
 -- r is 16 q, and the points of two rows or their opposites
-pub record Turn (q : Flat) (x : Row) (xoff : Bool) (y : Row) (yoff : Bool) (r : Flat) : Type 0 where
+pub record Turn (q : Flat) (x : Addend) (xoff : Bool) (y : Addend) (yoff : Bool) (r : Flat) : Type 0 where
   pub good : GoodFlat r
   pub stands : (a b e : Affine) → FlatFor q a → RowFor x b → RowFor y e
       → FlatFor r (sumOf (sumOf (timesOf 16 a) (sideOf xoff b)) (sideOf yoff e))
@@ -85,7 +85,7 @@ abbrev pub pairOf : Affine → Affine → ℕ → ℕ → Affine
 pairOf a b s k = sumOf (timesOf s a) (timesOf k b)
 
 -- r is [s]B + [k]A, where u is the row of A
-pub record Paired (u : Row) (s k : ℕ) (r : Flat) : Type 0 where
+pub record Paired (u : Addend) (s k : ℕ) (r : Flat) : Type 0 where
   pub good : GoodFlat r
   pub stands : (y : Affine) → RowFor u y → FlatFor r (pairOf (pointOf base) y s k)
 

@@ -3,7 +3,7 @@ ghost use mathlib.Core.Path.{_≡_};
 ghost use mathlib.Core.List.{[], _∷_};
 ghost use Prim.Native.Nat.{_<_};
 ghost use Rattle.ed25519_windows.specs.Windows.{BaseRow};
-use ed25519_curve::Row;
+use ed25519_curve::Addend;
 use ed25519_field::Fe;
 
 const MINUS_0: Fe = [1, 0, 0, 0, 0];
@@ -205,11 +205,11 @@ const SCALED_8: Fe = [
 ];
 
 // A row with Z = 1.
-fn row(minus: Fe, plus: Fe, scaled: Fe) -> Row
+fn row(minus: Fe, plus: Fe, scaled: Fe) -> Addend
     ensures { λ r. ⌜ (r .minus ≡ minus) × (r .plus ≡ plus) × (r .twice ≡ 2 ∷ 0 ∷ 0 ∷ 0 ∷ 0 ∷ []) × (r .scaled ≡ scaled) ⌝ }
 {
     let twice = [2, 0, 0, 0, 0];
-    Row {
+    Addend {
         minus,
         plus,
         twice,
@@ -218,7 +218,7 @@ fn row(minus: Fe, plus: Fe, scaled: Fe) -> Row
 }
 
 // The row of [j]B.
-pub fn base_row(j: usize) -> Row
+pub fn base_row(j: usize) -> Addend
     requires { ⌜ j < 9 ⌝ }
     ensures { λ r. ⌜ BaseRow j r ⌝ }
 {

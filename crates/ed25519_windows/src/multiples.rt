@@ -1,15 +1,15 @@
 // Rows of the multiples of a point.
 ghost use Rattle.ed25519_curve.specs.Coords.{Even};
 ghost use Rattle.ed25519_windows.specs.Windows.{Rows, Turned};
-use ed25519_curve::Row;
-use ed25519_curve::joined;
+use ed25519_curve::Addend;
 use ed25519_curve::opposite;
 use ed25519_curve::row_of;
+use ed25519_curve::summed;
 use ed25519_curve::with_t;
 use ed25519_curve::zero_point;
 
 // 0, P, 2P, .. 8P, of P's own row.
-pub fn multiples(r: Row) -> [Row; 9]
+pub fn multiples(r: Addend) -> [Addend; 9]
     requires { ⌜ Even r ⌝ }
     ensures { λ t. ⌜ Rows r t 9 ⌝ }
 {
@@ -17,7 +17,7 @@ pub fn multiples(r: Row) -> [Row; 9]
     let mut t = [row_of(q); 9];
     let mut i: usize = 1;
     while i < 9 {
-        let n = with_t(joined(q, r));
+        let n = with_t(summed(q, r));
         let w = row_of(n);
         t[i] = w;
         q = n;
@@ -27,7 +27,7 @@ pub fn multiples(r: Row) -> [Row; 9]
 }
 
 // A row, or its opposite.
-pub fn signed(r: Row, off: bool) -> Row
+pub fn signed(r: Addend, off: bool) -> Addend
     requires { ⌜ Even r ⌝ }
     ensures { λ s. ⌜ Turned off r s ⌝ }
 {

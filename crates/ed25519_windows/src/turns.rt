@@ -8,26 +8,26 @@ use super::digit::digit;
 use super::doubles::sixteen;
 use super::multiples::multiples;
 use super::multiples::signed;
+use ed25519_curve::Addend;
 use ed25519_curve::Flat;
-use ed25519_curve::Row;
-use ed25519_curve::joined;
+use ed25519_curve::summed;
 use ed25519_curve::with_t;
 use ed25519_curve::without_t;
 use ed25519_curve::zero_flat;
 use ed25519_scalar::Scalar;
 
 // 16 q, and the points of two rows or their opposites.
-fn turned(q: Flat, x: Row, xoff: bool, y: Row, yoff: bool) -> Flat
+fn turned(q: Flat, x: Addend, xoff: bool, y: Addend, yoff: bool) -> Flat
     requires { ⌜ GoodFlat q × Even x × Even y ⌝ }
     ensures { λ r. ⌜ Turn q x xoff y yoff r ⌝ }
 {
     let m = sixteen(q);
-    let n = with_t(joined(m, signed(x, xoff)));
-    without_t(joined(n, signed(y, yoff)))
+    let n = with_t(summed(m, signed(x, xoff)));
+    without_t(summed(n, signed(y, yoff)))
 }
 
 // [s]B + [k]A, where u is the row of A.
-pub fn times_two(s: Scalar, k: Scalar, u: Row) -> Flat
+pub fn times_two(s: Scalar, k: Scalar, u: Addend) -> Flat
     requires { ⌜ Digits s × Digits k × Even u ⌝ }
     ensures { λ r. ⌜ Paired u (value radix s) (value radix k) r ⌝ }
 {

@@ -26,7 +26,7 @@ use Rattle.pile_report.specs.declared.Taken.the-variants.{Run}
 use Rattle.pile_report.proofs.Says.{not-not}
 use Rattle.pile_report.proofs.Runs.{joined-later, takes-once}
 use Rattle.pile_report.proofs.CutBytes.{same-bytes}
-use Rattle.pile_report.proofs.Stands.{taken-run, cut-names}
+use Rattle.pile_report.proofs.CutStands.{taken-run, cut-names}
 
 -- where all records are valid and linked, the pair is the two ends of the run
 run-of-pair : (v : ℕ → Verdict) (l : ℕ → Bool) (n : ℕ) → ((k : ℕ) → k < n → T (valid (v k)))

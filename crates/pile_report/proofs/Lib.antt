@@ -12,7 +12,7 @@ pub mod Behind
 pub mod CutBytes
 pub mod CutRecords
 pub mod CutReports
-pub mod Stands
+pub mod CutStands
 pub mod Agree
 pub mod Unread
 pub mod Once

@@ -25,7 +25,7 @@ use Rattle.pile_report.specs.declared.Taken.the-variants.{Run, Refused}
 use Rattle.pile_report.proofs.Behind.{same-response}
 use Rattle.pile_report.proofs.CutBytes.{RunIn, count-run, record-first, record-later, record-alike}
 use Rattle.pile_report.proofs.CutReports.{taken-exactly, none-exactly}
-use Rattle.pile_report.proofs.Stands.{taken-run, cut-is-report, cut-stands, cut-front}
+use Rattle.pile_report.proofs.CutStands.{taken-run, cut-is-report, cut-stands, cut-front}
 use Rattle.pile_runs.proofs.SamePile.{same-least}
 use Rattle.check_signatures.specs.SignatureAnswers.{delegated, responded}
 use Rattle.pile_signed.specs.OwnAnswers.{delegatedAt, respondedAt, ownAnswers}

@@ -35,7 +35,7 @@ use Rattle.pile_report.specs.declared.Taken.the-variants.{Run}
 use Rattle.pile_report.specs.declared.Taken.the-variants as taken
 use Rattle.pile_report.proofs.Behind.{Alike, same-response}
 use Rattle.pile_report.proofs.Runs.{takes-once}
-use Rattle.pile_report.proofs.Stands.{taken-run, cut-names}
+use Rattle.pile_report.proofs.CutStands.{taken-run, cut-names}
 use Rattle.pile_signed.specs.OwnAnswers.{ownAnswers}
 use Rattle.pile_signed.proofs.OwnRuns.{own-run}
 use Rattle.report_text.specs.Forwarded.{ForwardsBy, cutOf, CutsText, Forwards, pileOf, forwardedBytes}

@@ -12,7 +12,7 @@ use Rattle.pile_report.specs.Report.{Reports}
 use Rattle.pile_report.specs.Taking.{runBytes}
 use Rattle.pile_report.specs.declared.Report.the-variants.{Pair}
 use Rattle.pile_report.proofs.CutBytes.{length-run, count-run}
-use Rattle.pile_report.proofs.Stands.{taken-run, cut-names}
+use Rattle.pile_report.proofs.CutStands.{taken-run, cut-names}
 use Rattle.report_write.specs.Entries.{textOf}
 use Rattle.report_write.proofs.RoundTrip.{report-back}
 use Rattle.report_text.specs.Forwarded.{Forwards, pileOf, forwardedBytes}

@@ -2,7 +2,7 @@
 pub mod Accepting
 pub mod Lengths
 pub mod Requests
-pub mod Laid
+pub mod RecordLaid
 pub mod Checked
 pub mod Taken
 pub mod Codes

@@ -22,7 +22,7 @@ use Rattle.pile_report.specs.declared.Report.the-variants.{Pair}
 use Rattle.pile_report.specs.declared.Taken.the-variants.{Run, Refused}
 use Rattle.pile_report.proofs.Says.{report-once}
 use Rattle.pile_report.proofs.Agree.{named-is-cut}
-use Rattle.pile_report.proofs.Stands.{taken-run, cut-names}
+use Rattle.pile_report.proofs.CutStands.{taken-run, cut-names}
 use Rattle.pile_signed.specs.OwnAnswers.{ownAnswers}
 use Rattle.pile_signed.proofs.OwnRuns.{own-run}
 use Rattle.report_read.specs.declared.Read.{Read}

@@ -1,4 +1,4 @@
--- `reuse::same_dele` meets its contract.
+-- `check_reuse::same_dele` meets its contract.
 use native.Mathlib.Omega.{arith}
 use borrow.Author.Tests.{eq-eqb, ne-eqb}
 use Rattle.check_reuse.specs.Reuse.{sameDele}

@@ -1,4 +1,4 @@
--- `reuse::same_delegation` meets its contract.
+-- `check_reuse::same_delegation` meets its contract.
 use borrow.Author.Tests.{eq-eqb, ne-eqb}
 use Rattle.check_reuse.specs.Reuse.{sameDelegation}
 use borrow.Author.Needs.{needs}

@@ -1,4 +1,4 @@
--- `vectors::show` meets its contract.
+-- `sha512_vectors::show` meets its contract.
 use mathlib.Core.Path.{_≡_}
 use Prim.Native.Nat.{_≤_, _-_}
 use lib.ListN.{length}

@@ -1,4 +1,4 @@
--- `cases::main` is safe and ends. Nothing has to hold from turn to turn.
+-- `trawl_cases::main` is safe and ends. Nothing has to hold from turn to turn.
 use Prim.Native.Nat.{_-_}
 use borrow.Author.Needs.{needs}
 use Rattle.trawl_cases.proofs.main.Statement.{statement}

@@ -1,4 +1,4 @@
--- `evidence::piling::judgement_told` meets its contract.
+-- `c_evidence::piling::judgement_told` meets its contract.
 use mathlib.Core.Path.{ap}
 use Rattle.c_evidence.specs.Piling.{placed}
 use borrow.Author.Needs.{needs}

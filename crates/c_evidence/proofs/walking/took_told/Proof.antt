@@ -1,4 +1,4 @@
--- `evidence::walking::took_told` meets its contract.
+-- `c_evidence::walking::took_told` meets its contract.
 use mathlib.Core.Path.{sym, ap, _∙_}
 use Rattle.c_evidence.specs.Walking.{tbTook}
 use borrow.Author.Needs.{needs}

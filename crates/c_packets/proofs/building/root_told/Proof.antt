@@ -1,4 +1,4 @@
--- `told::building::root_told` meets its contract.
+-- `c_packets::building::root_told` meets its contract.
 use Prim.Native.Nat.{ℕ}
 use mathlib.Core.Path.{ap}
 use borrow.Author.Needs.{needs}

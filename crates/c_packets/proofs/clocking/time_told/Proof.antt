@@ -1,4 +1,4 @@
--- `told::clocking::time_told` meets its contract.
+-- `c_packets::clocking::time_told` meets its contract.
 use mathlib.Core.Path.{sym, ap}
 use Rattle.c_packets.specs.Clocking.{tbTime}
 use borrow.Author.Needs.{needs}

@@ -1,4 +1,4 @@
--- `told::judging::verdict_with` meets its contract.
+-- `c_packets::judging::verdict_with` meets its contract.
 use mathlib.Core.Path.{sym, ap}
 use Rattle.check_response.specs.declared.Verdict.{Verdict}
 use Rattle.c_packets.specs.Judging.{verdictWith}

@@ -1,4 +1,4 @@
--- `told::reading::request_told` meets its contract.
+-- `c_packets::reading::request_told` meets its contract.
 use Prim.Native.Nat.{ℕ}
 use mathlib.Core.Path.{ap}
 use borrow.Author.Needs.{needs}

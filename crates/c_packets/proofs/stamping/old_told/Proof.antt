@@ -1,4 +1,4 @@
--- `told::stamping::old_told` meets its contract.
+-- `c_packets::stamping::old_told` meets its contract.
 use mathlib.Core.Path.{sym, ap}
 use Rattle.c_packets.specs.Stamping.{tbOld}
 use borrow.Author.Needs.{needs}

@@ -1,4 +1,4 @@
--- `told::writing::wrote_told` meets its contract.
+-- `c_packets::writing::wrote_told` meets its contract.
 use mathlib.Core.Path.{sym, ap}
 use Rattle.c_packets.specs.Writing.{tbWrote}
 use borrow.Author.Needs.{needs}

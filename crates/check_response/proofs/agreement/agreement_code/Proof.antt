@@ -1,4 +1,4 @@
--- `verdict::agreement::agreement_code` meets its contract. Each return is the first refusal of the row.
+-- `check_response::agreement::agreement_code` meets its contract. Each return is the first refusal of the row.
 use mathlib.Core.List.{[], _∷_}
 use mathlib.Core.Path.{_≡_}
 use denote.Ref.{now}

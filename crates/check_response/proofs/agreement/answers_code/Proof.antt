@@ -1,4 +1,4 @@
--- `verdict::agreement::answers_code` meets its contract. Each return is the first refusal of the row.
+-- `check_response::agreement::answers_code` meets its contract. Each return is the first refusal of the row.
 use Rattle.laws.proofs.First.{chain, is-last}
 use Rattle.check_response.specs.Check.{answersCode}
 use borrow.Author.Needs.{needs}

@@ -1,4 +1,4 @@
--- `verdict::agreement::nonce_differs` meets its contract.
+-- `check_response::agreement::nonce_differs` meets its contract.
 use Rattle.check_response.specs.Check.{nonceDiffers}
 use borrow.Author.Needs.{needs}
 use Rattle.check_response.proofs.agreement.nonce_differs.Statement.{statement}

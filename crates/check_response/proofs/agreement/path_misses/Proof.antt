@@ -1,4 +1,4 @@
--- `verdict::agreement::path_misses` meets its contract.
+-- `check_response::agreement::path_misses` meets its contract.
 use Rattle.check_response.specs.Check.{pathMisses}
 use borrow.Author.Needs.{needs}
 use Rattle.check_response.proofs.agreement.path_misses.Statement.{statement}

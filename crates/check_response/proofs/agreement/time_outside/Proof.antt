@@ -1,4 +1,4 @@
--- `verdict::agreement::time_outside` meets its contract.
+-- `check_response::agreement::time_outside` meets its contract.
 use mathlib.Core.Path.{_≡_, sym, ap, _∙_}
 use mathlib.Core.Bool.{or-false}
 use native.Mathlib.Omega.{arith}

@@ -1,4 +1,4 @@
--- `verdict::agreement::version_downgraded` meets its contract.
+-- `check_response::agreement::version_downgraded` meets its contract.
 use Prim.Native.Nat.{ℕ}
 use mathlib.Core.Path.{_≡_, ap, _∙_}
 use mathlib.Core.List.{List}

@@ -1,4 +1,4 @@
--- `verdict::agreement::version_unasked` meets its contract.
+-- `check_response::agreement::version_unasked` meets its contract.
 use Rattle.check_response.specs.Check.{versionUnasked}
 use borrow.Author.Needs.{needs}
 use Rattle.check_response.proofs.agreement.version_unasked.Statement.{statement}

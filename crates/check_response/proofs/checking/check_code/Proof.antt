@@ -1,4 +1,4 @@
--- `verdict::checking::check_code` meets its contract. Each return is the first refusal of the row.
+-- `check_response::checking::check_code` meets its contract. Each return is the first refusal of the row.
 use mathlib.Core.Path.{ap₂, _∙_}
 use mathlib.Core.List.{List}
 use Prim.Native.Nat.{ℕ}

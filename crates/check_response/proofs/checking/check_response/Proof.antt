@@ -1,4 +1,4 @@
--- `verdict::checking::check_response` meets its contract.
+-- `check_response::checking::check_response` meets its contract.
 use mathlib.Core.Path.{ap, _∙_}
 use Rattle.check_response.specs.Check.{windowIn, pubkIn}
 use Rattle.check_response.proofs.Lent.{checked-body, refused-clauses, valid-clauses}

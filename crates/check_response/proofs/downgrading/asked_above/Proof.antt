@@ -1,4 +1,4 @@
--- `verdict::downgrading::asked_above` meets its contract.
+-- `check_response::downgrading::asked_above` meets its contract.
 use native.Mathlib.Omega.{arith}
 use borrow.Author.Tests.{lt-ltb, le-ltb}
 use Rattle.check_response.specs.Downgrade.{askedAbove}

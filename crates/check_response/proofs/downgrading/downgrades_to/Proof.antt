@@ -1,4 +1,4 @@
--- `verdict::downgrading::downgrades_to` meets its contract. The scan has met no such version below k.
+-- `check_response::downgrading::downgrades_to` meets its contract. The scan has met no such version below k.
 use Prim.Native.Nat.{ℕ, _*_, _-_, _/_, _≤_}
 use native.Mathlib.Omega.{arith}
 use mathlib.Core.Path.{_≡_, sym, ap, _∙_}

@@ -1,4 +1,4 @@
--- `verdict::windows::key_in` meets its contract.
+-- `check_response::windows::key_in` meets its contract.
 use borrow.Author.Needs.{needs}
 use Rattle.check_response.proofs.windows.key_in.Statement.{statement}
 use Rattle.check_response.proofs.windows.key_in.Tie as tie

@@ -1,4 +1,4 @@
--- `verdict::windows::low_end` meets its contract. Where the radius is larger, the difference of naturals is 0.
+-- `check_response::windows::low_end` meets its contract. Where the radius is larger, the difference of naturals is 0.
 use mathlib.Core.Path.{refl, sym}
 use native.Mathlib.Nat.{sub-eq-zero-of-le}
 use native.Mathlib.Omega.{arith}

@@ -1,4 +1,4 @@
--- `verdict::windows::window_at` meets its contract.
+-- `check_response::windows::window_at` meets its contract.
 use borrow.Author.Needs.{needs}
 use Rattle.check_response.proofs.windows.window_at.Statement.{statement}
 use Rattle.check_response.proofs.windows.window_at.Tie as tie

@@ -1,4 +1,4 @@
--- `verdict::windows::window_in` meets its contract.
+-- `check_response::windows::window_in` meets its contract.
 use native.Mathlib.Omega.{arith}
 use Rattle.check_response.specs.Check.{windowIn}
 use borrow.Author.Needs.{needs}

@@ -1,4 +1,4 @@
--- `signatures::checking::check_signed` meets its contract.
+-- `check_signatures::checking::check_signed` meets its contract.
 use mathlib.Core.Path.{_≡_, refl, sym, ap, _∙_}
 use mathlib.Core.Bool.{true}
 use Rattle.refusal.specs.declared.Refusal.{Refusal}

@@ -1,4 +1,4 @@
--- `signatures::verifying::answers` meets its contract.
+-- `check_signatures::verifying::answers` meets its contract.
 use mathlib.Core.Path.{sym}
 use borrow.Author.Tests.{ne-eqb}
 use Rattle.laws.proofs.First.{quiet-of}

@@ -1,4 +1,4 @@
--- `signatures::verifying::signature_code` meets its contract. Each return is the first refusal of the row.
+-- `check_signatures::verifying::signature_code` meets its contract. Each return is the first refusal of the row.
 use mathlib.Core.Path.{refl, ap}
 use mathlib.Core.Bool.{not}
 use Rattle.laws.proofs.First.{test-true, test-false, is-empty}

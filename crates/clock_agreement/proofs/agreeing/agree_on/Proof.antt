@@ -1,4 +1,4 @@
--- `agreement::agreeing::agree_on` meets its contract.
+-- `clock_agreement::agreeing::agree_on` meets its contract.
 use Rattle.clock_agreement.proofs.AnswerLaws.{too-few, no-agreement, agreement}
 use borrow.Author.Needs.{needs}
 use native.Mathlib.Omega.{arith}

@@ -1,4 +1,4 @@
--- `agreement::counting::count` meets its contract.
+-- `clock_agreement::counting::count` meets its contract.
 use Rattle.clock_agreement.specs.Many.{many}
 use Rattle.clock_agreement.specs.Count.{countedIn, countOf}
 use Rattle.clock_agreement.proofs.Counts.{Counted, count-none, count-more}

@@ -1,4 +1,4 @@
--- `agreement::counting::depth` meets its contract.
+-- `clock_agreement::counting::depth` meets its contract.
 use Rattle.clock_agreement.specs.Many.{many}
 use Rattle.clock_agreement.specs.Count.{inSpan, spanIn, depthOf}
 use Rattle.clock_agreement.proofs.Counts.{Counted, count-none, count-more}

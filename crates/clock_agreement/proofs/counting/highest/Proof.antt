@@ -1,4 +1,4 @@
--- `agreement::counting::highest` meets its contract.
+-- `clock_agreement::counting::highest` meets its contract.
 use Rattle.clock_agreement.proofs.Edges.{down, highs, high-hit, high-miss, highest-is}
 use Rattle.clock_agreement.proofs.Best.{Best, best-none}
 use Rattle.clock_agreement.specs.Count.{enough}

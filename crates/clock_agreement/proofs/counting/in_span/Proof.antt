@@ -1,4 +1,4 @@
--- `agreement::counting::in_span` meets its contract.
+-- `clock_agreement::counting::in_span` meets its contract.
 use borrow.Author.Tests.{not-true, not-false, lt-leb, le-leb}
 use Rattle.clock_agreement.proofs.counting.in_span.Statement.{statement}
 use Rattle.clock_agreement.proofs.counting.in_span.Tie as tie

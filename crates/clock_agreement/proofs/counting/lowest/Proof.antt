@@ -1,4 +1,4 @@
--- `agreement::counting::lowest` meets its contract.
+-- `clock_agreement::counting::lowest` meets its contract.
 use Rattle.clock_agreement.proofs.Edges.{lows, low-hit, low-miss, lowest-is}
 use Rattle.clock_agreement.proofs.Best.{Best, best-none}
 use Rattle.clock_agreement.specs.Count.{enough}

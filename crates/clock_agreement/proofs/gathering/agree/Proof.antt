@@ -1,4 +1,4 @@
--- `agreement::gathering::agree` meets its contract.
+-- `clock_agreement::gathering::agree` meets its contract.
 use Rattle.clock_agreement.specs.Many.{setOf}
 use Rattle.clock_agreement.specs.Count.{agreeing}
 use Rattle.clock_agreement.proofs.Counts.{Gathered, gather-none, gather-more, bit-small}

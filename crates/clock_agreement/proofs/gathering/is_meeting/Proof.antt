@@ -1,4 +1,4 @@
--- `agreement::gathering::is_meeting` meets its contract.
+-- `clock_agreement::gathering::is_meeting` meets its contract.
 use borrow.Author.Tests.{not-true, not-false}
 use borrow.Author.Needs.{needs}
 use Rattle.clock_agreement.proofs.gathering.is_meeting.Statement.{statement}

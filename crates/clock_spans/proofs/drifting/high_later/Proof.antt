@@ -1,4 +1,4 @@
--- `spans::drifting::high_later` meets its contract.
+-- `clock_spans::drifting::high_later` meets its contract.
 use Rattle.clock_spans.specs.Drift.{highLater}
 use borrow.Author.Needs.{needs}
 use native.Mathlib.Omega.{arith}

@@ -1,4 +1,4 @@
--- `spans::drifting::least_passed` meets its contract.
+-- `clock_spans::drifting::least_passed` meets its contract.
 use Rattle.clock_spans.proofs.Parts.{part-small, rest-small, least-parts}
 use borrow.Author.Needs.{needs}
 use native.Mathlib.Omega.{arith}

@@ -1,4 +1,4 @@
--- `spans::drifting::low_later` meets its contract.
+-- `clock_spans::drifting::low_later` meets its contract.
 use Rattle.clock_spans.specs.Drift.{lowLater}
 use borrow.Author.Needs.{needs}
 use native.Mathlib.Omega.{arith}

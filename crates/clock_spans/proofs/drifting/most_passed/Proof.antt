@@ -1,4 +1,4 @@
--- `spans::drifting::most_passed` meets its contract.
+-- `clock_spans::drifting::most_passed` meets its contract.
 use Rattle.clock_spans.proofs.Parts.{rest-small, most-parts}
 use borrow.Author.Needs.{needs}
 use native.Mathlib.Omega.{arith}

@@ -1,4 +1,4 @@
--- `spans::numbers::times` meets its contract.
+-- `clock_spans::numbers::times` meets its contract.
 use Rattle.clock_spans.proofs.Parts.{product-none, product-fits, product-over}
 use borrow.Author.Needs.{needs}
 use native.Mathlib.Omega.{arith}

@@ -1,4 +1,4 @@
--- `spans::spanning::high_at` meets its contract.
+-- `clock_spans::spanning::high_at` meets its contract.
 use Rattle.clock_spans.specs.Drift.{highLater, mostPassed}
 use Rattle.clock_spans.specs.Spans.{highAt}
 use mathlib.Core.Path.{ap}

@@ -1,4 +1,4 @@
--- `spans::spanning::is_used` meets its contract.
+-- `clock_spans::spanning::is_used` meets its contract.
 use Rattle.clock_spans.proofs.Used.{no-window, by-maxt}
 use borrow.Author.Needs.{needs}
 use Rattle.clock_spans.proofs.spanning.is_used.Statement.{statement}

@@ -1,4 +1,4 @@
--- `spans::spanning::low_at` meets its contract.
+-- `clock_spans::spanning::low_at` meets its contract.
 use Rattle.clock_spans.specs.Drift.{lowLater, leastPassed}
 use Rattle.clock_spans.specs.Spans.{lowAt}
 use mathlib.Core.Path.{ap}

@@ -1,4 +1,4 @@
--- `spans::spanning::meeting` meets its contract.
+-- `clock_spans::spanning::meeting` meets its contract.
 use borrow.Author.Needs.{needs}
 use mathlib.Core.Path.{refl}
 use Rattle.clock_spans.proofs.spanning.meeting.Statement.{statement}

@@ -1,4 +1,4 @@
--- `spans::spanning::server_span` meets its contract.
+-- `clock_spans::spanning::server_span` meets its contract.
 use Rattle.clock_spans.specs.Spans.{serverSpan}
 use borrow.Author.Needs.{needs}
 use Rattle.clock_spans.proofs.spanning.server_span.Statement.{statement}

@@ -1,4 +1,4 @@
--- `spans::spanning::span_at` meets its contract.
+-- `clock_spans::spanning::span_at` meets its contract.
 use Rattle.clock_spans.proofs.Used.{span-none, span-some}
 use mathlib.Core.Path.{refl}
 use borrow.Author.Tests.{not-true, not-false}

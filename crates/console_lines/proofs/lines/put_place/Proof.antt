@@ -1,4 +1,4 @@
--- `lines::lines::put_place` meets its contract. The code is below 4, above 7, or carries the place.
+-- `console_lines::lines::put_place` meets its contract. The code is below 4, above 7, or carries the place.
 use native.Mathlib.Omega.{arith}
 use borrow.Author.Needs.{needs}
 use borrow.Author.Tests.{le-leb, lt-leb}

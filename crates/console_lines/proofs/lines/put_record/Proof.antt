@@ -1,4 +1,4 @@
--- `lines::lines::put_record` meets its contract, by the verdict.
+-- `console_lines::lines::put_record` meets its contract, by the verdict.
 use mathlib.Core.Path.{sym, ap}
 use native.Mathlib.Omega.{arith}
 use Rattle.check_response.specs.declared.Verdict.{Verdict}

@@ -1,4 +1,4 @@
--- `lines::pieces::put_number` meets its contract. The digits are the number's.
+-- `console_lines::pieces::put_number` meets its contract. The digits are the number's.
 use mathlib.Core.Path.{_∙_}
 use native.Mathlib.Omega.{arith}
 use Rattle.laws.proofs.Written.{puts-as}

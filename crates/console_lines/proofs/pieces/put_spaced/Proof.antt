@@ -1,4 +1,4 @@
--- `lines::pieces::put_spaced` meets its contract. The number follows the space.
+-- `console_lines::pieces::put_spaced` meets its contract. The number follows the space.
 use native.Mathlib.Omega.{arith}
 use Rattle.console_lines.specs.Line.{spaced}
 use Rattle.laws.proofs.Written.{puts-more}

@@ -1,4 +1,4 @@
--- `lines::pieces::put_two` meets its contract. The one number follows the other.
+-- `console_lines::pieces::put_two` meets its contract. The one number follows the other.
 use native.Mathlib.Omega.{arith}
 use Rattle.console_lines.specs.Line.{twoSpaced}
 use Rattle.laws.proofs.Written.{puts-more}

@@ -5,7 +5,7 @@ use mathlib.Core.Path.{_≡_, refl}
 use native.Mathlib.Omega.{arith}
 use Rattle.ed25519_curve.specs.Coords.{ptOf, Good, Even}
 use Rattle.ed25519_windows.specs.Windows.{Rows}
-use Rattle.ed25519_windows.proofs.Coordinates.{joined-stands}
+use Rattle.ed25519_windows.proofs.Coordinates.{summed-stands}
 use Rattle.ed25519_windows.proofs.Pairs.{Fold, fold-first, fold-next, fold-again, first-row, next-row}
 use Rattle.ed25519_windows.proofs.multiples.multiples.Statement.{statement}
 use Rattle.ed25519_windows.proofs.multiples.multiples.Tie as tie
@@ -29,8 +29,8 @@ loop-holds c =
       g .pre,
     )
 
-joined-requires : tie.Need-joined-requires Inv-loop μ-loop
-joined-requires c κs = let v = c .before .loop .inv in (v .2, v .5)
+summed-requires : tie.Need-summed-requires Inv-loop μ-loop
+summed-requires c κs = let v = c .before .loop .inv in (v .2, v .5)
 
 array-set-from-t : tie.Need-array-set-from-t Inv-loop μ-loop
 array-set-from-t c = let v = c .before .before .before .before .loop .inv in omega (arith, v .4 .long)
@@ -41,9 +41,9 @@ loop-again c =
     let v = l .inv in
     let r = c .before .before .before .before .before .before .before .args .r in
     let n = c .before .with-t in
-    let j = c .before .before .joined in
+    let j = c .before .before .summed in
     let f = fold-next r (l .q) (n .result) (l .i) (v .0) (v .3)
-    (λ a b h g. rw (n .ensures .0) (joined-stands (l .q) r (j .result) a b h g (j .ensures .0))) in (
+    (λ a b h g. rw (n .ensures .0) (summed-stands (l .q) r (j .result) a b h g (j .ensures .0))) in (
       omega arith,
       omega arith,
       n .ensures .1,
@@ -67,7 +67,7 @@ multiples-spec =
     (λ c κs. search needs)
     (λ c κs. search needs)
     loop-holds
-    joined-requires
+    summed-requires
     (λ c κs. search needs)
     (λ c κs. search needs)
     (λ c. search needs)

@@ -1,4 +1,4 @@
--- `quoted::decoding::decode` meets its contract: what is no base64 stands for no byte.
+-- `json_base64::decoding::decode` meets its contract: what is no base64 stands for no byte.
 use mathlib.Core.Path.{sym, _∙_}
 use Rattle.json_strings.specs.Text.{contentAt}
 use Rattle.base64.specs.Decode.{decode64}

@@ -1,4 +1,4 @@
--- `quoted::decoding::fill` meets its contract. What is left to write is what the characters from k on stand for; as the
+-- `json_base64::decoding::fill` meets its contract. What is left to write is what the characters from k on stand for; as the
 -- whole string is base64, neither a part of a group nor a bad one is met.
 use borrow.Author.Needs.{needs}
 use native.Mathlib.Omega.{arith}

@@ -1,4 +1,4 @@
--- `strings::letters::more_bits` meets its contract.
+-- `json_strings::letters::more_bits` meets its contract.
 use borrow.Author.Needs.{needs}
 use mathlib.Core.Path.{refl}
 use native.Mathlib.Omega.{arith}

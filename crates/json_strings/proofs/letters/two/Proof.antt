@@ -1,4 +1,4 @@
--- `strings::letters::two` meets its contract.
+-- `json_strings::letters::two` meets its contract.
 use borrow.Author.Needs.{needs}
 use mathlib.Core.Path.{refl}
 use Rattle.json_strings.specs.Text.{twoAt}

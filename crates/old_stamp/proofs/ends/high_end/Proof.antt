@@ -1,4 +1,4 @@
--- `stamps::ends::high_end` meets its contract.
+-- `old_stamp::ends::high_end` meets its contract.
 use native.Mathlib.Omega.{arith}
 use Rattle.old_stamp.specs.Window.{highAt}
 use borrow.Author.Needs.{needs}

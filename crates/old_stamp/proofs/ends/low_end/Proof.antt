@@ -1,4 +1,4 @@
--- `stamps::ends::low_end` meets its contract. Where the radius is larger, the difference of naturals is 0.
+-- `old_stamp::ends::low_end` meets its contract. Where the radius is larger, the difference of naturals is 0.
 use native.Mathlib.Omega.{arith}
 use Rattle.old_stamp.specs.Window.{lowAt}
 use Rattle.old_stamp.proofs.ends.low_end.Statement.{statement}

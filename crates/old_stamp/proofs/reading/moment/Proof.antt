@@ -1,4 +1,4 @@
--- `stamps::reading::moment` meets its contract.
+-- `old_stamp::reading::moment` meets its contract.
 use native.Mathlib.Omega.{arith}
 use borrow.Author.Needs.{needs}
 use Rattle.old_stamp.proofs.reading.moment.Statement.{statement}

@@ -1,4 +1,4 @@
--- `stamps::reading::old_window` meets its contract.
+-- `old_stamp::reading::old_window` meets its contract.
 use mathlib.Core.Path.{ap}
 use native.Mathlib.Omega.{arith}
 use Rattle.old_stamp.specs.declared.Stamped.the-variants.{Refused}

@@ -1,4 +1,4 @@
--- `report::cutting::put_run` meets its contract. The run is put at the front, and its first rand zeroed over it.
+-- `pile_report::cutting::put_run` meets its contract. The run is put at the front, and its first rand zeroed over it.
 use mathlib.Core.Path.{_≡_}
 use Prim.Native.Nat.{_+_, _-_, _*_}
 use native.Mathlib.Omega.{arith}

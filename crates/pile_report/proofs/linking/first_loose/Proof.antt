@@ -1,4 +1,4 @@
--- `report::linking::first_loose` meets its contract. Each record before k is linked.
+-- `pile_report::linking::first_loose` meets its contract. Each record before k is linked.
 use mathlib.Core.Path.{sym, subst, ap}
 use mathlib.Core.Bool.{not}
 use Prim.Native.Nat.{_-_, _≤_}

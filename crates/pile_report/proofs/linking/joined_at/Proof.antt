@@ -1,4 +1,4 @@
--- `report::linking::joined_at` meets its contract. The first record by its rand, every other by its link.
+-- `pile_report::linking::joined_at` meets its contract. The first record by its rand, every other by its link.
 use borrow.Author.Tests.{eq-eqb, ne-eqb}
 use Rattle.pile_report.specs.Report.{joined}
 use borrow.Author.Needs.{needs}

@@ -1,4 +1,4 @@
--- `report::linking::link_at` meets its contract.
+-- `pile_report::linking::link_at` meets its contract.
 use mathlib.Core.Path.{refl}
 use borrow.Author.Tests.{eq-eqb, ne-eqb}
 use Rattle.laws.proofs.Picks.{tested-yes, tested-no}

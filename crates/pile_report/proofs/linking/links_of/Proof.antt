@@ -1,4 +1,4 @@
--- `report::linking::links_of` meets its contract. Each place passed holds its link.
+-- `pile_report::linking::links_of` meets its contract. Each place passed holds its link.
 use mathlib.Core.Path.{_≡_, refl}
 use mathlib.Core.Bool.{false}
 use Prim.Native.Nat.{ℕ, _-_, _≤_, _<_}

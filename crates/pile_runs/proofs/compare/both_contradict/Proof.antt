@@ -1,4 +1,4 @@
--- `runs::compare::both_contradict` meets its contract. Each arm knows its variant.
+-- `pile_runs::compare::both_contradict` meets its contract. Each arm knows its variant.
 use mathlib.Core.Path.{sym, ap₂, _∙_}
 use Rattle.pile_runs.specs.Clash.{contradicting}
 use borrow.Author.Needs.{needs}

@@ -1,4 +1,4 @@
--- `runs::compare::contradicts` meets its contract. The two radii are less than the difference of the times exactly
+-- `pile_runs::compare::contradicts` meets its contract. The two radii are less than the difference of the times exactly
 -- where `clash` holds.
 use Prim.Native.Nat.{_+_, _-_}
 use mathlib.Core.Path.{sym}

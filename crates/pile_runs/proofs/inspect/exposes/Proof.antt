@@ -1,4 +1,4 @@
--- `runs::inspect::exposes` meets its contract. The one call tells whether the ends of the run contradict, the other
+-- `pile_runs::inspect::exposes` meets its contract. The one call tells whether the ends of the run contradict, the other
 -- whether it is clean.
 use mathlib.Core.Bool.{Bool, true, false}
 use Prim.Native.Nat.{ℕ}

@@ -1,4 +1,4 @@
--- `runs::inspect::is_clean` meets its contract. The run as far as k is clean.
+-- `pile_runs::inspect::is_clean` meets its contract. The run as far as k is clean.
 use mathlib.Core.Path.{_≡_, refl}
 use Prim.Native.Nat.{_+_, _-_, _≤_}
 use native.Mathlib.Omega.{arith}

@@ -1,4 +1,4 @@
--- `runs::search::first_start` meets its contract. No run of this length that starts before `start` is clean with ends
+-- `pile_runs::search::first_start` meets its contract. No run of this length that starts before `start` is clean with ends
 -- that contradict.
 use Prim.Native.Nat.{ℕ, _+_, _-_, _≤_, _<_}
 use native.Mathlib.Omega.{arith}

@@ -1,4 +1,4 @@
--- `runs::search::shortest_run` meets its contract.
+-- `pile_runs::search::shortest_run` meets its contract.
 -- The least clean run whose ends contradict is the least that convicts.
 use Prim.Native.Nat.{_-_}
 use Rattle.pile_runs.proofs.Passed.{Passed, begin, next, found, nothing}

@@ -1,4 +1,4 @@
--- `signed::judging::checked_at` meets its contract.
+-- `pile_signed::judging::checked_at` meets its contract.
 use native.Mathlib.Omega.{arith}
 use Rattle.pile_signed.proofs.Own.{said-delegated, said-responded}
 use borrow.Author.Needs.{needs}

@@ -1,4 +1,4 @@
--- `signed::judging::checked_on` meets its contract.
+-- `pile_signed::judging::checked_on` meets its contract.
 use Rattle.pile.proofs.Judges.{said-damaged, said-whole}
 use Rattle.pile.proofs.Reaching.{lengths-fit}
 use borrow.Author.Needs.{needs}

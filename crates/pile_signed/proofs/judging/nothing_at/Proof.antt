@@ -1,4 +1,4 @@
--- `signed::judging::nothing_at` meets its contract.
+-- `pile_signed::judging::nothing_at` meets its contract.
 -- It returns true at the first test of the row that holds, and else what the last test says.
 use Rattle.laws.proofs.Rows.{row}
 use Rattle.pile.specs.Valid.{nothingAt}

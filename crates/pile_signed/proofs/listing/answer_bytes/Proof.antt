@@ -1,4 +1,4 @@
--- `signed::listing::answer_bytes` meets its contract. The answers of the records passed stand in their places.
+-- `pile_signed::listing::answer_bytes` meets its contract. The answers of the records passed stand in their places.
 use mathlib.Core.Path.{_≡_, refl, sym, ap, _∙_}
 use mathlib.Core.List.{List}
 use Prim.Native.Nat.{ℕ, _+_, _-_, _*_, _≤_, _<_}

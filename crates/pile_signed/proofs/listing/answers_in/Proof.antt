@@ -1,4 +1,4 @@
--- `signed::listing::answers_in` meets its contract.
+-- `pile_signed::listing::answers_in` meets its contract.
 use mathlib.Core.Path.{_≡_, sym, ap, ap₂, _∙_}
 use native.Mathlib.Omega.{arith}
 use lib.ListN.{length}

@@ -1,4 +1,4 @@
--- `signed::listing::pile_answers` meets its contract.
+-- `pile_signed::listing::pile_answers` meets its contract.
 use mathlib.Core.Path.{_≡_, refl, sym, ap, _∙_}
 use mathlib.Core.Bool.{Bool, true, false}
 use Prim.Native.Nat.{_*_}

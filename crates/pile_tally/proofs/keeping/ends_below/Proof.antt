@@ -1,4 +1,4 @@
--- `tally::keeping::ends_below` meets its contract. RADI is below the difference exactly where the sum is below `most`.
+-- `pile_tally::keeping::ends_below` meets its contract. RADI is below the difference exactly where the sum is below `most`.
 use Prim.Native.Nat.{_+_, _-_}
 use mathlib.Core.Path.{sym}
 use native.Mathlib.Omega.{arith}

@@ -1,4 +1,4 @@
--- `tally::keeping::start` meets its contract. Of no window 0 is kept.
+-- `pile_tally::keeping::start` meets its contract. Of no window 0 is kept.
 use mathlib.Core.Path.{refl}
 use Rattle.pile_tally.specs.Kept.{mostOf}
 use Rattle.pile_tally.proofs.keeping.start.Statement.{statement}

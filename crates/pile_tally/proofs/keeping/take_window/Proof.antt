@@ -1,4 +1,4 @@
--- `tally::keeping::take_window` meets its contract. What it says of any state it says of windows of which that is kept.
+-- `pile_tally::keeping::take_window` meets its contract. What it says of any state it says of windows of which that is kept.
 use mathlib.Core.Path.{ap₂}
 use mathlib.Core.Bool.{Bool}
 use Prim.Native.Nat.{ℕ}

@@ -1,4 +1,4 @@
--- `tally::passing::any_contradiction` meets its contract. No two of the records before record k contradict, and the
+-- `pile_tally::passing::any_contradiction` meets its contract. No two of the records before record k contradict, and the
 -- state is what is kept of them.
 use Prim.Native.Nat.{_-_, _≤_}
 use native.Mathlib.Omega.{arith}

@@ -1,4 +1,4 @@
--- `tally::passing::pile_contradicts` meets its contract. The verdicts of the array are those on the pile's records.
+-- `pile_tally::passing::pile_contradicts` meets its contract. The verdicts of the array are those on the pile's records.
 use mathlib.Core.Path.{_≡_, refl, ap, _∙_}
 use mathlib.Core.Bool.{not}
 use native.Mathlib.Omega.{arith}

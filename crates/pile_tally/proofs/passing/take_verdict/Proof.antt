@@ -1,4 +1,4 @@
--- `tally::passing::take_verdict` meets its contract.
+-- `pile_tally::passing::take_verdict` meets its contract.
 use mathlib.Core.Path.{sym, ap, _∙_}
 use Rattle.pile_tally.specs.Kept.{tallied}
 use borrow.Author.Needs.{needs}

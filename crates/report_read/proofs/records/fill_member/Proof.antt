@@ -1,4 +1,4 @@
--- `intake::records::fill_member` meets its contract.
+-- `report_read::records::fill_member` meets its contract.
 use borrow.Author.Needs.{needs}
 use native.Mathlib.Omega.{arith}
 use lib.ListN.{length, length-replicate}

@@ -1,4 +1,4 @@
--- `intake::records::put_member` meets its contract.
+-- `report_read::records::put_member` meets its contract.
 use borrow.Author.Needs.{needs}
 use Prim.Native.Nat.{ℕ, _+_, _-_}
 use mathlib.Core.Path.{_∙_, ap}

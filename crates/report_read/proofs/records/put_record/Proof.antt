@@ -1,4 +1,4 @@
--- `intake::records::put_record` meets its contract.
+-- `report_read::records::put_record` meets its contract.
 use borrow.Author.Needs.{needs}
 use Prim.Native.Nat.{_+_, _-_}
 use mathlib.Core.Path.{_≡_}

@@ -1,4 +1,4 @@
--- `intake::records::put_sizes` meets its contract.
+-- `report_read::records::put_sizes` meets its contract.
 use borrow.Author.Needs.{needs}
 use native.Mathlib.Omega.{arith}
 use Rattle.report_read.proofs.Areas.{two-lengths}

@@ -1,4 +1,4 @@
--- `publish::listing::put_list` meets its contract. What is left to write is the list from record k on.
+-- `report_write::listing::put_list` meets its contract. What is left to write is the list from record k on.
 use borrow.Author.Needs.{needs}
 use native.Mathlib.Omega.{arith}
 use mathlib.Core.Bool.{true}

@@ -1,4 +1,4 @@
--- `publish::listing::put_text` meets its contract: the list follows the opening.
+-- `report_write::listing::put_text` meets its contract: the list follows the opening.
 use borrow.Author.Needs.{needs}
 use native.Mathlib.Omega.{arith}
 use Rattle.report_write.proofs.Lists.{text-fits, list-fits, text-done}

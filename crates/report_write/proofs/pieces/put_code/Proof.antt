@@ -1,4 +1,4 @@
--- `publish::pieces::put_code` meets its contract.
+-- `report_write::pieces::put_code` meets its contract.
 use borrow.Author.Needs.{needs}
 use native.Mathlib.Omega.{arith}
 use Prim.Native.Nat.{_+_, _*_, _/_, _≤_}

@@ -1,4 +1,4 @@
--- `publish::pieces::put_object` meets its contract: the packets follow the head, and two bytes the packets.
+-- `report_write::pieces::put_object` meets its contract: the packets follow the head, and two bytes the packets.
 use borrow.Author.Needs.{needs}
 use native.Mathlib.Omega.{arith}
 use Prim.Native.Nat.{_+_}

@@ -1,4 +1,4 @@
--- `publish::pieces::put_packets` meets its contract.
+-- `report_write::pieces::put_packets` meets its contract.
 use borrow.Author.Needs.{needs}
 use native.Mathlib.Omega.{arith}
 use Rattle.report_write.proofs.Heads.{packets-left, packets-right, packets-done}

@@ -1,4 +1,4 @@
--- `publish::pieces::put_piece` meets its contract: base64 follows the word.
+-- `report_write::pieces::put_piece` meets its contract: base64 follows the word.
 use borrow.Author.Needs.{needs}
 use native.Mathlib.Omega.{arith}
 use Prim.Native.Nat.{_+_}

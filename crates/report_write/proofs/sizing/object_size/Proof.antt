@@ -1,4 +1,4 @@
--- `publish::sizing::object_size` meets its contract.
+-- `report_write::sizing::object_size` meets its contract.
 use borrow.Author.Needs.{needs}
 use native.Mathlib.Omega.{arith}
 use Prim.Native.Nat.{_+_, _*_, _/_, _≤_}

@@ -1,4 +1,4 @@
--- `publish::sizing::text_size` meets its contract: what is counted and what is left come to the whole.
+-- `report_write::sizing::text_size` meets its contract: what is counted and what is left come to the whole.
 use borrow.Author.Needs.{needs}
 use native.Mathlib.Omega.{arith}
 use Prim.Native.Nat.{_+_, _*_}

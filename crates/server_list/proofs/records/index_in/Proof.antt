@@ -1,4 +1,4 @@
--- `servers::records::index_in` meets its contract. The loop keeps: no record before k has the SRV value.
+-- `server_list::records::index_in` meets its contract. The loop keeps: no record before k has the SRV value.
 use mathlib.Core.Path.{_≡_, ap, _∙_}
 use Prim.Native.Nat.{_-_, _≤_}
 use native.Mathlib.Omega.{arith}

@@ -1,4 +1,4 @@
--- `servers::records::record_of` meets its contract.
+-- `server_list::records::record_of` meets its contract.
 use mathlib.Core.Path.{refl}
 use native.Mathlib.Nat.{add-sub-cancel-left}
 use Rattle.server_list.specs.Lists.{serverAt}

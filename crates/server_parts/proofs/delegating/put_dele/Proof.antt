@@ -1,4 +1,4 @@
--- `seals::delegating::put_dele` meets its contract. The four pieces follow each other.
+-- `server_parts::delegating::put_dele` meets its contract. The four pieces follow each other.
 use mathlib.Core.Path.{_≡_, refl, sym, ap, _∙_}
 use native.Mathlib.Omega.{arith}
 use lib.ListN.{length}

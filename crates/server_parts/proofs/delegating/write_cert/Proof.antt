@@ -1,4 +1,4 @@
--- `seals::delegating::write_cert` meets its contract. The three pieces follow each other from the front.
+-- `server_parts::delegating::write_cert` meets its contract. The three pieces follow each other from the front.
 use mathlib.Core.Path.{_≡_, refl, sym}
 use native.Mathlib.Omega.{arith}
 use lib.ListN.{length}

@@ -1,4 +1,4 @@
--- `seals::delegating::write_dele` meets its contract.
+-- `server_parts::delegating::write_dele` meets its contract.
 use mathlib.Core.Path.{refl}
 use native.Mathlib.Omega.{arith}
 use Rattle.laws.proofs.Written.{puts-one}

@@ -1,4 +1,4 @@
--- `seals::signing::put_srep` meets its contract. The four pieces follow each other.
+-- `server_parts::signing::put_srep` meets its contract. The four pieces follow each other.
 use mathlib.Core.Path.{_≡_, refl, sym, ap, _∙_}
 use native.Mathlib.Omega.{arith}
 use lib.ListN.{length}

@@ -1,4 +1,4 @@
--- `seals::signing::radius_code` meets its contract.
+-- `server_parts::signing::radius_code` meets its contract.
 use Rattle.laws.specs.First.{whenOf}
 use borrow.Author.Tests.{eq-eqb, ne-eqb}
 use borrow.Author.Needs.{needs}

@@ -1,4 +1,4 @@
--- `seals::signing::write_srep` meets its contract.
+-- `server_parts::signing::write_srep` meets its contract.
 use native.Mathlib.Omega.{arith}
 use Rattle.laws.proofs.Written.{puts-one}
 use Rattle.wire_request.proofs.Answered.{writer-refused, writer-short, writer-done}

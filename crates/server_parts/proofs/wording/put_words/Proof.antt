@@ -1,4 +1,4 @@
--- `seals::wording::put_words` meets its contract. The loop has put the first i words.
+-- `server_parts::wording::put_words` meets its contract. The loop has put the first i words.
 use mathlib.Core.Path.{_≡_, refl}
 use Prim.Native.Nat.{_-_, _≤_}
 use native.Mathlib.Omega.{arith}

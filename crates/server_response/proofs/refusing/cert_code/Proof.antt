@@ -1,4 +1,4 @@
--- `respond::refusing::cert_code` meets its contract. Each return is the first refusal of the row.
+-- `server_response::refusing::cert_code` meets its contract. Each return is the first refusal of the row.
 use Rattle.laws.proofs.First.{says-0, says-more, is-last}
 use Rattle.refusal.specs.Refusal.{refusals}
 use Rattle.wire_message.proofs.Codes.{message-good}

@@ -1,4 +1,4 @@
--- `respond::refusing::fit_code` meets its contract. Each return is the first refusal of the row.
+-- `server_response::refusing::fit_code` meets its contract. Each return is the first refusal of the row.
 use mathlib.Core.Path.{refl}
 use Prim.Native.Nat.{_+_}
 use borrow.Author.Tests.{ltb-true, ltb-false}

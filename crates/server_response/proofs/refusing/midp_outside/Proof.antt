@@ -1,4 +1,4 @@
--- `respond::refusing::midp_outside` meets its contract.
+-- `server_response::refusing::midp_outside` meets its contract.
 use mathlib.Core.Path.{_≡_, sym, ap, _∙_}
 use native.Mathlib.Omega.{arith}
 use mathlib.Core.Bool.{or-false}

@@ -1,4 +1,4 @@
--- `respond::refusing::outer_code` meets its contract. The numbers that the code hands over are the rows of the table.
+-- `server_response::refusing::outer_code` meets its contract. The numbers that the code hands over are the rows of the table.
 use Rattle.laws.specs.Upto.{upto}
 use Rattle.wire_message.specs.Numbered.{ruleIn, rowsIn}
 use borrow.Author.Needs.{needs}

@@ -1,4 +1,4 @@
--- `respond::refusing::reply_misses` meets its contract.
+-- `server_response::refusing::reply_misses` meets its contract.
 use Rattle.server_response.specs.Refusing.{replyMisses}
 use borrow.Author.Needs.{needs}
 use Rattle.server_response.proofs.refusing.reply_misses.Statement.{statement}

@@ -1,4 +1,4 @@
--- `respond::refusing::tests_code` meets its contract. Each return is the first refusal of the row.
+-- `server_response::refusing::tests_code` meets its contract. Each return is the first refusal of the row.
 use Prim.Native.Nat.{_+_}
 use mathlib.Core.List.{[], _∷_}
 use mathlib.Core.Path.{_≡_}

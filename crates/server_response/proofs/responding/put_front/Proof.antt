@@ -1,4 +1,4 @@
--- `respond::responding::put_front` meets its contract. The five pieces follow each other from the front.
+-- `server_response::responding::put_front` meets its contract. The five pieces follow each other from the front.
 use mathlib.Core.Path.{_≡_, refl, sym}
 use mathlib.Core.List.{[], _∷_}
 use native.Mathlib.Omega.{arith}

@@ -1,4 +1,4 @@
--- `respond::responding::put_rest` meets its contract. The four pieces follow each other.
+-- `server_response::responding::put_rest` meets its contract. The four pieces follow each other.
 use mathlib.Core.Path.{refl, sym}
 use native.Mathlib.Omega.{arith}
 use lib.ListN.{length}

@@ -1,4 +1,4 @@
--- `respond::responding::write_response` meets its contract. The two pieces follow each other from the front.
+-- `server_response::responding::write_response` meets its contract. The two pieces follow each other from the front.
 use Prim.Native.Nat.{ℕ, _+_, _≤_}
 use mathlib.Core.List.{List}
 use mathlib.Core.Path.{_≡_, sym, ap, _∙_}

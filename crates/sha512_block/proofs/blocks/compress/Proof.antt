@@ -1,4 +1,4 @@
--- `block::blocks::compress` meets its contract.
+-- `sha512_block::blocks::compress` meets its contract.
 use Rattle.sha512_block.specs.HashValue.{compress}
 use borrow.Author.Needs.{needs}
 use Rattle.sha512_block.proofs.blocks.compress.Statement.{statement}

@@ -1,4 +1,4 @@
--- `block::blocks::hash_blocks` meets its contract.
+-- `sha512_block::blocks::hash_blocks` meets its contract.
 -- With no whole block the hash value stays.
 -- The loop keeps: the table is that of the constants, and the hash value is that after i blocks.
 use mathlib.Core.Path.{_≡_, refl, ap, _∙_}

@@ -1,4 +1,4 @@
--- `block::blocks::next_hash` meets its contract.
+-- `sha512_block::blocks::next_hash` meets its contract.
 use Rattle.sha512_block.specs.HashValue.{nextHash}
 use borrow.Author.Needs.{needs}
 use Rattle.sha512_block.proofs.blocks.next_hash.Statement.{statement}

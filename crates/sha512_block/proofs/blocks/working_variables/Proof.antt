@@ -1,4 +1,4 @@
--- `block::blocks::working_variables` meets its contract.
+-- `sha512_block::blocks::working_variables` meets its contract.
 use mathlib.Core.Path.{refl}
 use Rattle.sha512_block.specs.Rounds.{workingVariables}
 use borrow.Author.Needs.{needs}

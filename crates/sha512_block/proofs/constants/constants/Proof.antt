@@ -1,4 +1,4 @@
--- `block::constants::constants` meets its contract.
+-- `sha512_block::constants::constants` meets its contract.
 use mathlib.Core.Path.{refl}
 use Rattle.sha512_block.specs.Constants.{K}
 use Rattle.sha512_block.proofs.constants.constants.Statement.{statement}

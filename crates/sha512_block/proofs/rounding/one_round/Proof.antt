@@ -1,4 +1,4 @@
--- `block::rounding::one_round` meets its contract.
+-- `sha512_block::rounding::one_round` meets its contract.
 use borrow.Author.Needs.{needs}
 use Rattle.sha512_block.proofs.rounding.one_round.Statement.{statement}
 use Rattle.sha512_block.proofs.rounding.one_round.Tie as tie

@@ -1,4 +1,4 @@
--- `block::rounding::round` meets its contract.
+-- `sha512_block::rounding::round` meets its contract.
 use Rattle.sha512_block.specs.Rounds.{round}
 use borrow.Author.Needs.{needs}
 use Rattle.sha512_block.proofs.rounding.round.Statement.{statement}

@@ -1,4 +1,4 @@
--- `block::rounding::rounds` meets its contract. The loop keeps: the words and the working variables are those
+-- `sha512_block::rounding::rounds` meets its contract. The loop keeps: the words and the working variables are those
 -- before round t.
 use mathlib.Core.Path.{_≡_}
 use Prim.Native.Nat.{_≤_, _-_, _%_}

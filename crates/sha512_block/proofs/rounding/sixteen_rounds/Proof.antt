@@ -1,4 +1,4 @@
--- `block::rounding::sixteen_rounds` meets its contract. Each call is one step more.
+-- `sha512_block::rounding::sixteen_rounds` meets its contract. Each call is one step more.
 use Rattle.sha512_block.specs.Rolling.{roundStep}
 use Rattle.sha512_block.proofs.Steps.{step-none, step-more}
 use borrow.Author.Needs.{needs}

@@ -1,4 +1,4 @@
--- `block::rounding::turn` meets its contract.
+-- `sha512_block::rounding::turn` meets its contract.
 use Prim.Native.Nat.{_+_}
 use mathlib.Core.Path.{_≡_, ap₂}
 use Rattle.sha512_block.specs.Rolling.{turning, roundStep}

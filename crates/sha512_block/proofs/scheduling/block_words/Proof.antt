@@ -1,4 +1,4 @@
--- `block::scheduling::block_words` meets its contract.
+-- `sha512_block::scheduling::block_words` meets its contract.
 use Prim.Native.Nat.{ℕ}
 use mathlib.Core.Path.{ap, ap₂}
 use mathlib.Core.List.{[], _∷_}

@@ -1,4 +1,4 @@
--- `block::scheduling::next_word` meets its contract.
+-- `sha512_block::scheduling::next_word` meets its contract.
 use mathlib.Core.Path.{refl}
 use borrow.Author.Needs.{needs}
 use Rattle.sha512_block.proofs.scheduling.next_word.Statement.{statement}

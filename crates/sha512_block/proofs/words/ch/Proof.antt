@@ -1,4 +1,4 @@
--- `block::words::ch` meets its contract.
+-- `sha512_block::words::ch` meets its contract.
 use Rattle.sha512_block.proofs.Bitwise.{choice-is}
 use Rattle.sha512_block.proofs.words.ch.Statement.{statement}
 use Rattle.sha512_block.proofs.words.ch.Tie as tie

@@ -1,4 +1,4 @@
--- `block::words::maj` meets its contract.
+-- `sha512_block::words::maj` meets its contract.
 use Rattle.sha512_block.proofs.Bitwise.{majority-is}
 use Rattle.sha512_block.proofs.words.maj.Statement.{statement}
 use Rattle.sha512_block.proofs.words.maj.Tie as tie

@@ -1,4 +1,4 @@
--- `batch::ascent::ascend` meets its contract. The loop keeps an `Ascending` of a large level that is not the root.
+-- `tree_build::ascent::ascend` meets its contract. The loop keeps an `Ascending` of a large level that is not the root.
 use Prim.Native.Nat.{_<_}
 use native.Mathlib.Omega.{arith}
 use Rattle.laws.proofs.Written.{puts-length}

@@ -1,4 +1,4 @@
--- `batch::ascent::ascend_few` meets its contract. The loop keeps an `Ascending`, of the tree over the level itself.
+-- `tree_build::ascent::ascend_few` meets its contract. The loop keeps an `Ascending`, of the tree over the level itself.
 use mathlib.Core.Path.{_≡_}
 use native.Mathlib.Omega.{arith}
 use lib.ListN.{length}

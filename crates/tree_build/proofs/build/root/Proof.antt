@@ -1,4 +1,4 @@
--- `batch::build::root` meets its contract. Each way out has its law.
+-- `tree_build::build::root` meets its contract. Each way out has its law.
 use Rattle.tree_build.proofs.BuildingLaws.{rooted-none, rooted-some}
 use borrow.Author.Needs.{needs}
 use Rattle.tree_build.proofs.build.root.Statement.{statement}

@@ -1,4 +1,4 @@
--- `batch::part::put_part` meets its contract, whatever is wanted.
+-- `tree_build::part::put_part` meets its contract, whatever is wanted.
 use native.Mathlib.Omega.{arith}
 use Rattle.laws.specs.Flat.{flat}
 use Rattle.laws.proofs.Written.{puts-none}

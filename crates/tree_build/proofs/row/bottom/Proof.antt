@@ -1,4 +1,4 @@
--- `batch::row::bottom` meets its contract. The loop keeps: the first `i` places hold the leaves.
+-- `tree_build::row::bottom` meets its contract. The loop keeps: the first `i` places hold the leaves.
 use Prim.Native.Nat.{ℕ, _≤_, _<_, _-_}
 use mathlib.Core.Path.{_≡_, refl, _∙_}
 use mathlib.Core.List.{[]}

@@ -1,4 +1,4 @@
--- `batch::row::pad` meets its contract. The loop keeps: what is promised, up to place `i`.
+-- `tree_build::row::pad` meets its contract. The loop keeps: what is promised, up to place `i`.
 use Prim.Native.Nat.{_-_, _≤_}
 use mathlib.Core.Path.{_≡_}
 use native.Mathlib.Omega.{arith}

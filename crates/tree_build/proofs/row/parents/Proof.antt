@@ -1,4 +1,4 @@
--- `batch::row::parents` meets its contract. The loop keeps: what is promised, up to node `i`.
+-- `tree_build::row::parents` meets its contract. The loop keeps: what is promised, up to node `i`.
 use Prim.Native.Nat.{_≤_, _-_}
 use mathlib.Core.Path.{_≡_}
 use lib.ListN.{length}

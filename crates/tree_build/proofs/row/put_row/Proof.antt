@@ -1,4 +1,4 @@
--- `batch::row::put_row` meets its contract. The loop keeps: the first `i` nodes are put.
+-- `tree_build::row::put_row` meets its contract. The loop keeps: the first `i` nodes are put.
 use mathlib.Core.Path.{_≡_}
 use Prim.Native.Nat.{_+_, _*_, _≤_, _-_}
 use native.Mathlib.Nat.{add-zero}

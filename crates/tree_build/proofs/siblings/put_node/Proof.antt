@@ -1,4 +1,4 @@
--- `batch::siblings::put_node` meets its contract.
+-- `tree_build::siblings::put_node` meets its contract.
 use Rattle.laws.proofs.Written.{puts-one}
 use borrow.Author.Needs.{needs}
 use Rattle.tree_build.proofs.siblings.put_node.Statement.{statement}

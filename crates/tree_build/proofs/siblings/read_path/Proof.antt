@@ -1,4 +1,4 @@
--- `batch::siblings::read_path` meets its contract. The loop keeps a `Writing`, and where its level starts.
+-- `tree_build::siblings::read_path` meets its contract. The loop keeps a `Writing`, and where its level starts.
 use mathlib.Core.Path.{_≡_}
 use Prim.Native.Nat.{_+_, _*_, _^_}
 use native.Mathlib.Omega.{arith}

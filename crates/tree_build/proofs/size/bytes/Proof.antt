@@ -1,4 +1,4 @@
--- `batch::size::bytes` meets its contract.
+-- `tree_build::size::bytes` meets its contract.
 use native.Mathlib.Omega.{arith}
 use lib.Pow.{pow-pos}
 use borrow.Author.Needs.{needs}

@@ -1,4 +1,4 @@
--- `batch::size::count_of` meets its contract. Its tests are the definition's.
+-- `tree_build::size::count_of` meets its contract. Its tests are the definition's.
 use native.Mathlib.Omega.{arith}
 use borrow.Author.Tests.{eq-eqb, ne-eqb, le-leb, lt-leb}
 use Rattle.tree_build.specs.Leaves.{countOf}

@@ -1,4 +1,4 @@
--- `batch::size::depth` meets its contract.
+-- `tree_build::size::depth` meets its contract.
 use native.Mathlib.Omega.{arith}
 use Rattle.tree_build.proofs.Depth.{depth-of, deep-most}
 use borrow.Author.Needs.{needs}

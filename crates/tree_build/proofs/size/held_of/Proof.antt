@@ -1,4 +1,4 @@
--- `batch::size::held_of` meets its contract. Its tests are the definition's.
+-- `tree_build::size::held_of` meets its contract. Its tests are the definition's.
 use mathlib.Core.Path.{sym, ap, _∙_}
 use Prim.Native.Nat.{ℕ, _*_}
 use native.Mathlib.Omega.{arith}

@@ -1,4 +1,4 @@
--- `batch::size::rows_length` meets its contract.
+-- `tree_build::size::rows_length` meets its contract.
 use mathlib.Core.Path.{sym, ap, _∙_}
 use Prim.Native.Nat.{ℕ, _*_}
 use borrow.Author.Tests.{eq-eqb, ne-eqb}

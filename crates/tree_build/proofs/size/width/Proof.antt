@@ -1,4 +1,4 @@
--- `batch::size::width` meets its contract.
+-- `tree_build::size::width` meets its contract.
 use native.Mathlib.Omega.{arith}
 use Rattle.tree.proofs.Width.{exponent-lt}
 use borrow.Author.Needs.{needs}

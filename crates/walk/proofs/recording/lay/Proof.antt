@@ -10,7 +10,7 @@ use Rattle.pile.specs.Layout.{REQUEST, RESPONSE, RECORD, AREA}
 use Rattle.pile.specs.Recording.{headBytes, recordBytes}
 use Rattle.walk.specs.State.{ASKED}
 use Rattle.pile.proofs.Recorded.{length-heading, length-record}
-use Rattle.walk.proofs.Laid.{laid}
+use Rattle.walk.proofs.RecordLaid.{laid}
 use borrow.Author.Needs.{needs}
 use Rattle.walk.proofs.recording.lay.Statement.{statement}
 use Rattle.walk.proofs.recording.lay.Tie as tie

@@ -1,4 +1,4 @@
--- `hearing::taking::own_heard` meets its contract.
+-- `walk_signed::taking::own_heard` meets its contract.
 use borrow.Author.Needs.{needs}
 use Rattle.walk_signed.proofs.taking.own_heard.Statement.{statement}
 use Rattle.walk_signed.proofs.taking.own_heard.Tie as tie

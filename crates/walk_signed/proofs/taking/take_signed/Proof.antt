@@ -1,4 +1,4 @@
--- `hearing::taking::take_signed` meets its contract.
+-- `walk_signed::taking::take_signed` meets its contract.
 use Rattle.walk.proofs.Accepting.{accepted}
 use Rattle.walk.proofs.Taken.{untaken}
 use Rattle.walk_signed.specs.Heard.{ownHeard}

@@ -1,4 +1,4 @@
--- `message::frame::count_bad` meets its contract. The three tests of N.
+-- `wire_message::frame::count_bad` meets its contract. The three tests of N.
 use native.Mathlib.Omega.{arith}
 use mathlib.Core.Path.{sym}
 use mathlib.Core.Bool.{or-false}

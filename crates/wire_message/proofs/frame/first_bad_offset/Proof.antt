@@ -1,4 +1,4 @@
--- `message::frame::first_bad_offset` meets its contract. The scan has found no bad offset below i, and `last` is the
+-- `wire_message::frame::first_bad_offset` meets its contract. The scan has found no bad offset below i, and `last` is the
 -- one before offset[i].
 use native.Mathlib.Omega.{arith}
 use Prim.Native.Nat.{_+_, _-_, _%_, _≤_}

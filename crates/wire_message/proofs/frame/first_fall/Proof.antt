@@ -1,4 +1,4 @@
--- `message::frame::first_fall` meets its contract. The scan has found no fall below k.
+-- `wire_message::frame::first_fall` meets its contract. The scan has found no fall below k.
 use native.Mathlib.Omega.{arith}
 use Prim.Native.Nat.{_+_, _-_, _≤_}
 use mathlib.Core.Path.{_≡_}

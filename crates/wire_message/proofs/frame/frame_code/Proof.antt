@@ -1,4 +1,4 @@
--- `message::frame::frame_code` meets its contract. Each return is the first refusal of its row.
+-- `wire_message::frame::frame_code` meets its contract. Each return is the first refusal of its row.
 use Rattle.laws.proofs.First.{chain}
 use Rattle.wire_message.proofs.Tests.{length-good, count-good}
 use Rattle.wire_message.specs.Frame.{frameCode}

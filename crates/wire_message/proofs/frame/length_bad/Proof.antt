@@ -1,4 +1,4 @@
--- `message::frame::length_bad` meets its contract. The two tests of a length.
+-- `wire_message::frame::length_bad` meets its contract. The two tests of a length.
 use native.Mathlib.Omega.{arith}
 use mathlib.Core.Path.{sym}
 use mathlib.Core.Bool.{or-false}

@@ -1,4 +1,4 @@
--- `message::frame::offsets_code` meets its contract. The place is that of the first wrong offset.
+-- `wire_message::frame::offsets_code` meets its contract. The place is that of the first wrong offset.
 use Prim.Native.Nat.{ℕ, _*_}
 use mathlib.Core.Path.{ap, _∙_}
 use native.Mathlib.Omega.{arith}

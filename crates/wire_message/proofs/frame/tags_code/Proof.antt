@@ -1,4 +1,4 @@
--- `message::frame::tags_code` meets its contract. The place is that of the first tag that does not rise.
+-- `wire_message::frame::tags_code` meets its contract. The place is that of the first tag that does not rise.
 use Prim.Native.Nat.{ℕ, _+_, _-_, _*_}
 use mathlib.Core.Path.{ap, ap₂, _∙_}
 use native.Mathlib.Omega.{arith}

@@ -1,4 +1,4 @@
--- `message::rules::first_broken` meets its contract. The scan has found nothing below k.
+-- `wire_message::rules::first_broken` meets its contract. The scan has found nothing below k.
 use native.Mathlib.Omega.{arith}
 use Prim.Native.Nat.{_-_, _/_, _≤_}
 use mathlib.Core.Path.{_≡_}

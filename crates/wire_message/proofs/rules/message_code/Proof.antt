@@ -1,4 +1,4 @@
--- `message::rules::message_code` meets its contract. Each return is the first refusal of its row.
+-- `wire_message::rules::message_code` meets its contract. Each return is the first refusal of its row.
 use Rattle.laws.proofs.First.{chain}
 use Rattle.wire_message.proofs.Codes.{frame-good}
 use Rattle.wire_message.specs.Rules.{messageCode}

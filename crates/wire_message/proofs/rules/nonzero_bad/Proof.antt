@@ -1,4 +1,4 @@
--- `message::rules::nonzero_bad` meets its contract. From what its callees ensure.
+-- `wire_message::rules::nonzero_bad` meets its contract. From what its callees ensure.
 use native.Mathlib.Omega.{arith}
 use mathlib.Core.Path.{sym, ap}
 use mathlib.Core.Bool.{or-false, not}

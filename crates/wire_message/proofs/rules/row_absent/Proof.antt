@@ -1,4 +1,4 @@
--- `message::rules::row_absent` meets its contract. From what its callees ensure.
+-- `wire_message::rules::row_absent` meets its contract. From what its callees ensure.
 use borrow.Author.Tests.{eq-eqb, ne-eqb}
 use Rattle.wire_message.specs.Rules.{absent}
 use borrow.Author.Needs.{needs}

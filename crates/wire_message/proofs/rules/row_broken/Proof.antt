@@ -1,4 +1,4 @@
--- `message::rules::row_broken` meets its contract. From what its callees ensure.
+-- `wire_message::rules::row_broken` meets its contract. From what its callees ensure.
 use mathlib.Core.Path.{sym, _∙_}
 use Rattle.wire_message.specs.Rules.{broken}
 use borrow.Author.Needs.{needs}

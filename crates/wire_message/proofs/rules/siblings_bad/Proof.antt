@@ -1,4 +1,4 @@
--- `message::rules::siblings_bad` meets its contract. From what its callees ensure.
+-- `wire_message::rules::siblings_bad` meets its contract. From what its callees ensure.
 use native.Mathlib.Omega.{arith}
 use mathlib.Core.Path.{sym}
 use mathlib.Core.Bool.{or-false}

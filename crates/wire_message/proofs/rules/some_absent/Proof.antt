@@ -1,4 +1,4 @@
--- `message::rules::some_absent` meets its contract. The scan stops before the last row.
+-- `wire_message::rules::some_absent` meets its contract. The scan stops before the last row.
 use Prim.Native.Nat.{ℕ}
 use mathlib.Core.Path.{sym, ap₂}
 use lib.Dec.{ltb}

@@ -1,4 +1,4 @@
--- `message::rules::value_bad` meets its contract. From what its callees ensure.
+-- `wire_message::rules::value_bad` meets its contract. From what its callees ensure.
 use borrow.Author.Tests.{eq-eqb, ne-eqb}
 use Rattle.wire_message.specs.Numbered.{ruleIn}
 use Rattle.wire_message.specs.Rules.{valueBad}

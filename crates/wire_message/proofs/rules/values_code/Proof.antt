@@ -1,4 +1,4 @@
--- `message::rules::values_code` meets its contract. The scan stops at the first wrong value, before the last row.
+-- `wire_message::rules::values_code` meets its contract. The scan stops at the first wrong value, before the last row.
 use Prim.Native.Nat.{ℕ}
 use mathlib.Core.Path.{sym, ap, _∙_}
 use borrow.Author.Needs.{needs}

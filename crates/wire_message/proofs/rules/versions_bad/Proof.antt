@@ -1,4 +1,4 @@
--- `message::rules::versions_bad` meets its contract. From what its callees ensure.
+-- `wire_message::rules::versions_bad` meets its contract. From what its callees ensure.
 use native.Mathlib.Omega.{arith}
 use Prim.Native.Nat.{_%_}
 use mathlib.Core.Path.{sym, ap}

@@ -1,4 +1,4 @@
--- `message::values::edge_at` meets its contract. The three cases of an edge.
+-- `wire_message::values::edge_at` meets its contract. The three cases of an edge.
 use native.Mathlib.Omega.{arith}
 use mathlib.Core.Path.{_≡_}
 use denote.Ref.{now}

@@ -1,4 +1,4 @@
--- `message::values::has_tag` meets its contract. The tag stands below the count.
+-- `wire_message::values::has_tag` meets its contract. The tag stands below the count.
 use Rattle.wire_message.specs.Values.{has}
 use borrow.Author.Needs.{needs}
 use Rattle.wire_message.proofs.values.has_tag.Statement.{statement}

@@ -1,4 +1,4 @@
--- `message::values::index_of` meets its contract. The scan has not met the tag below k.
+-- `wire_message::values::index_of` meets its contract. The scan has not met the tag below k.
 use native.Mathlib.Omega.{arith}
 use Prim.Native.Nat.{_-_, _≤_}
 use mathlib.Core.Path.{_≡_}

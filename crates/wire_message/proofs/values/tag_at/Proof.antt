@@ -1,4 +1,4 @@
--- `message::values::tag_at` meets its contract. N is the count.
+-- `wire_message::values::tag_at` meets its contract. N is the count.
 use borrow.Author.Needs.{needs}
 use Rattle.wire_message.proofs.values.tag_at.Statement.{statement}
 use Rattle.wire_message.proofs.values.tag_at.Tie as tie

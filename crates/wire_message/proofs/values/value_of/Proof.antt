@@ -1,4 +1,4 @@
--- `message::values::value_of` meets its contract. A good frame has the value within the message.
+-- `wire_message::values::value_of` meets its contract. A good frame has the value within the message.
 use native.Mathlib.Omega.{arith}
 use denote.Ref.{now}
 use Rattle.wire_message.proofs.Edges.{Inside, value-found, value-absent, value-in}

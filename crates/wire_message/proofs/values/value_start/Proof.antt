@@ -1,4 +1,4 @@
--- `message::values::value_start` meets its contract. A value starts within the message, or at its end.
+-- `wire_message::values::value_start` meets its contract. A value starts within the message, or at its end.
 use native.Mathlib.Omega.{arith}
 use Rattle.wire_message.specs.Values.{valueStart}
 use Rattle.wire_message.proofs.Edges.{index-in, edge-within}

@@ -1,4 +1,4 @@
--- `wire::fields::lacks` meets its contract. The scan has not met the version below k.
+-- `wire_packet::fields::lacks` meets its contract. The scan has not met the version below k.
 use Prim.Native.Nat.{_*_, _-_, _/_, _≤_}
 use native.Mathlib.Omega.{arith}
 use mathlib.Core.Path.{_≡_, sym, ap}

@@ -1,4 +1,4 @@
--- `wire::fields::lacks_version` meets its contract.
+-- `wire_packet::fields::lacks_version` meets its contract.
 use borrow.Author.Needs.{needs}
 use Rattle.wire_packet.proofs.fields.lacks_version.Statement.{statement}
 use Rattle.wire_packet.proofs.fields.lacks_version.Tie as tie

@@ -1,4 +1,4 @@
--- `wire::fields::number32` meets its contract.
+-- `wire_packet::fields::number32` meets its contract.
 use native.Mathlib.Omega.{arith}
 use borrow.Author.Needs.{needs}
 use Rattle.wire_packet.proofs.fields.number32.Statement.{statement}

@@ -1,4 +1,4 @@
--- `wire::fields::value32` meets its contract.
+-- `wire_packet::fields::value32` meets its contract.
 use mathlib.Core.Path.{ap, _∙_}
 use native.Mathlib.Omega.{arith}
 use lib.ListN.{take}

@@ -1,4 +1,4 @@
--- `wire::fields::value64` meets its contract. The value fills the array.
+-- `wire_packet::fields::value64` meets its contract. The value fills the array.
 use mathlib.Core.Path.{ap, _∙_}
 use native.Mathlib.Omega.{arith}
 use lib.ListN.{length, replicate}

@@ -1,4 +1,4 @@
--- `wire::packet::body_of` meets its contract.
+-- `wire_packet::packet::body_of` meets its contract.
 use Prim.Native.Nat.{_-_}
 use native.Mathlib.Omega.{arith}
 use lib.ListN.{length, drop, length-drop}

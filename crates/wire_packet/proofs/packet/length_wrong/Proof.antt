@@ -1,4 +1,4 @@
--- `wire::packet::length_wrong` meets its contract.
+-- `wire_packet::packet::length_wrong` meets its contract.
 use Rattle.wire_packet.specs.Packet.{lengthWrong}
 use borrow.Author.Needs.{needs}
 use Rattle.wire_packet.proofs.packet.length_wrong.Statement.{statement}

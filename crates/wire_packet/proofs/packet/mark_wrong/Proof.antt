@@ -1,4 +1,4 @@
--- `wire::packet::mark_wrong` meets its contract.
+-- `wire_packet::packet::mark_wrong` meets its contract.
 use native.Mathlib.Omega.{arith}
 use lib.ListN.{length-take}
 use Rattle.wire_packet.specs.Packet.{markWrong}

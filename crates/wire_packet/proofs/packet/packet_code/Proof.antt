@@ -1,4 +1,4 @@
--- `wire::packet::packet_code` meets its contract. Each return is the first refusal of the row.
+-- `wire_packet::packet::packet_code` meets its contract. Each return is the first refusal of the row.
 use Rattle.laws.proofs.First.{chain}
 use Rattle.wire_packet.specs.Packet.{packetCode}
 use borrow.Author.Needs.{needs}

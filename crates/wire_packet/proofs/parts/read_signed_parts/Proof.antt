@@ -1,4 +1,4 @@
--- `wire::parts::read_signed_parts` meets its contract.
+-- `wire_packet::parts::read_signed_parts` meets its contract.
 use mathlib.Core.Path.{sym, ap, _∙_}
 use borrow.Author.Tests.{eq-eqb, ne-eqb}
 use denote.Ref.{now}

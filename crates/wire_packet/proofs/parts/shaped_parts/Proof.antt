@@ -1,4 +1,4 @@
--- `wire::parts::shaped_parts` meets its contract.
+-- `wire_packet::parts::shaped_parts` meets its contract.
 use Rattle.wire_packet.specs.Parts.{partsIn}
 use borrow.Author.Needs.{needs}
 use Rattle.wire_packet.proofs.parts.shaped_parts.Statement.{statement}

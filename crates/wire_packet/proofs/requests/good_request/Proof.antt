@@ -1,4 +1,4 @@
--- `wire::requests::good_request` meets its contract.
+-- `wire_packet::requests::good_request` meets its contract.
 use mathlib.Core.Path.{sym, _∙_}
 use Rattle.wire_packet.specs.Request.{requestIn}
 use borrow.Author.Needs.{needs}

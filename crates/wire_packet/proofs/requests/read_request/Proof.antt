@@ -1,4 +1,4 @@
--- `wire::requests::read_request` meets its contract.
+-- `wire_packet::requests::read_request` meets its contract.
 use mathlib.Core.Path.{sym, ap, _∙_}
 use borrow.Author.Tests.{eq-eqb, ne-eqb}
 use denote.Ref.{now}

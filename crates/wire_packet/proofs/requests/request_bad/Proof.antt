@@ -1,4 +1,4 @@
--- `wire::requests::request_bad` meets its contract.
+-- `wire_packet::requests::request_bad` meets its contract.
 use Rattle.wire_packet.specs.Request.{requestBad}
 use borrow.Author.Needs.{needs}
 use Rattle.wire_packet.proofs.requests.request_bad.Statement.{statement}

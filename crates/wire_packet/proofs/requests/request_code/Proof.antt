@@ -1,4 +1,4 @@
--- `wire::requests::request_code` meets its contract. Each return is the first refusal of the row.
+-- `wire_packet::requests::request_code` meets its contract. Each return is the first refusal of the row.
 use mathlib.Core.Path.{ap, _∙_}
 use native.Mathlib.Omega.{arith}
 use denote.Ref.{now}

@@ -1,4 +1,4 @@
--- `wire::requests::request_message_code` meets its contract. Each return is the first refusal of the row.
+-- `wire_packet::requests::request_message_code` meets its contract. Each return is the first refusal of the row.
 use mathlib.Core.Path.{refl}
 use native.Mathlib.Omega.{arith}
 use Rattle.laws.proofs.First.{chain, quiet-of}

@@ -1,4 +1,4 @@
--- `wire::responses::good_response` meets its contract.
+-- `wire_packet::responses::good_response` meets its contract.
 use native.Mathlib.Omega.{arith}
 use Rattle.wire_packet.specs.Response.{responseIn}
 use borrow.Author.Needs.{needs}

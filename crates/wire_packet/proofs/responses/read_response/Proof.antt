@@ -1,4 +1,4 @@
--- `wire::responses::read_response` meets its contract.
+-- `wire_packet::responses::read_response` meets its contract.
 use mathlib.Core.Path.{sym, ap, _∙_}
 use borrow.Author.Tests.{eq-eqb, ne-eqb}
 use denote.Ref.{now}

@@ -1,4 +1,4 @@
--- `wire::responses::response_message_code` meets its contract. Each return is the first refusal of the row.
+-- `wire_packet::responses::response_message_code` meets its contract. Each return is the first refusal of the row.
 use denote.Ref.{now}
 use Rattle.laws.proofs.First.{chain}
 use Rattle.wire_packet.specs.Facts.{Shaped}

@@ -1,4 +1,4 @@
--- `wire::responses::srep_version` meets its contract.
+-- `wire_packet::responses::srep_version` meets its contract.
 use borrow.Author.Needs.{needs}
 use Rattle.wire_packet.proofs.responses.srep_version.Statement.{statement}
 use Rattle.wire_packet.proofs.responses.srep_version.Tie as tie

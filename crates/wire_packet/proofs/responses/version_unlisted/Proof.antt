@@ -1,4 +1,4 @@
--- `wire::responses::version_unlisted` meets its contract.
+-- `wire_packet::responses::version_unlisted` meets its contract.
 use Rattle.wire_packet.specs.Response.{versionUnlisted}
 use borrow.Author.Needs.{needs}
 use Rattle.wire_packet.proofs.responses.version_unlisted.Statement.{statement}

@@ -1,4 +1,4 @@
--- `wire::shape::cert_code` meets its contract. The numbers that the code hands over are the rows of the table.
+-- `wire_packet::shape::cert_code` meets its contract. The numbers that the code hands over are the rows of the table.
 use Prim.Native.Nat.{ℕ}
 use mathlib.Core.Path.{_≡_, ap, ap₂, _∙_}
 use native.Mathlib.Omega.{arith}

@@ -1,4 +1,4 @@
--- `wire::shape::dele_of` meets its contract.
+-- `wire_packet::shape::dele_of` meets its contract.
 use borrow.Author.Needs.{needs}
 use Rattle.wire_packet.proofs.shape.dele_of.Statement.{statement}
 use Rattle.wire_packet.proofs.shape.dele_of.Tie as tie

@@ -1,4 +1,4 @@
--- `wire::shape::dele_start` meets its contract. DELE stands in CERT, and CERT in the message.
+-- `wire_packet::shape::dele_start` meets its contract. DELE stands in CERT, and CERT in the message.
 use native.Mathlib.Omega.{arith}
 use denote.Ref.{now}
 use Rattle.wire_packet.proofs.PlacesIn.{dele-in}

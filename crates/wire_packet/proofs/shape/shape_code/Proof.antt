@@ -1,4 +1,4 @@
--- `wire::shape::shape_code` meets its contract. Each return is the first refusal of the row.
+-- `wire_packet::shape::shape_code` meets its contract. Each return is the first refusal of the row.
 use mathlib.Core.Path.{refl}
 use Rattle.laws.proofs.First.{chain, quiet-of}
 use Rattle.refusal.specs.Refusal.{refusals}

@@ -1,4 +1,4 @@
--- `writer::request::write_request` meets its contract. The five pieces follow each other from the front.
+-- `wire_request::request::write_request` meets its contract. The five pieces follow each other from the front.
 use mathlib.Core.Path.{_≡_, refl, sym, ap, _∙_}
 use native.Mathlib.Omega.{arith}
 use lib.ListN.{length, replicate}

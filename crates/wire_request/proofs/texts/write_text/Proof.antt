@@ -1,4 +1,4 @@
--- `writer::texts::write_text` meets its contract. The two pieces follow each other from the front.
+-- `wire_request::texts::write_text` meets its contract. The two pieces follow each other from the front.
 use mathlib.Core.Path.{refl}
 use mathlib.Core.List.{_++_}
 use native.Mathlib.Nat.{zero-add}

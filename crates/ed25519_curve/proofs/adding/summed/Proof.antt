@@ -1,8 +1,8 @@
--- `ed25519_curve::adding::joined` meets its contract.
+-- `ed25519_curve::adding::summed` meets its contract.
 use mathlib.Core.Path.{_∙_}
 use Rattle.ed25519_field.proofs.Raise.{up}
-use Rattle.ed25519_curve.proofs.adding.joined.Statement.{statement}
-use Rattle.ed25519_curve.proofs.adding.joined.Tie as tie
+use Rattle.ed25519_curve.proofs.adding.summed.Statement.{statement}
+use Rattle.ed25519_curve.proofs.adding.summed.Tie as tie
 
 sub-requires : tie.Need-sub-requires
 sub-requires c κs = let g = c .before .before .before .before .before .before .before .before .pre .0 in
@@ -54,8 +54,8 @@ returns c =
       f .1,
     )
 
-pub joined-spec : {M : Type 1} → statement M
-joined-spec =
+pub summed-spec : {M : Type 1} → statement M
+summed-spec =
     tie.close
     (tie.spec
     sub-requires
