@@ -1,6 +1,6 @@
 -- What is said of a record, and of a place in a pile, from what the tests before it say: the same whoever says whether
 -- signatures verify.
-use mathlib.Core.Path.{_≡_, refl, sym, ap, ap₂, _∙_}
+use mathlib.Core.Path.{_≡_, sym, ap, ap₂, _∙_}
 use mathlib.Core.Bool.{Bool, true, false}
 use mathlib.Core.List.{List}
 use Prim.Native.Nat.{ℕ}

@@ -8,6 +8,7 @@ use mathlib.Core.List.{List, [], _∷_, _++_}
 use lib.ListN.{length, getD, replicate}
 use Rattle.json.specs.declared.Found.the-variants.{At}
 use Rattle.json.specs.Members.{named, valuePlace, foundOf}
+use Rattle.json.specs.Value.{deepest}
 use Rattle.json_tokens.specs.Scan.{pastWhile, blank}
 use Rattle.json_strings.specs.Text.{contentAt}
 use Rattle.base64.specs.Decode.{bytes, decode64}
@@ -82,7 +83,7 @@ outermost s = pastWhile blank s 0
 
 pub record ReportText (s : List ℕ) (es : List Entry) : Type 0 where
   -- it is JSON by RFC 8259's grammar, nested at most 16 deep
-  pub json : JSON-text 16 s
+  pub json : JSON-text deepest s
   -- an object
   pub object : getD s (outermost s) 0 ≡ code "{"
   -- with just one member of the name "responses", at this place
