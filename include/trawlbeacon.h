@@ -244,8 +244,8 @@ static inline const char *tb_code_text(uint32_t code) {
 #define TB_VERIFY_STACK 16384
 
 /* Bytes of stack that are enough for tb_cut_text and tb_cut_signed_text, which hold sixteen records
- * there: 72,488 and 75,800, measured on x86-64. hosts/c/stack.c measures them anew. Of functions for
- * which none of the three constants is meant it measures 26, and none takes over 11,680. */
+ * there: 72,488 and 75,800, measured on x86-64. hosts/c/stack.c measures them anew. Of functions
+ * for which none of the three constants is meant it measures 26, and none takes over 11,680. */
 #define TB_TEXT_STACK 98304
 
 /* Bytes of a record of a list of servers. */

@@ -1,8 +1,8 @@
 /* Measures the stack that each tree operation takes, and holds the most of them to the header's
  * TB_TREE_STACK: with that much every operation ends, and on one page less than the most some
- * operation runs off the end. A verification is measured too, and held to 8 KB; and every form that
- * verifies by itself, the most of which is held to TB_VERIFY_STACK; and what goes from text to text,
- * which is held to TB_TEXT_STACK. What every other operation takes is told as well.
+ * operation runs off the end. A verification is measured too, and held to 8 KB; and every form
+ * that verifies by itself, the most of which is held to TB_VERIFY_STACK; and what goes from text to
+ * text, which is held to TB_TEXT_STACK. What every other operation takes is told as well.
  *
  * Each call runs on a stack of this program's own, which is painted first and has memory below it
  * that nobody may touch. That is done with contexts and not with threads, since a C library wants
