@@ -238,17 +238,15 @@ static inline const char *tb_code_text(uint32_t code) {
  * aarch64, and 35,184 for one leaf. tb_path_from takes next to nothing, and tb_leads 1,456. */
 #define TB_TREE_STACK 131072
 
-/* Bytes of stack that are enough for a verification, which has a table of 10,240 numbers there, and
- * for every function that verifies by itself but tb_cut_signed_text. A verification takes 48,744 at
- * the most, measured on aarch64, and 48,864 on x86-64; tb_cut_signed_run, which takes the most of
- * them, 52,408 under an emulator of aarch64, and 52,368. hosts/c/stack.c measures them anew. */
-#define TB_VERIFY_STACK 65536
+/* Bytes of stack that are enough for a verification and for every function that verifies by itself
+ * but tb_cut_signed_text. A verification takes 7,768, and tb_write_signed_report, which takes the
+ * most of them, 10,328, measured on x86-64; hosts/c/stack.c measures them anew. */
+#define TB_VERIFY_STACK 16384
 
 /* Bytes of stack that are enough for tb_cut_text and tb_cut_signed_text, which hold sixteen records
- * there: 72,944 and 118,072, measured under an emulator of aarch64, and 73,032 and 118,000 on
- * x86-64. hosts/c/stack.c measures them anew. Of functions for which none of the three constants is
- * meant it measures 26, and none takes over 11,680. */
-#define TB_TEXT_STACK 163840
+ * there: 72,488 and 75,800, measured on x86-64. hosts/c/stack.c measures them anew. Of functions
+ * for which none of the three constants is meant it measures 26, and none takes over 11,680. */
+#define TB_TEXT_STACK 98304
 
 /* Bytes of a record of a list of servers. */
 #define TB_SERVER_LENGTH 64

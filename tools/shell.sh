@@ -83,6 +83,13 @@ have_openssl() {
         cc -x c -o build/openssl - -lcrypto 2>/dev/null
 }
 
+# Whether they can be built with libsodium's.
+have_sodium() {
+    mkdir -p build
+    printf '#include <sodium.h>\nint main(void) { return sodium_init() < 0; }\n' |
+        cc -x c -o build/sodium - -lsodium 2>/dev/null
+}
+
 # Puts a copy of a file in its place in one step, once it is on the disk, so that there is the old
 # one or the new one, whole.
 put_whole() { # FILE PLACE

@@ -3,6 +3,7 @@
 use crate::openssl;
 use crate::programs::{first_words, printed};
 use crate::run::Run;
+use crate::sodium;
 use std::{env, fs, thread};
 
 /// The name of the processor, as lscpu has it.
@@ -24,7 +25,8 @@ fn version() -> String {
     text.split_whitespace().next().unwrap_or("unknown").to_string()
 }
 
-/// What stands beside ours: RustCrypto's sha2, by the version that the script found, and OpenSSL.
+/// What stands beside ours: RustCrypto's sha2, by the version that the script found, OpenSSL, and
+/// libsodium.
 fn peers() -> String {
     let sha2 = match env::var("BENCH_SHA2") {
         Ok(version) if cfg!(feature = "peer") => format!("sha2 {version} in its portable form"),
@@ -35,7 +37,7 @@ fn peers() -> String {
         Some(version) => version,
         None => "OpenSSL".into(),
     };
-    format!("{sha2}, {openssl}")
+    format!("{sha2}, {openssl}, {}", sodium::version())
 }
 
 /// Says on what, and where it was a quick run, that it was.

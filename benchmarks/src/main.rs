@@ -1,6 +1,6 @@
 //! Times the proved library against the independent implementation and, built through
-//! benchmarks/peer, against the same over RustCrypto's sha2; where OpenSSL is linked, against its
-//! Ed25519.
+//! benchmarks/peer, against the same over RustCrypto's sha2; where OpenSSL or libsodium is linked,
+//! against its Ed25519.
 //!
 //! All sides run in this one process, on the same bytes, in turns, and the best of many turns
 //! counts, by the processor's time that it took: whatever else the machine does then hits all of
@@ -30,6 +30,7 @@ mod run;
 mod servers;
 mod sides;
 mod signed;
+mod sodium;
 #[path = "../../hosts/rust/shared/standard_output.rs"]
 mod standard_output;
 mod table;

@@ -19,7 +19,7 @@ pub const PARTS: &[Part] = &[
     part("piles", "a full pile by the independent checker, also over sha2", piles::part),
     part("growth", "a pile's time by its records, siblings and packets", piles::growth),
     part("refused", "piles with something wrong in them", refused::part),
-    part("verify", "one verification, by OpenSSL's too", verifying::part),
+    part("verify", "one verification, by OpenSSL's and libsodium's too", verifying::part),
     part("signed", "a response and full piles by their own signatures", signed::part),
     part("counted", "how many verifications a call makes", counted::part),
     part("walks", "a step of the measuring walk", walks::part),

@@ -19,6 +19,9 @@ pub enum Side {
     /// OpenSSL is not linked.
     #[cfg_attr(not(feature = "openssl"), allow(dead_code))]
     OpenSsl,
+    /// libsodium's Ed25519. No work of it is made where libsodium is not linked.
+    #[cfg_attr(not(feature = "sodium"), allow(dead_code))]
+    Sodium,
     /// Ours too, the hashing alone, as much of it as a tree needs.
     Hashing,
     /// Ours too, all rows of the same tree.
@@ -43,6 +46,7 @@ impl Side {
             Side::OverSha2 => "sha2 checker",
             Side::Sha2 => "sha2",
             Side::OpenSsl => "OpenSSL",
+            Side::Sodium => "libsodium",
             Side::Hashing => "hashing",
             Side::Rows => "rows",
             Side::Whole => "at once",

@@ -8,8 +8,7 @@ use crate::openssl;
 use crate::piles::{Operation, Shape, FULL};
 use crate::run::{Line, Run};
 use crate::sides::{work, Side, Subject, Work};
-use crate::table::{count, Table};
-use crate::verifying::COLUMNS;
+use crate::table::{count, Columns, Table, MICROSECONDS};
 use independent::ed25519::Ed25519;
 use independent::pieces::{put, Pieces};
 use independent::pile::{self, RECORD};
@@ -98,7 +97,7 @@ fn of_three(name: String, length: usize, works: [Work; 3]) -> Subject {
     }
     Subject::new(name, length, works)
         .held(Side::Independent, "signed")
-        .held(Side::OpenSsl, "openssl")
+        .held(Side::OpenSsl, "openssl_signed")
 }
 
 /// Makes a response break a rule before it is signed.
@@ -160,6 +159,10 @@ fn fed(operation: Operation, pile: &[u8]) -> Work<'_> {
         (pair, run)
     })
 }
+
+/// Of the libraries of others OpenSSL alone: its answers are lent to the independent checker.
+const COLUMNS: Columns =
+    Columns { sides: &[Side::Ours, Side::Independent, Side::OpenSsl], ..MICROSECONDS };
 
 /// A response, and the full pile in all that is done with it.
 pub fn part(run: &mut Run) {

@@ -5,6 +5,7 @@ use crate::hashes;
 use crate::openssl;
 use crate::run::Run;
 use crate::sides::{work, Side, Subject};
+use crate::sodium;
 use crate::table::{count, Columns, Table, MICROSECONDS};
 use independent::ed25519::Ed25519;
 use std::hint::black_box;
@@ -39,14 +40,24 @@ impl Signed {
             let theirs = work(move || openssl::verifies(black_box(key), signature, text));
             works.push((Side::OpenSsl, theirs));
         }
+        if sodium::LINKED {
+            sodium::start();
+            assert!(sodium::verifies(key, signature, text), "libsodium takes it");
+            let theirs = work(move || sodium::verifies(black_box(key), signature, text));
+            works.push((Side::Sodium, theirs));
+        }
         let name = format!("{} bytes", count(text.len()));
-        Subject::new(name, text.len(), works).held(Side::OpenSsl, "openssl")
+        Subject::new(name, text.len(), works)
+            .held(Side::OpenSsl, "openssl")
+            .held(Side::Sodium, "sodium")
     }
 }
 
-/// The columns of whatever is judged by signatures.
-pub const COLUMNS: Columns =
-    Columns { sides: &[Side::Ours, Side::Independent, Side::OpenSsl], ..MICROSECONDS };
+/// The columns of one verification.
+const COLUMNS: Columns = Columns {
+    sides: &[Side::Ours, Side::Independent, Side::OpenSsl, Side::Sodium],
+    ..MICROSECONDS
+};
 
 pub fn part(run: &mut Run) {
     let signed = [106, 1_000].map(Signed::of);

@@ -1,8 +1,8 @@
 /* Measures the stack that each tree operation takes, and holds the most of them to the header's
  * TB_TREE_STACK: with that much every operation ends, and on one page less than the most some
- * operation runs off the end. A verification is measured too, and every form that verifies by
- * itself, and the most of those is held to TB_VERIFY_STACK; and what goes from text to text, which
- * is held to TB_TEXT_STACK. What every other operation takes is told as well.
+ * operation runs off the end. A verification is measured too, and held to 8 KB; and every form
+ * that verifies by itself, the most of which is held to TB_VERIFY_STACK; and what goes from text to
+ * text, which is held to TB_TEXT_STACK. What every other operation takes is told as well.
  *
  * Each call runs on a stack of this program's own, which is painted first and has memory below it
  * that nobody may touch. That is done with contexts and not with threads, since a C library wants
@@ -21,7 +21,7 @@
 #include <ucontext.h>
 #include <unistd.h>
 
-enum { PAGE = 4096, LARGE = 64 * PAGE, FENCE = 64 * PAGE, PAINT = 0xa5 };
+enum { PAGE = 4096, LARGE = 64 * PAGE, FENCE = 64 * PAGE, PAINT = 0xa5, VERIFICATION = 8192 };
 
 static uint8_t leaves[32 * TB_MOST_LEAVES], rows[TB_MOST_ROWS_LENGTH], out[TB_MOST_ROWS_LENGTH];
 static size_t count;
@@ -342,9 +342,9 @@ static size_t most_of_trees(uint8_t *stack, size_t before) {
     return most;
 }
 
-/* Whether what was taken is within what the header says. */
-static bool within(const char *what, size_t most, size_t said) {
-    printf("%s: the most is %zu bytes, and the header says %zu\n", what, most, said);
+/* Whether what was taken is within what is allowed. */
+static bool within(const char *what, size_t most, const char *whose, size_t said) {
+    printf("%s: the most is %zu bytes, and %s %zu\n", what, most, whose, said);
     return most <= said;
 }
 
@@ -363,9 +363,13 @@ int main(void) {
     hear_all();
 
     size_t most = most_of_trees(stack, before);
-    bool fits = within("trees", most, TB_TREE_STACK);
-    fits &= within("verifying", most_of(stack, before, SIGNED, SIZE(SIGNED)), TB_VERIFY_STACK);
-    fits &= within("texts", most_of(stack, before, TEXTS, SIZE(TEXTS)), TB_TEXT_STACK);
+    const char *header = "the header says";
+    bool fits = within("trees", most, header, TB_TREE_STACK);
+    fits &= within("verifying", most_of(stack, before, SIGNED, SIZE(SIGNED)), header,
+                   TB_VERIFY_STACK);
+    fits &= within("a verification", taken(stack, call_verify) - before, "it may take",
+                   VERIFICATION);
+    fits &= within("texts", most_of(stack, before, TEXTS, SIZE(TEXTS)), header, TB_TEXT_STACK);
     most_of(stack, before, OTHERS, SIZE(OTHERS));
     walk_on(15);
     most_of(stack, before, &LAST, 1);
