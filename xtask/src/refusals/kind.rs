@@ -20,7 +20,7 @@ pub enum Kind {
 }
 
 /// Words of an error, and what they show. The first that is found decides.
-const SHOWN: [(&str, Kind); 27] = [
+const SHOWN: [(&str, Kind); 28] = [
     ("` has no `", Kind::Unfit),
     ("` has no member", Kind::Unfit),
     (" has no field ", Kind::Unfit),
@@ -48,6 +48,8 @@ const SHOWN: [(&str, Kind); 27] = [
     ("no proof of `", Kind::Unsolved),
     ("`omega`: ", Kind::Unsolved),
     ("`cc`: ", Kind::Unsolved),
+    // An equation that a right program needs has nothing to rewrite in the goal of a wrong one.
+    ("`rw`: no occurrence of the path's left endpoint", Kind::Unsolved),
 ];
 
 impl Kind {

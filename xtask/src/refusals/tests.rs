@@ -146,6 +146,8 @@ fn facts_that_are_false_are_of_that_kind() {
 fn a_search_that_ends_is_told_from_one_that_meets_a_bound() {
     let words = "`search`: no proof of `x`\n  was found. Every way was tried";
     assert_eq!(kind_of("returns", words), Kind::Unsolved);
+    let words = "`rw`: no occurrence of the path's left endpoint in the goal: write the family";
+    assert_eq!(kind_of("returns", words), Kind::Unsolved);
     let words = "`search`: no proof of `x`\n  was found: its count of 1000 was spent";
     assert_eq!(kind_of("returns", words), Kind::Bound);
     let words = "stopped at the step limit (1000 steps)";
