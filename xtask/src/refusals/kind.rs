@@ -20,7 +20,7 @@ pub enum Kind {
 }
 
 /// Words of an error, and what they show. The first that is found decides.
-const SHOWN: [(&str, Kind); 28] = [
+const SHOWN: [(&str, Kind); 29] = [
     ("` has no `", Kind::Unfit),
     ("` has no member", Kind::Unfit),
     (" has no field ", Kind::Unfit),
@@ -50,6 +50,7 @@ const SHOWN: [(&str, Kind); 28] = [
     ("`cc`: ", Kind::Unsolved),
     // An equation that a right program needs has nothing to rewrite in the goal of a wrong one.
     ("`rw`: no occurrence of the path's left endpoint", Kind::Unsolved),
+    ("`grw`: this rule rewrites nothing in the goal", Kind::Unsolved),
 ];
 
 impl Kind {

@@ -148,6 +148,8 @@ fn a_search_that_ends_is_told_from_one_that_meets_a_bound() {
     assert_eq!(kind_of("returns", words), Kind::Unsolved);
     let words = "`rw`: no occurrence of the path's left endpoint in the goal: write the family";
     assert_eq!(kind_of("returns", words), Kind::Unsolved);
+    let words = "`grw`: this rule rewrites nothing in the goal `Same x y`.";
+    assert_eq!(kind_of("sum-y", words), Kind::Unsolved);
     let words = "`search`: no proof of `x`\n  was found: its count of 1000 was spent";
     assert_eq!(kind_of("returns", words), Kind::Bound);
     let words = "stopped at the step limit (1000 steps)";
