@@ -20,7 +20,7 @@ pub enum Kind {
 }
 
 /// Words of an error, and what they show. The first that is found decides.
-const SHOWN: [(&str, Kind); 29] = [
+const SHOWN: [(&str, Kind); 30] = [
     ("` has no `", Kind::Unfit),
     ("` has no member", Kind::Unfit),
     (" has no field ", Kind::Unfit),
@@ -34,6 +34,8 @@ const SHOWN: [(&str, Kind); 29] = [
     ("not a function or extension", Kind::Unfit),
     ("is not a record", Kind::Unfit),
     ("expected type `tie.Need-", Kind::Unfit),
+    // A fact about another thing stands there: the proof reads another step of the code.
+    ("`Prim.Native.Nat.ℕ` (expected) and the other has `mathlib.Core.Bool.Bool`", Kind::Unfit),
     (" was spent", Kind::Bound),
     (" met a bound", Kind::Bound),
     ("stopped at the step limit", Kind::Bound),

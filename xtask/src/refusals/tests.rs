@@ -152,6 +152,9 @@ fn a_search_that_ends_is_told_from_one_that_meets_a_bound() {
     assert_eq!(kind_of("sum-y", words), Kind::Unsolved);
     let words = "`search`: no proof of `x`\n  was found: its count of 1000 was spent";
     assert_eq!(kind_of("returns", words), Kind::Bound);
+    let words = "as printed, the two types first differ, computed as far as they go, the two types first \
+        differ where one has `Prim.Native.Nat.ℕ` (expected) and the other has `mathlib.Core.Bool.Bool`";
+    assert_eq!(kind_of("good-of", words), Kind::Unfit);
     let words = "stopped at the step limit (1000 steps)";
     assert_eq!(kind_of("returns", words), Kind::Bound);
     let words = "`cc` met a bound of its own before the equations had joined `a`";
