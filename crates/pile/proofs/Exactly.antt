@@ -32,7 +32,7 @@ use Rattle.wire_packet.proofs.GoodRequest.{good-request, request-good}
 use Rattle.wire_packet.proofs.RequestCodes.{lent-good}
 use Rattle.pile.specs.Pile.{recordsIn, recordAt, requestLength, responseLength, requestPacket, responsePacket}
 use Rattle.pile.specs.Pile.{saidYes, aboveOne, lengthBad, answerBad, pileBad, pileCode}
-use Rattle.pile.specs.Valid.{areaBad, recordBad, recordCode, recordVerdict, verdictAt, windowAt}
+use Rattle.pile.specs.Valid.{areaBad, recordBad, recordCode, recordVerdict, judgedAt, windowAt}
 use Rattle.pile.specs.Valid.{pubkAt, nothingAt, judgeCode, judgementOf}
 use Rattle.pile.specs.Links.{nonceLinks, unreadable, follows, unlinkable, linkedOf, firstRandZero}
 use Rattle.pile.specs.Meaning.{WholePile, GoodPile, Undamaged, ValidRecord, ZeroRand}
@@ -152,7 +152,7 @@ there-exactly pile answers k = (
 
 -- what is judged of a record that is there is what is said of it
 pub judged-at : (pile answers : List ℕ) (k : ℕ) → GoodPile pile answers → k < recordsIn pile
-    → judgementOf pile answers k .verdict ≡ verdictAt pile answers k
+    → judgementOf pile answers k .verdict ≡ judgedAt pile answers k
 unfolding judgementOf judgeCode recordVerdict
 judged-at pile answers k g h = rw (before-false refusals _ _ _ (there-exactly pile answers k .1 (g, h)))
 

@@ -52,8 +52,8 @@ recordChecked r d s =
     record { verdict = recordVerdict r d s; pubk = keyBy (recordCode r d s) (pubkIn (body (responsePacket r))) }
 
 -- of record k, with its delegation's answer and its response's: the verdict alone, and with the key
-abbrev pub verdictAt : List ℕ → List ℕ → ℕ → Verdict
-verdictAt pile answers k = recordVerdict (recordAt pile k) (saidYes answers (2 * k)) (saidYes answers (2 * k + 1))
+abbrev pub judgedAt : List ℕ → List ℕ → ℕ → Verdict
+judgedAt pile answers k = recordVerdict (recordAt pile k) (saidYes answers (2 * k)) (saidYes answers (2 * k + 1))
 
 abbrev pub checkedAt : List ℕ → List ℕ → ℕ → Checked
 checkedAt pile answers k = recordChecked (recordAt pile k) (saidYes answers (2 * k)) (saidYes answers (2 * k + 1))

@@ -4,7 +4,7 @@ ghost use Prim.Native.Nat.{_+_, _*_, _≤_, _<_};
 ghost use lib.ListN.{length};
 ghost use Rattle.pile.specs.Layout.{RECORD};
 ghost use Rattle.pile.specs.Pile.{saidYes};
-ghost use Rattle.pile.specs.Valid.{refusedBy, recordChecked, verdictAt, checkedAt, nothingAt, judgeCode};
+ghost use Rattle.pile.specs.Valid.{refusedBy, recordChecked, judgedAt, checkedAt, nothingAt, judgeCode};
 ghost use Rattle.pile.specs.Valid.{judgedBy, judgementOf};
 ghost use Rattle.check_response.specs.Check.{verdictNumber};
 use super::Judgement;
@@ -68,7 +68,7 @@ fn nothing_at<'a>(pile: &'a [u8], answers: &'a [u8], k: usize) -> bool
 // The verdict on record k, which is there with its two answers.
 pub fn verdict_at<'a>(pile: &'a [u8], answers: &'a [u8], k: usize) -> Verdict
     requires { ⌜ (RECORD * k + RECORD ≤ length (now pile)) × (2 * k + 2 ≤ length (now answers)) ⌝ }
-    ensures { λ r. ⌜ r ≡ verdictAt (now (pile .entry)) (now (answers .entry)) k ⌝ }
+    ensures { λ r. ⌜ r ≡ judgedAt (now (pile .entry)) (now (answers .entry)) k ⌝ }
 {
     let c = checked_at(pile, answers, k);
     c.verdict

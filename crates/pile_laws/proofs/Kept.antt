@@ -11,7 +11,7 @@ use Rattle.laws.specs.Zeros.{zeros}
 use Rattle.laws.proofs.Any.{any-not, any-none}
 use Rattle.laws.proofs.Split.{split}
 use Rattle.pile.specs.Pile.{recordsIn, recordAt, randIn, saidYes}
-use Rattle.pile.specs.Valid.{verdictAt}
+use Rattle.pile.specs.Valid.{judgedAt}
 use Rattle.pile.specs.Links.{follows, unlinkable, linkedOf, firstRandZero}
 use Rattle.pile.specs.Meaning.{WholePile}
 use Rattle.pile.proofs.Exactly.{whole-exactly, judged-at}
@@ -58,7 +58,7 @@ module _ {pile answers more said : List ℕ} (adds : Adds pile answers more said
   -- the same verdicts,
   pub verdict-kept : (k : ℕ) → k < recordsIn pile → judged (pile ++ more) (answers ++ said) k ≡ judged pile answers k
   verdict-kept k there =
-      let same : verdictAt (pile ++ more) (answers ++ said) k ≡ verdictAt pile answers k =
+      let same : judgedAt (pile ++ more) (answers ++ said) k ≡ judgedAt pile answers k =
       rw (
         record-kept k there,
         answer-kept (2 * k) (omega (arith, adds .good .two)),

@@ -31,7 +31,7 @@ use Rattle.report_write.specs.Published.{roomed as publishRoomed}
 use Rattle.report_write.proofs.Piles.{valid-undamaged, record-long, refused-left}
 use Rattle.report_text.specs.declared.Forwarded.{Forwarded}
 use Rattle.report_text.specs.declared.Forwarded.the-variants.{Text, Refused}
-use Rattle.report_text.specs.Forwarded.{roomed, cutOf, CutsText, forwardedNumber, forwardedBytes}
+use Rattle.report_text.specs.Forwarded.{runRoomed, cutOf, CutsText, forwardedNumber, forwardedBytes}
 
 -- ---- what the writer answers, told of the run
 abbrev pub forwardOf : ℕ → ℕ → Published → Forwarded
@@ -51,11 +51,11 @@ left-of i j n text out false h = h
 
 pub cut-arm : {p x : Published} {to : List ℕ} (i j : ℕ) (text out : List ℕ) → p ≡ publishRoomed text (length out)
     → to ≡ written (publishedNumber p) text out → p ≡ x
-    → (forwardOf i j x ≡ roomed i j text (length out))
+    → (forwardOf i j x ≡ runRoomed i j text (length out))
     × (to ≡ written (forwardedNumber (forwardOf i j x)) text out)
 cut-arm {p} {x} {to} i j text out h l e =
     let b = ltb (length out) (length text) in
-    let a : forwardOf i j x ≡ roomed i j text (length out)
+    let a : forwardOf i j x ≡ runRoomed i j text (length out)
     = ap (forwardOf i j) (sym e ∙ h) ∙ answer-of i j (length text) (ltb (length out) (length text)) in
     let k : to ≡ written (publishedNumber (publishRoomed text (length out))) text out = rw h at l in
     (a, rw a (left-of i j (length text) text out (ltb (length out) (length text)) k))
@@ -141,12 +141,12 @@ module _ (pile answers out : List ℕ) where
 
     pub cut-run : {x : Span} {r : Forwarded} {to : List ℕ} (i j : ℕ) → Answers (ConvictsIn pile answers) x
         → x ≡ Places i j
-        → r ≡ roomed i j (textOf (part (4096 * i) (4096 * j + 4096) pile)) (length out)
+        → r ≡ runRoomed i j (textOf (part (4096 * i) (4096 * j + 4096) pile)) (length out)
         → to ≡ written (forwardedNumber r) (textOf (part (4096 * i) (4096 * j + 4096) pile)) out
         → CutsText pile answers (length out) r × (to ≡ written (forwardedNumber r) (forwardedBytes r pile) out)
     cut-run {x} {r} {to} i j a e h l =
         let k : to ≡ written
-        (forwardedNumber (roomed i j (textOf (part (4096 * i) (4096 * j + 4096) pile)) (length out)))
+        (forwardedNumber (runRoomed i j (textOf (part (4096 * i) (4096 * j + 4096) pile)) (length out)))
         (textOf (part (4096 * i) (4096 * j + 4096) pile)) out = rw h at l in (
           record {
             cut = taken.Run i j;

@@ -22,13 +22,13 @@ use Rattle.report_text.specs.declared.Forwarded.the-variants.{Text, Refu
 
 -- the text of the run from record i to record j, for a buffer of room bytes: its length, or 19 where the buffer is too
 -- short
-abbrev pub roomed : ℕ → ℕ → List ℕ → ℕ → Forwarded
-roomed i j text room = cond (ltb room (length text)) (Refused (refusal 19)) (Text i j (length text))
+abbrev pub runRoomed : ℕ → ℕ → List ℕ → ℕ → Forwarded
+runRoomed i j text room = cond (ltb room (length text)) (Refused (refusal 19)) (Text i j (length text))
 
 -- the answer, from what the cutter says of a pile where it has room enough: the text of the run is that of its records
 -- as they stand, since the rand of the first is not written
 abbrev pub cutOf : List ℕ → ℕ → Taken → Forwarded
-cutOf pile room (taken.Run i j) = roomed i j (textOf (part (RECORD * i) (RECORD * j + RECORD) pile)) room
+cutOf pile room (taken.Run i j) = runRoomed i j (textOf (part (RECORD * i) (RECORD * j + RECORD) pile)) room
 cutOf pile room (taken.Refused why) = Refused why
 
 pub record CutsText (pile answers : List ℕ) (room : ℕ) (r : Forwarded) : Type 0 where

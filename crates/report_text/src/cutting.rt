@@ -8,7 +8,7 @@ ghost use Rattle.pile.specs.Layout.{RECORD};
 ghost use Rattle.report_write.specs.Entries.{textOf};
 ghost use Rattle.report_write.specs.Pieces.{Writable};
 ghost use Rattle.pile_signed.specs.OwnAnswers.{ownAnswers};
-ghost use Rattle.report_text.specs.Forwarded.{roomed, pileOf, CutsText, Forwards, forwardedNumber, forwardedBytes};
+ghost use Rattle.report_text.specs.Forwarded.{runRoomed, pileOf, CutsText, Forwards, forwardedNumber, forwardedBytes};
 use super::Forwarded;
 use pile::RECORD;
 use pile::length_bad;
@@ -29,7 +29,7 @@ fn put_cut(pile: &[u8], i: usize, j: usize, out: &mut [u8]) -> Forwarded
         (i ≤ j) × ((RECORD * j + RECORD ≤ length (now pile)) × Writable (part (RECORD * i) (RECORD * j + RECORD) (now pile)))
         ⌝ }
     ensures { λ r. ⌜
-        r ≡ roomed i j (textOf (part (RECORD * i) (RECORD * j + RECORD) (now (pile .entry)))) (length (now (out .entry)))
+        r ≡ runRoomed i j (textOf (part (RECORD * i) (RECORD * j + RECORD) (now (pile .entry)))) (length (now (out .entry)))
         ⌝ }
     ensures { λ r. ⌜
         now (out .exit)
