@@ -1,7 +1,7 @@
 -- The points B, 2B, .. 8B and their rows: one test, which antt computes, goes from each point to the next, and one
 -- holds a row to its point.
 use Prim.Native.Nat.{ℕ, zero, suc, _+_, _<_}
-use mathlib.Core.Path.{_≡_, refl, sym, ap, _∙_}
+use mathlib.Core.Path.{_≡_, refl, ap, _∙_}
 use mathlib.Core.Bool.{Bool, true}
 use mathlib.Core.List.{List, [], _∷_}
 use native.Mathlib.Omega.{arith}
@@ -15,9 +15,9 @@ use Rattle.ed25519_field.specs.Field.{p, addF, subF, mulF}
 use Rattle.ed25519_field.specs.Limbs.{num, unit, Limbs}
 use Rattle.ed25519_field.proofs.Elements.{mul-most}
 use Rattle.ed25519_field.proofs.Raise.{written, up2, up3}
-use Rattle.ed25519_curve.specs.declared.Addend.{Addend}
+use Rattle.ed25519_curve.specs.declared.Thin.{Thin}
 use Rattle.ed25519_curve.specs.Points.{d, twoD, affine, base, pointAdd, pointEqual}
-use Rattle.ed25519_curve.specs.Coords.{Even, Cached}
+use Rattle.ed25519_curve.specs.Coords.{Even, Cached, wholeOf}
 use Rattle.ed25519_group_laws.specs.Affine.{Affine, sumOf, zeroPoint, timesOf, pointOf}
 use Rattle.ed25519_group_laws.specs.Group.{Point}
 use Rattle.ed25519_group_laws.proofs.Group.{zero-point}
@@ -161,8 +161,8 @@ unfolding num value p addF
 two-is = refl
 
 -- a row by the test
-module _ (a : Affine) (r : Addend) (m q s : List ℕ) (em : r .minus ≡ m) (eq : r .plus ≡ q)
-    (et : r .twice ≡ 2 ∷ 0 ∷ 0 ∷ 0 ∷ 0 ∷ []) (es : r .scaled ≡ s) (t : T (fits a m q s)) where
+module _ (a : Affine) (r : Thin) (m q s : List ℕ) (em : r .minus ≡ m) (eq : r .plus ≡ q) (es : r .scaled ≡ s)
+    (t : T (fits a m q s)) where
   minus-fits : T (limbs m (subF (a .y) (a .x)))
   minus-fits = both-left (limbs m (subF (a .y) (a .x))) _ t
 
@@ -175,30 +175,29 @@ module _ (a : Affine) (r : Addend) (m q s : List ℕ) (em : r .minus ≡ m) (eq 
   scaled-fits : T (limbs s (mulF (mulF (a .x) (a .y)) twoD))
   scaled-fits = both-right (limbs q (addF (a .y) (a .x))) _ others
 
-  even : Even r
+  even : Even (wholeOf r)
   even = record {
     minus = rw em (up3 (up2 (limbs-limbs m _ minus-fits)));
     plus = rw eq (up3 (up2 (limbs-limbs q _ plus-fits)));
-    twice = rw et (up2 two-limbs);
+    twice = up2 two-limbs;
     scaled = rw es (limbs-limbs s _ scaled-fits);
   }
 
-  cached : Cached (affine (a .x) (a .y)) r
+  cached : Cached (affine (a .x) (a .y)) (wholeOf r)
   cached = record {
     minus-is = ap num em ∙ limbs-num m _ minus-fits;
     plus-is = ap num eq ∙ limbs-num q _ plus-fits;
-    twice-is = ap num et ∙ two-is;
+    twice-is = two-is;
     scaled-is = ap num es ∙ limbs-num s _ scaled-fits;
     even = even;
   }
 
-row-at : (j : ℕ) (r : Addend) (m q s : List ℕ) → j < 9 → r .minus ≡ m → r .plus ≡ q
-    → r .twice ≡ 2 ∷ 0 ∷ 0 ∷ 0 ∷ 0 ∷ [] → r .scaled ≡ s → T (fits (getD (zeroPoint ∷ points) j zeroPoint) m q s)
-    → BaseRow j r
-row-at j r m q s h em eq et es t =
+row-at : (j : ℕ) (r : Thin) (m q s : List ℕ) → j < 9 → r .minus ≡ m → r .plus ≡ q → r .scaled ≡ s
+    → T (fits (getD (zeroPoint ∷ points) j zeroPoint) m q s) → BaseRow j (wholeOf r)
+row-at j r m q s h em eq es t =
     let a : Affine = getD (zeroPoint ∷ points) j zeroPoint in
     let f : Fold j a = fold-at j h in
-    let c = cached a r m q s em eq et es t in
+    let c = cached a r m q s em eq es t in
     record {
       even = c .even;
       stands = rw (f .is) (record {
@@ -209,10 +208,10 @@ row-at j r m q s h em eq et es t =
       });
     }
 
-pub row-is : (i j : ℕ) (r : Addend) (m q s : List ℕ) → j ≡ i → i < 9
-    → (r .minus ≡ m) × (r .plus ≡ q) × (r .twice ≡ 2 ∷ 0 ∷ 0 ∷ 0 ∷ 0 ∷ []) × (r .scaled ≡ s)
-    → T (fits (getD (zeroPoint ∷ points) i zeroPoint) m q s) → BaseRow j r
-row-is i j r m q s e h f t = rw e (row-at i r m q s h (f .0) (f .1) (f .2) (f .3) t)
+pub row-is : (i j : ℕ) (r : Thin) (m q s : List ℕ) → j ≡ i → i < 9
+    → (r .minus ≡ m) × (r .plus ≡ q) × (r .scaled ≡ s) → T (fits (getD (zeroPoint ∷ points) i zeroPoint) m q s)
+    → BaseRow j (wholeOf r)
+row-is i j r m q s e h f t = rw e (row-at i r m q s h (f .0) (f .1) (f .2) t)
 
 -- a number below 9 that is none of 0 to 7, in two steps, since `omega` splits six times at most
 module _ (j : ℕ) (n0 : j ≡ 0 → ⊥) (n1 : j ≡ 1 → ⊥) (n2 : j ≡ 2 → ⊥) (n3 : j ≡ 3 → ⊥) where
