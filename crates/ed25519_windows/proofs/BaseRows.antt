@@ -1,6 +1,6 @@
 -- Rows of multiples of the base point with Z = 1: one test, which antt computes, holds a row to its multiple.
 use Prim.Native.Nat.{ℕ, _+_, _/_, _^_, _<_}
-use mathlib.Core.Path.{_≡_, refl, ap, _∙_}
+use mathlib.Core.Path.{_≡_, refl}
 use mathlib.Core.Bool.{Bool}
 use mathlib.Core.List.{List, [], _∷_}
 use native.Mathlib.Omega.{arith}
