@@ -1,9 +1,10 @@
 -- The secret scalar of a seed has the bit 2^254, none above it, and none of the lowest three.
 use Prim.Native.Nat.{ℕ, zero, suc, _+_, _*_, _/_, _%_, _^_, _≤_, _<_}
-use mathlib.Core.Path.{_≡_, refl, ap, ap₂, _∙_}
+use mathlib.Core.Path.{_≡_, refl, sym, ap, ap₂, _∙_}
 use mathlib.Core.List.{List}
 use native.Mathlib.Omega.{arith}
-use native.Mathlib.Nat.{add-zero, mul-le-mul-left}
+use native.Mathlib.Nat.{add-zero, mul-le-mul-left, mod-eq-of-lt}
+use lib.Dec.{lit<, lit≤}
 use lib.ListN.{length, take, getD, set, length-set}
 use lib.Seq.{getD-set-same, getD-set-other, length-take-le}
 use Rattle.laws.specs.Bytes.{Bytes}
@@ -12,6 +13,9 @@ use Rattle.laws.proofs.Bytes.{bytes-take}
 use Rattle.laws.proofs.Numbers.{le-add, le-cons, le-bound}
 use Rattle.sha512.specs.Computation.{Sha512}
 use Rattle.sha512.proofs.Digested.{Sha512-long}
+use Rattle.ed25519_scalar.specs.Order.{L}
+use Rattle.ed25519_prime_laws.proofs.Euclid.{euclid}
+use Rattle.ed25519_group_laws.proofs.PrimeOrder.{L-prime}
 use Rattle.ed25519_sign.specs.Signing.{pruned, scalarOf}
 use Rattle.ed25519_sign_laws.specs.Signed.{SecretScalar}
 use Rattle.ed25519_sign_laws.proofs.Bytes.{bytes-sha512}
@@ -86,3 +90,30 @@ unfolding scalarOf
 secret-scalar seed =
     pruned-scalar (take 32 (Sha512 seed)) (bytes-take (Sha512 seed) (bytes-sha512 seed) 32)
     (length-take-le 32 (Sha512 seed) (omega (arith, Sha512-long seed)))
+
+-- ---- it is no multiple of L
+
+below-other : (n : ℕ) → 0 < n → n < L → n % L ≡ 0 → ⊥
+below-other n some low e = omega (arith, mod-eq-of-lt low)
+
+eight-low : 8 < L
+unfolding L
+eight-low = lit< tt
+
+room : 2 * 2 ^ 251 ≤ L
+unfolding L
+room = lit≤ tt
+
+-- 8 times what is below L; w is 2^251
+eights : (w m : ℕ) → 8 * w + 8 * m ≡ 8 * (w + m)
+eights w m = omega arith
+
+over-eight : (w m : ℕ) → 0 < w → m < w → 2 * w ≤ L → (w + m) % L ≡ 0 → ⊥
+over-eight w m some low most = below-other (w + m) (omega arith) (omega arith)
+
+pub scalar-other : (s : ℕ) → SecretScalar s → s % L ≡ 0 → ⊥
+scalar-other s c e =
+    let m = c .between in
+    let turned = ap (λ (n : ℕ). n % L) (c .is ∙ eights (2 ^ 251) m) in
+    below-other 8 (omega arith) eight-low
+    (euclid L (2 ^ 251 + m) L-prime (over-eight (2 ^ 251) m (lit< tt) (c .low) room) 8 (sym turned ∙ e))
