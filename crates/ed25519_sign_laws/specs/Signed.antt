@@ -14,8 +14,8 @@ use Rattle.ed25519_group_laws.specs.Affine.{Affine, zeroPoint, timesOf}
 use Rattle.ed25519.specs.Verification.{verifies, verifiesParts}
 use Rattle.ed25519_sign.specs.Signing.{publicOf, signatureOf, signatureParts}
 
--- RFC 8032, section 3, parameter 5: "Secret EdDSA scalars have exactly n + 1 bits, with the top bit (the 2^n position)
--- always set and the bottom c bits always cleared." Of Ed25519 n is 254 and c is 3 (5.1, table 1).
+-- RFC 8032, section 3, of the parameter n: "Secret EdDSA scalars have exactly n + 1 bits, with the top bit (the 2^n
+-- position) always set and the bottom c bits always cleared." Of Ed25519 n is 254 and c is 3 (5.1, table 1).
 pub record SecretScalar (s : ℕ) : Type 0 where
   pub between : ℕ
   pub low : between < 2 ^ 251

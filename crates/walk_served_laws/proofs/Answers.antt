@@ -1,5 +1,5 @@
 -- On a walk among servers that sign with their own seeds, the answer of the server that is asked is taken, with no
--- answers lent; and some report is told of the pile at its end.
+-- answers lent, and its window is of what that server says.
 use Prim.Native.Nat.{ℕ, _*_, _%_, _≤_, _<_}
 use mathlib.Core.Path.{_≡_, refl, sym, ap, _∙_}
 use mathlib.Core.Bool.{false}

@@ -2,10 +2,10 @@
 -- verifies, and where one of the servers lies, the pile that it leaves convicts.
 use Prim.Native.Nat.{ℕ, zero, suc, _+_, _-_, _*_, _<_}
 use mathlib.Core.Path.{_≡_, refl, subst}
-use mathlib.Core.List.{List}
+use mathlib.Core.List.{List, []}
 use native.Mathlib.Omega.{arith}
 use lib.Dec.{T}
-use lib.ListN.{length}
+use lib.ListN.{length, getD}
 use Rattle.check_response.specs.Check.{windowIn}
 use Rattle.check_response.specs.declared.Window.{Window}
 use Rattle.laws.specs.Bytes.{Bytes}
@@ -25,23 +25,24 @@ use Rattle.walk_laws.specs.Verified.{AllVerify}
 use Rattle.walk_laws.specs.Way.{Convicts}
 use Rattle.walk_laws.proofs.Convicted.{lie-convicts}
 use Rattle.wire_packet.specs.Packet.{body}
-use Rattle.walk_served_laws.specs.Tour.{Tour, answerIn, heardIn, Toured}
+use Rattle.walk_served_laws.specs.Tour.{Tour, Says, answerIn, heardIn, Toured}
 use Rattle.walk_served_laws.proofs.Told.{some-report}
-use Rattle.walk_served_laws.proofs.Turns.{Among, Answered, answered, among-next, among-ended}
+use Rattle.walk_served_laws.proofs.Turns.{Among, Answered, answered, among-more}
 
 -- the walk has come to step k
 record At {keys : List ℕ} {most : ℕ} (t : Tour keys most) (nonce : List ℕ) (k : ℕ) : Type 0 where
   w : Walk
   b : List ℕ
   way : Reached keys nonce most w b
-  so : Among t w b way
+  so : Among t w (heard way)
+  verified : AllVerify way
   is : w .step ≡ k
 
 module _ {keys nonce : List ℕ} {most : ℕ} (t : Tour keys most) (n32 : length nonce ≡ 32) where
   -- ---- the last answer
 
-  module _ (w : Walk) (b : List ℕ) (way : Reached keys nonce most w b) (so : Among t w b way)
-      (last : w .step + 1 ≡ 2 * serversIn keys) where
+  module _ (w : Walk) (b : List ℕ) (way : Reached keys nonce most w b) (so : Among t w (heard way))
+      (verified : AllVerify way) (last : w .step + 1 ≡ 2 * serversIn keys) where
     abbrev x : List ℕ
     x = answerIn t w
 
@@ -72,18 +73,22 @@ module _ {keys nonce : List ℕ} {most : ℕ} (t : Tour keys most) (n32 : length
       abbrev whole : Reached keys nonce most (movedOn w (heardIn t w) x) (recorded w x b)
       whole = took w b (heardIn t w) x (Ended o r) way (t .rand-long (w .step)) ends
 
-      among : Among t (movedOn w (heardIn t w) x) (recorded w x b) whole
-      among = among-ended t w b way so a o r ends
+      said : (k : ℕ) → k < 2 * serversIn keys → Says t k (getD (heard whole) k [])
+      unfolding movedOn heard
+      said k l = among-more t w b (heard way) so a .said k (omega arith)
+
+      all-verify : AllVerify whole
+      unfolding AllVerify
+      all-verify = (verified, a .verifies)
 
       convicts : Bytes (recorded w x b) → (i j : ℕ) → i < j → j < 2 * serversIn keys
           → T (clash (t .midp i) (t .radi i) (t .midp j) (t .radi j))
           → Convicts (pileOf (2 * serversIn keys) (recorded w x b))
-      unfolding movedOn
       convicts bytes i j below l lie =
-          let earlier = among .said i (omega arith) in
-          let later = among .said j (omega arith) in
+          let earlier = said i (omega arith) in
+          let later = said j l in
           rw (← a .counted)
-          (lie-convicts keys nonce most n32 w b way (heardIn t w) x (t .rand-long (w .step)) o r ends (among .verified)
+          (lie-convicts keys nonce most n32 w b way (heardIn t w) x (t .rand-long (w .step)) o r ends all-verify
           bytes i j below (omega (arith, full))
           (rw (earlier .midp, earlier .radi, later .midp, later .radi) lie))
 
@@ -97,7 +102,8 @@ module _ {keys nonce : List ℕ} {most : ℕ} (t : Tour keys most) (n32 : length
             r = r;
             ends = ends;
             full = last;
-            verified = among .verified;
+            said = said;
+            verified = all-verify;
             convicts = convicts;
           }
 
@@ -111,12 +117,13 @@ module _ {keys nonce : List ℕ} {most : ℕ} (t : Tour keys most) (n32 : length
           w = begunWalk keys nonce most;
           b = buffer;
           way = begun buffer start;
-          so = record { since = omega arith; verified = tt; many = refl; said = λ j h. absurd (omega arith) };
+          so = record { since = omega arith; many = refl; said = λ k h. absurd (omega arith) };
+          verified = tt;
           is = refl;
         }
 
     at : (k : ℕ) → k < 2 * serversIn keys → At t nonce k
-    unfolding movedOn
+    unfolding movedOn heard AllVerify
     at zero h = first
     at (suc k) h =
         let e = at k (omega arith) in
@@ -129,7 +136,8 @@ module _ {keys nonce : List ℕ} {most : ℕ} (t : Tour keys most) (n32 : length
           w = movedOn (e .w) (heardIn t (e .w)) x;
           b = recorded (e .w) x (e .b);
           way = took (e .w) (e .b) (heardIn t (e .w)) x (Next o) (e .way) (t .rand-long (e .w .step)) takes;
-          so = among-next t (e .w) (e .b) (e .way) (e .so) a o takes;
+          so = among-more t (e .w) (e .b) (heard (e .way)) (e .so) a;
+          verified = (e .verified, a .verifies);
           is = omega (arith, e .is);
         }
 
@@ -139,6 +147,5 @@ module _ {keys nonce : List ℕ} {most : ℕ} (t : Tour keys most) (n32 : length
         let some = accepting.begun keys (length buffer) refl start .from in
         let e = at (2 * serversIn keys - 1) (omega arith) in
         let last : e .w .step + 1 ≡ 2 * serversIn keys = omega (arith, e .is) in
-        let s = sound (e .w) (e .b) (e .way) (e .so) last in
-        let r = some-report _ _ s in
-        toured (e .w) (e .b) (e .way) (e .so) last (r .0) (r .1)
+        let r = some-report _ _ (sound (e .w) (e .b) (e .way) (e .so) (e .verified) last) in
+        toured (e .w) (e .b) (e .way) (e .so) (e .verified) last (r .0) (r .1)

@@ -2,9 +2,10 @@
 -- at each step, when it is heard, and what comes of it.
 use Prim.Native.Nat.{ℕ, _+_, _-_, _*_, _%_, _≤_, _<_}
 use mathlib.Core.Path.{_≡_}
-use mathlib.Core.List.{List}
+use mathlib.Core.List.{List, []}
 use lib.Dec.{T}
-use lib.ListN.{length}
+use lib.ListN.{length, getD}
+use Rattle.check_response.specs.Check.{windowIn}
 use Rattle.check_response.specs.declared.Window.{Window}
 use Rattle.ed25519_sign.specs.Signing.{publicOf}
 use Rattle.laws.specs.Bytes.{Bytes}
@@ -15,7 +16,7 @@ use Rattle.server_signed_laws.specs.Signer.{Signer, InTime, aloneReply}
 use Rattle.walk.specs.Starting.{serversIn}
 use Rattle.walk.specs.State.{keyAt, serverOf, requestNow}
 use Rattle.walk.specs.Taking.{recorded, pileOf, Takes}
-use Rattle.walk.specs.Trace.{Reached}
+use Rattle.walk.specs.Trace.{Reached, heard}
 use Rattle.walk.specs.Trace.Reached.{took}
 use Rattle.walk.specs.declared.Heard.{Heard}
 use Rattle.walk.specs.declared.Said.the-variants.{Ended}
@@ -23,6 +24,7 @@ use Rattle.walk.specs.declared.Walk.{Walk}
 use Rattle.walk_laws.specs.Verified.{AllVerify}
 use Rattle.walk_laws.specs.Way.{Convicts}
 use Rattle.walk_signed.specs.Heard.{ownHeard}
+use Rattle.wire_packet.specs.Packet.{body}
 
 pub record Tour (keys : List ℕ) (most : ℕ) : Type 0 where
   -- server i has two seeds, and the walk has the public key of the first
@@ -42,6 +44,11 @@ pub record Tour (keys : List ℕ) (most : ℕ) : Type 0 where
   pub rand : ℕ → List ℕ
   pub rand-long : (k : ℕ) → length (rand k) ≡ 32
 
+-- the response x says what is said at step k
+pub record Says {keys : List ℕ} {most : ℕ} (t : Tour keys most) (k : ℕ) (x : List ℕ) : Type 0 where
+  pub midp : windowIn (body x) .midp ≡ t .midp k
+  pub radi : windowIn (body x) .radi ≡ t .radi k
+
 module _ {keys : List ℕ} {most : ℕ} (t : Tour keys most) where
   -- in a state: the answer of the server that is asked, to the request that is asked,
   abbrev pub answerIn : Walk → List ℕ
@@ -52,7 +59,7 @@ module _ {keys : List ℕ} {most : ℕ} (t : Tour keys most) where
   abbrev pub heardIn : Walk → Heard
   heardIn w = ownHeard w (t .sent (w .step)) (t .received (w .step)) (t .rand (w .step)) (answerIn w)
 
-  -- There is a walk of these answers: from a start over these keys to the call that ends it, two records a server.
+  -- There is a walk of such answers, from a start over these keys to the call that ends it: two for each server.
   pub record Toured (nonce : List ℕ) : Type 0 where
     pub w : Walk
     pub buffer : List ℕ
@@ -61,7 +68,11 @@ module _ {keys : List ℕ} {most : ℕ} (t : Tour keys most) where
     pub r : Report
     pub ends : Takes w (heardIn w) (answerIn w) buffer (Ended o r)
     pub full : w .step + 1 ≡ 2 * serversIn keys
-    -- Every signature on it verifies,
+    -- They say what is said at each step,
+    pub said : (k : ℕ) → k < 2 * serversIn keys
+        → Says t k
+        (getD (heard (took w buffer (heardIn w) (answerIn w) (Ended o r) way (t .rand-long (w .step)) ends)) k [])
+    -- every signature on it verifies,
     pub verified : AllVerify (took w buffer (heardIn w) (answerIn w) (Ended o r) way (t .rand-long (w .step)) ends)
     -- and where a time that was said lies wholly after a later one, with their radii, the pile convicts.
     pub convicts : Bytes (recorded w (answerIn w) buffer) → (i j : ℕ) → i < j → j < 2 * serversIn keys
