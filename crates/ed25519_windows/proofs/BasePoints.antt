@@ -1,7 +1,7 @@
--- The points B, 2B, .. 8B and their rows: one test, which antt computes, goes from each point to the next, and one
+-- The points B, 3B, .. 15B and their rows: one test, which antt computes, goes from each point to the next, and one
 -- holds a row to its point.
-use Prim.Native.Nat.{ℕ, zero, suc, _+_, _<_}
-use mathlib.Core.Path.{_≡_, refl, ap, _∙_}
+use Prim.Native.Nat.{ℕ, zero, suc, _+_, _*_, _<_}
+use mathlib.Core.Path.{_≡_, refl, ap, ap₂, _∙_}
 use mathlib.Core.Bool.{Bool, true}
 use mathlib.Core.List.{List, [], _∷_}
 use native.Mathlib.Omega.{arith}
@@ -20,46 +20,50 @@ use Rattle.ed25519_curve.specs.Points.{d, twoD, affine, base, pointAdd, pointEq
 use Rattle.ed25519_curve.specs.Coords.{Even, Cached, wholeOf}
 use Rattle.ed25519_group_laws.specs.Affine.{Affine, sumOf, zeroPoint, timesOf, pointOf}
 use Rattle.ed25519_group_laws.specs.Group.{Point}
-use Rattle.ed25519_group_laws.proofs.Group.{zero-point}
-use Rattle.ed25519_group_laws.proofs.Times.{times-zero, times-next}
+use Rattle.ed25519_group_laws.proofs.Times.{times-add, times-one}
 use Rattle.ed25519_group_laws.proofs.Adding.{sum-stands}
 use Rattle.ed25519_group_laws.proofs.Multiples.{affine-stands, base-stands}
 use Rattle.ed25519_group_laws.proofs.Equality.{equal-exactly}
 use Rattle.ed25519_windows.specs.Windows.{BaseRow}
 
-unfoldable pub points : List Affine
-points =
-    record {
-      x = 15112221349535400772501151409588531511454012693041857206046113283949847762202;
-      y = 46316835694926478169428394003475163141307993866256225615783033603165251855960;
-    } ∷
+-- 2B
+unfoldable twoB : Affine
+twoB =
     record {
       x = 24727413235106541002554574571675588834622768167397638456726423682521233608206;
       y = 15549675580280190176352668710449542251549572066445060580507079593062643049417;
-    } ∷
+    }
+
+-- 3B, 5B, .. 15B
+unfoldable pub points : List Affine
+points =
     record {
       x = 46896733464454938657123544595386787789046198280132665686241321779790909858396;
       y = 8324843778533443976490377120369201138301417226297555316741202210403726505172;
-    } ∷
-    record {
-      x = 14582954232372986451776170844943001818709880559417862259286374126315108956272;
-      y = 32483318716863467900234833297694612235682047836132991208333042722294373421359;
     } ∷
     record {
       x = 33467004535436536005251147249499675200073690106659565782908757308821616914995;
       y = 43097193783671926753355113395909008640284023746042808659097434958891230611693;
     } ∷
     record {
-      x = 34643617590234865996699167120328052565261792237873803846102513686264813449789;
-      y = 2399184961499513294557607325187831088545696902880432827228757905043131825908;
-    } ∷
-    record {
       x = 9199134265559022971505535402808359556995554859516252602543778295037484220679;
       y = 22512087849695599276028560866629687720820254811233262850576678203618951717560;
     } ∷
     record {
-      x = 46706390780465557264338673484185971070529246228527338942042475661633188627656;
-      y = 15299170165656271974649334809062094114079726227711063015095704409550798436788;
+      x = 24193060302538010417230488029838514081720802923509845138863968807030823940444;
+      y = 57551756252899625001155759838357770487605224608455116862194664796369308545472;
+    } ∷
+    record {
+      x = 9451145793506787353375160377761530931587019091193333050860601958827395183563;
+      y = 20609402718286069808115703540855311742885093522056241285814584245966805874451;
+    } ∷
+    record {
+      x = 7442235066513780790779899786332475485840754593728627195931759107337804079085;
+      y = 8529785864514984411577036536286432879603480171865651918962709025066066124672;
+    } ∷
+    record {
+      x = 35771902585589234259498423420223840099331465042459337605611172842168536632769;
+      y = 8502034780705657720897159939055122322178084209392286764802307224484658961631;
     } ∷ []
 
 -- a is a point of the curve, with coordinates below p
@@ -71,13 +75,14 @@ curve a =
 abbrev below : Affine → Bool
 below a = both (ltb (a .x) p) (ltb (a .y) p)
 
--- b is B + a
-abbrev next : Affine → Affine → Bool
-next a b = pointEqual (pointAdd base (affine (a .x) (a .y))) (affine (b .x) (b .y))
+-- b is s + a
+abbrev next : Affine → Affine → Affine → Bool
+next s a b = pointEqual (pointAdd (affine (s .x) (s .y)) (affine (a .x) (a .y))) (affine (b .x) (b .y))
 
-abbrev follows : Affine → List Affine → Bool
-follows a [] = true
-follows a (b ∷ l) = both (both (below b) (curve b)) (both (next a b) (follows b l))
+-- from a on each point is s more
+abbrev follows : Affine → Affine → List Affine → Bool
+follows s a [] = true
+follows s a (b ∷ l) = both (both (below b) (curve b)) (both (next s a b) (follows s b l))
 
 is-point : (a : Affine) → T (both (below a) (curve a)) → Point a
 is-point a t =
@@ -92,47 +97,46 @@ pub record Fold (j : ℕ) (a : Affine) : Type 0 where
   pub is : timesOf j (pointOf base) ≡ a
   pub point : Point a
 
-one-more : (j : ℕ) (a b : Affine) → Fold j a → Point b → pointEqual (pointAdd base (affine (a .x) (a .y)))
-    (affine (b .x) (b .y)) ≡ true → Fold (suc j) b
-one-more j a b f pb e = record {
-  is = times-next j (pointOf base) ∙ ap (sumOf (pointOf base)) (f .is)
-      ∙ equal-exactly (pointAdd base (affine (a .x) (a .y))) (affine (b .x) (b .y)) (sumOf (pointOf base) a) b
-      (sum-stands base (affine (a .x) (a .y)) (pointOf base) a base-stands (affine-stands a (f .point)))
-      (affine-stands b pb) .0 e;
-  point = pb;
-}
-
 -- the first of the points that follow, and the others
-step : (a b : Affine) (l : List Affine) (n : ℕ) → Fold n a → T (follows a (b ∷ l)) → Fold (suc n) b × T (follows b l)
-step a b l n f t =
-    let good = both-left (both (below b) (curve b)) (both (next a b) (follows b l)) t in
-    let rest = both-right (both (below b) (curve b)) (both (next a b) (follows b l)) t in (
-      one-more n a b f (is-point b good) (holds-exactly (next a b) .1 (both-left (next a b) (follows b l) rest)),
-      both-right (next a b) (follows b l) rest,
-    )
+module _ (s : Affine) (m : ℕ) (fs : Fold m s) where
+  step : (a b : Affine) (l : List Affine) (n : ℕ) → Fold n a → T (follows s a (b ∷ l)) → Fold (m + n) b × T (follows s b l)
+  step a b l n f t =
+      let good = both-left (both (below b) (curve b)) (both (next s a b) (follows s b l)) t in
+      let rest = both-right (both (below b) (curve b)) (both (next s a b) (follows s b l)) t in
+      (record { is = is (is-point b good) rest; point = is-point b good }, both-right (next s a b) (follows s b l) rest)
+    where
+      is : Point b → T (both (next s a b) (follows s b l)) → timesOf (m + n) (pointOf base) ≡ b
+      is pb rest =
+          times-add m n (pointOf base) (base-stands .point) ∙ ap₂ (λ (x y : Affine). sumOf x y) (fs .is) (f .is)
+          ∙ equal-exactly (pointAdd (affine (s .x) (s .y)) (affine (a .x) (a .y))) (affine (b .x) (b .y)) (sumOf s a) b
+          (sum-stands (affine (s .x) (s .y)) (affine (a .x) (a .y)) s a (affine-stands s (fs .point))
+          (affine-stands a (f .point)))
+          (affine-stands b pb) .0 (holds-exactly (next s a b) .1 (both-left (next s a b) (follows s b l) rest))
 
-follows-at : (l : List Affine) (a : Affine) (n : ℕ) → Fold n a → T (follows a l) → (j : ℕ) → j < length l
-    → Fold (suc n + j) (getD l j zeroPoint)
-follows-at [] a n f t j h = absurd (not-suc-le-zero h)
-follows-at (b ∷ l) a n f t zero h = let z : suc n + 0 ≡ suc n = omega arith in rw z (step a b l n f t .0)
-follows-at (b ∷ l) a n f t (suc j) h =
-    let z : suc n + suc j ≡ suc (suc n) + j = omega arith in
-    let s = step a b l n f t in
-    rw z (follows-at l b (suc n) (s .0) (s .1) j (le-of-suc-le-suc h))
+  follows-at : (l : List Affine) (a : Affine) (n : ℕ) → Fold n a → T (follows s a l) → (j : ℕ) → j < length l
+      → Fold (m * suc j + n) (getD l j zeroPoint)
+  follows-at [] a n f t j h = absurd (not-suc-le-zero h)
+  follows-at (b ∷ l) a n f t zero h = let z : m * 1 + n ≡ m + n = omega arith in rw z (step a b l n f t .0)
+  follows-at (b ∷ l) a n f t (suc j) h =
+      let z : m * suc (suc j) + n ≡ m * suc j + (m + n) = omega arith in
+      let r = step a b l n f t in
+      rw z (follows-at l b (m + n) (r .0) (r .1) j (le-of-suc-le-suc h))
 
-all-follow : T (follows zeroPoint points)
-unfolding points p d twoD base addF subF mulF pointAdd pointEqual
+first : Fold 1 (pointOf base)
+first = record { is = times-one (pointOf base) (base-stands .point); point = base-stands .point }
+
+second : Fold 2 twoB
+unfolding twoB p d twoD base addF subF mulF pointAdd pointEqual
+second = step (pointOf base) 1 first (pointOf base) twoB [] 1 first tt .0
+
+all-follow : T (follows twoB (pointOf base) points)
+unfolding twoB points p d twoD base addF subF mulF pointAdd pointEqual
 all-follow = tt
 
-first : Fold 0 zeroPoint
-first = record { is = times-zero (pointOf base); point = zero-point }
-
-fold-at : (j : ℕ) → j < 9 → Fold j (getD (zeroPoint ∷ points) j zeroPoint)
+fold-at : (j : ℕ) → j < 8 → Fold (2 * j + 1) (getD (pointOf base ∷ points) j zeroPoint)
 unfolding points
 fold-at zero h = first
-fold-at (suc j) h =
-    let z : suc j ≡ 1 + j = omega arith in
-    rw z (follows-at points zeroPoint 0 first all-follow j (le-of-suc-le-suc h))
+fold-at (suc j) h = follows-at twoB 2 second points (pointOf base) 1 first all-follow j (le-of-suc-le-suc h)
 
 -- five limbs that are the number n
 abbrev limbs : List ℕ → ℕ → Bool
@@ -192,11 +196,11 @@ module _ (a : Affine) (r : Thin) (m q s : List ℕ) (em : r .minus ≡ m) (eq : 
     even = even;
   }
 
-row-at : (j : ℕ) (r : Thin) (m q s : List ℕ) → j < 9 → r .minus ≡ m → r .plus ≡ q → r .scaled ≡ s
-    → T (fits (getD (zeroPoint ∷ points) j zeroPoint) m q s) → BaseRow j (wholeOf r)
+row-at : (j : ℕ) (r : Thin) (m q s : List ℕ) → j < 8 → r .minus ≡ m → r .plus ≡ q → r .scaled ≡ s
+    → T (fits (getD (pointOf base ∷ points) j zeroPoint) m q s) → BaseRow (2 * j + 1) (wholeOf r)
 row-at j r m q s h em eq es t =
-    let a : Affine = getD (zeroPoint ∷ points) j zeroPoint in
-    let f : Fold j a = fold-at j h in
+    let a : Affine = getD (pointOf base ∷ points) j zeroPoint in
+    let f : Fold (2 * j + 1) a = fold-at j h in
     let c = cached a r m q s em eq es t in
     record {
       even = c .even;
@@ -208,19 +212,19 @@ row-at j r m q s h em eq es t =
       });
     }
 
-pub row-is : (i j : ℕ) (r : Thin) (m q s : List ℕ) → j ≡ i → i < 9
-    → (r .minus ≡ m) × (r .plus ≡ q) × (r .scaled ≡ s) → T (fits (getD (zeroPoint ∷ points) i zeroPoint) m q s)
-    → BaseRow j (wholeOf r)
+pub row-is : (i j : ℕ) (r : Thin) (m q s : List ℕ) → j ≡ i → i < 8
+    → (r .minus ≡ m) × (r .plus ≡ q) × (r .scaled ≡ s) → T (fits (getD (pointOf base ∷ points) i zeroPoint) m q s)
+    → BaseRow (2 * j + 1) (wholeOf r)
 row-is i j r m q s e h f t = rw e (row-at i r m q s h (f .0) (f .1) (f .2) t)
 
--- a number below 9 that is none of 0 to 7, in two steps, since `omega` splits six times at most
-module _ (j : ℕ) (n0 : j ≡ 0 → ⊥) (n1 : j ≡ 1 → ⊥) (n2 : j ≡ 2 → ⊥) (n3 : j ≡ 3 → ⊥) where
-  from-four : 3 < j
-  from-four = omega arith
+-- a number below 8 that is none of 0 to 6, in two steps, since `omega` splits six times at most
+module _ (j : ℕ) (n0 : j ≡ 0 → ⊥) (n1 : j ≡ 1 → ⊥) (n2 : j ≡ 2 → ⊥) where
+  from-three : 2 < j
+  from-three = omega arith
 
-pub eighth : (j : ℕ) → j < 9 → (j ≡ 0 → ⊥) → (j ≡ 1 → ⊥) → (j ≡ 2 → ⊥) → (j ≡ 3 → ⊥) → (j ≡ 4 → ⊥) → (j ≡ 5 → ⊥)
-    → (j ≡ 6 → ⊥) → (j ≡ 7 → ⊥) → j ≡ 8
-eighth j h n0 n1 n2 n3 n4 n5 n6 n7 = last j h (from-four j n0 n1 n2 n3) n4 n5 n6 n7
+pub seventh : (j : ℕ) → j < 8 → (j ≡ 0 → ⊥) → (j ≡ 1 → ⊥) → (j ≡ 2 → ⊥) → (j ≡ 3 → ⊥) → (j ≡ 4 → ⊥) → (j ≡ 5 → ⊥)
+    → (j ≡ 6 → ⊥) → j ≡ 7
+seventh j h n0 n1 n2 n3 n4 n5 n6 = last j h (from-three j n0 n1 n2) n3 n4 n5 n6
   where
-    last : (j : ℕ) → j < 9 → 3 < j → (j ≡ 4 → ⊥) → (j ≡ 5 → ⊥) → (j ≡ 6 → ⊥) → (j ≡ 7 → ⊥) → j ≡ 8
-    last j h k n4 n5 n6 n7 = omega arith
+    last : (j : ℕ) → j < 8 → 2 < j → (j ≡ 3 → ⊥) → (j ≡ 4 → ⊥) → (j ≡ 5 → ⊥) → (j ≡ 6 → ⊥) → j ≡ 7
+    last j h k n3 n4 n5 n6 = omega arith
