@@ -33,8 +33,9 @@ add-requires-2 c κs = let g =
     (up tt (g .z), up tt (g .z))
 
 add-with-requires : tie.Need-add-with-requires
-add-with-requires c κs = let g =
-    c .before .before .before .before .before .before .before .before .before .before .before .before .before .pre .0 in (
+add-with-requires c κs =
+    let e = c .before .before .before .before .before .before in
+    let g = e .before .before .before .before .before .before .before .pre .0 in (
       c .before .before .before .before .mul .ensures .limbs,
       c .before .before .mul2 .ensures .limbs,
       c .before .mul3 .ensures .limbs,

@@ -9,7 +9,8 @@ returns : tie.Need-returns
 returns c =
     let r = c .before .before .args .r in
     let s = c .opposite-thin in
-    rw (c .before .if1 .taken) (turned-off (wholeOf r) (wholeOf (s .result)) (s .ensures .even (c .before .before .pre)) (s .ensures))
+    rw (c .before .if1 .taken)
+    (turned-off (wholeOf r) (wholeOf (s .result)) (s .ensures .even (c .before .before .pre)) (s .ensures))
 
 returns-2 : tie.Need-returns-2
 returns-2 c = rw (c .if1 .left) (turned-on _ (c .before .pre))
