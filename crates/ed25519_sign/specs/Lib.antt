@@ -4,3 +4,5 @@
 -- ed25519_field (5.1, 5.1.1), `Sha512` of sha512 with what it names, and `le` and `leBytes` in Numbers of laws, which
 -- read and write a number in bytes. That what is signed verifies is proved in ed25519_sign_laws.
 pub mod Signing
+-- What only contracts of helpers cite:
+pub mod Steps
