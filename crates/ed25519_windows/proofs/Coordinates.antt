@@ -1,6 +1,6 @@
 -- What doublings, additions and rows stand for.
-use Prim.Native.Nat.{ℕ, _+_, _≤_}
-use mathlib.Core.Path.{_≡_, sym}
+use Prim.Native.Nat.{ℕ, _≤_}
+use mathlib.Core.Path.{_≡_}
 use mathlib.Core.Bool.{true, false}
 use mathlib.Core.List.{List}
 use native.Mathlib.Omega.{arith}
@@ -14,8 +14,7 @@ use Rattle.ed25519_curve.specs.declared.Ends.{Ends}
 use Rattle.ed25519_curve.specs.declared.Addend.{Addend}
 use Rattle.ed25519_curve.specs.Coords.{ptOf, flatOf, endOf, sumWith, Doubled, Even, Cached, oppositeOf, Opposed}
 use Rattle.ed25519_curve.proofs.Joining.{summed-is}
-use Rattle.ed25519_group_laws.specs.Affine.{Affine, sumOf, timesOf}
-use Rattle.ed25519_group_laws.specs.Group.{Point}
+use Rattle.ed25519_group_laws.specs.Affine.{Affine, sumOf}
 use Rattle.ed25519_group_laws.specs.Standing.{StandsFor}
 use Rattle.ed25519_group_laws.proofs.Adding.{sum-stands}
 use Rattle.ed25519_group_laws.proofs.Doubling.{double-stands}
@@ -27,7 +26,8 @@ pub doubled-stands : (q : Flat) (s : Ends) (a : Affine) → Doubled (num (q .x))
     → FlatFor q a → StandsFor (endOf s) (sumOf a a)
 doubled-stands q s a d h = rw (d .is (h .t)) (double-stands (flatOf q (h .t)) a (h .stands))
 
-pub flat-for : (r : Flat) (s : Ends) (a : Affine) → flatOf r (endOf s .T) ≡ endOf s → StandsFor (endOf s) a → FlatFor r a
+pub flat-for : (r : Flat) (s : Ends) (a : Affine) → flatOf r (endOf s .T) ≡ endOf s → StandsFor (endOf s) a
+    → FlatFor r a
 flat-for r s a e h = record { t = endOf s .T; stands = rw e h }
 
 -- an addition of a row

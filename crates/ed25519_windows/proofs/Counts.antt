@@ -1,4 +1,4 @@
--- Points as sums of multiples of two points, in which each of the two is counted by what is added and what is taken off.
+-- Points as sums of multiples of two points, each of which is counted by what is added and by what is taken off.
 use Prim.Native.Nat.{ℕ, _+_, _*_}
 use mathlib.Core.Path.{_≡_, refl, sym, ap, ap₂, _∙_}
 use mathlib.Core.Bool.{Bool, true, false, cond}
@@ -40,7 +40,8 @@ module _ (b : ℕ) (a : Affine) (pa : Point a) where
       pick : (s : Affine) → Point s → (off : Bool) → timesOf (sizeOf b) a ≡ s
           → sumOf (sideOf off s) (timesOf (cond off (sizeOf b) 0) a) ≡ timesOf (cond off 0 (sizeOf b)) a
       pick s ps true e =
-          ap (sumOf (minusOf s)) e ∙ sum-commutes (minusOf s) s (minus-point s ps) ps ∙ sum-minus s ps ∙ sym (times-zero a)
+          ap (sumOf (minusOf s)) e ∙ sum-commutes (minusOf s) s (minus-point s ps) ps ∙ sum-minus s ps
+          ∙ sym (times-zero a)
       pick s ps false e = ap (sumOf s) (times-zero a) ∙ sum-zero s ps ∙ sym e
 
 module _ (x y : Affine) (px : Point x) (py : Point y) where
@@ -82,11 +83,11 @@ module _ (x y : Affine) (px : Point x) (py : Point y) where
       → Counts x y (plusOf b + 2 * m) (lessOf b + 2 * n) (plusOf e + 2 * k) (lessOf e + 2 * l)
       (sumOf (sumOf (sumOf a a) (digitOf b x)) (digitOf e y))
   counts-turn m n k l b e a h =
+      let two = counts-sum _ _ _ _ _ _ _ _ a a h h in
       let z : (i j : ℕ) → i + i + j + 0 ≡ j + 2 * i = λ i j. omega arith in
       let w : (i j : ℕ) → i + i + 0 + j ≡ j + 2 * i = λ i j. omega arith in
       rw (z m (plusOf b), z n (lessOf b), w k (plusOf e), w l (lessOf e)) at
-      (counts-sum _ _ _ _ _ _ _ _ _ _ (counts-sum _ _ _ _ _ _ _ _ _ _ (counts-sum _ _ _ _ _ _ _ _ a a h h) (digit-left b))
-      (digit-right e))
+      (counts-sum _ _ _ _ _ _ _ _ _ _ (counts-sum _ _ _ _ _ _ _ _ _ _ two (digit-left b)) (digit-right e))
 
   -- what is taken off is in what is added
   pub counts-last : (s n k l : ℕ) (a : Affine) → Counts x y (s + n) n (k + l) l a → a ≡ pairOf x y s k

@@ -1,82 +1,21 @@
--- A scalar as odd digits: what is put into a list of digits, and the turns of `digits_of`.
-use Prim.Native.Nat.{ℕ, zero, suc, _+_, _-_, _*_, _/_, _%_, _^_, _≤_, _<_}
+-- A scalar as odd digits: the turns of `digits_of`, and `top`.
+use Prim.Native.Nat.{ℕ, _+_, _-_, _*_, _/_, _%_, _^_, _≤_, _<_}
 use mathlib.Core.Path.{_≡_, refl, sym, ap, _∙_}
-use mathlib.Core.List.{List, [], _∷_}
+use mathlib.Core.List.{List}
 use native.Mathlib.Omega.{arith}
 use native.Mathlib.Decide.{ℕ-discrete}
 use native.Mathlib.Numerals.{add-one}
-use native.Mathlib.Nat.{div-div-eq-div-mul, div-one, div-eq-of-lt, pow-zero, pow-suc, le-trans, lt-of-lt-of-le}
-use native.Mathlib.Nat.{le-of-suc-le-suc, not-suc-le-zero}
-use borrow.Author.Tests.{le-leb, lt-leb}
-use lib.ListN.{length, set, getD, drop, replicate, length-set, List·getD-eq-default}
-use lib.Seq.{drop-cons, getD-drop, getD-set-same, getD-set-other}
+use native.Mathlib.Nat.{div-div-eq-div-mul, div-one, div-eq-of-lt, pow-zero, pow-suc, lt-of-lt-of-le}
+use lib.ListN.{length, set, getD, replicate, length-set, List·getD-eq-default}
+use lib.Seq.{getD-set-same, getD-set-other}
 use lib.Pow.{pow-add, pow-mono, shr-shr}
 use Rattle.digits.specs.Digits.{value}
 use Rattle.digits.proofs.Bounds.{value-lt, each-zeros}
 use Rattle.digits.proofs.Bits.{halve}
 use Rattle.ed25519_field.specs.Limbs.{radix, Digits}
 use Rattle.ed25519_windows.specs.OddDigits.{Digit, plusOf, lessOf, total, Recoded, Above}
-
-module _ (f : ℕ → ℕ) where
-  -- a digit is replaced
-  total-set : (l : List ℕ) (k v : ℕ) → k < length l
-      → total f (set l k v) + 2 ^ k * f (getD l k 0) ≡ total f l + 2 ^ k * f v
-  unfolding total
-  total-set [] k v h = absurd (not-suc-le-zero h)
-  total-set (x ∷ xs) zero v h = rw pow-zero (omega arith)
-  total-set (x ∷ xs) (suc k) v h =
-      let e = total-set xs k v (le-of-suc-le-suc h) in
-      let g : 2 * (total f (set xs k v) + 2 ^ k * f (getD xs k 0)) ≡ 2 * (total f xs + 2 ^ k * f v) = ap (λ n. 2 * n) e in
-      rw pow-suc (omega arith)
-
-  -- the digits from i on are digit i and those above it
-  pub total-drop : (t : List ℕ) (i : ℕ) → i < length t
-      → total f (drop i t) ≡ f (getD t i 0) + 2 * total f (drop (i + 1) t)
-  unfolding total
-  total-drop t i h = ap (total f) (drop-cons t i 0 h) ∙ (rw add-one)
-
-  module _ (nothing : f 0 ≡ 0) where
-    -- where there was none
-    total-put : (l : List ℕ) (k v : ℕ) → k < length l → getD l k 0 ≡ 0 → total f (set l k v) ≡ total f l + 2 ^ k * f v
-    total-put l k v h z =
-        let n : 2 ^ k * f (getD l k 0) ≡ 2 ^ k * 0 = ap (λ m. 2 ^ k * m) (ap f z ∙ nothing) in
-        omega (arith, total-set l k v h)
-
-    total-none : (t : List ℕ) → ((j : ℕ) → getD t j 0 ≡ 0) → total f t ≡ 0
-    unfolding total
-    total-none [] h = refl
-    total-none (x ∷ xs) h =
-        let e : f x ≡ 0 = ap f (h 0) ∙ nothing in
-        let r = total-none xs (λ j. h (suc j)) in
-        omega arith
-
-    pub total-above : (t : List ℕ) (i : ℕ) → Above t i → total f (drop i t) ≡ 0
-    total-above t i a = total-none (drop i t) (λ j. getD-drop i t j 0 ∙ a .none (i + j) (omega arith))
-
--- what a digit adds and takes off
-pub plus-none : plusOf 0 ≡ 0
-unfolding plusOf
-plus-none = refl
-
-pub less-none : lessOf 0 ≡ 0
-unfolding lessOf
-less-none = refl
-
-plus-low : (b : ℕ) → b < 16 → plusOf b ≡ b
-unfolding plusOf
-plus-low b h = rw (lt-leb 16 b h) (omega arith)
-
-less-low : (b : ℕ) → b < 16 → lessOf b ≡ 0
-unfolding lessOf
-less-low b h = rw (lt-leb 16 b h)
-
-plus-high : (b : ℕ) → 16 ≤ b → plusOf b ≡ 0
-unfolding plusOf
-plus-high b h = rw (le-leb 16 b h)
-
-less-high : (b n : ℕ) → b ≡ 16 + n → n < 16 → lessOf b ≡ n
-unfolding lessOf
-less-high b n e h = rw (le-leb 16 b (omega arith)) (omega arith)
+use Rattle.ed25519_windows.proofs.Totals.{total-put, total-none, plus-none, less-none}
+use Rattle.ed25519_windows.proofs.Totals.{plus-low, less-low, plus-high, less-high}
 
 -- a bit beyond the limbs
 pub bit-beyond : (l : List ℕ) (i : ℕ) → length l ≡ 5 → Digits l → 255 ≤ i → 0 ≡ value radix l / 2 ^ i % 2
@@ -161,8 +100,8 @@ going-skip v b carry t i g e h =
       odd = g .odd;
       free = λ j l. g .free j (omega arith);
       low = rw above (omega arith);
-      is = moved (2 ^ i) (2 ^ (i + 1)) 2 (v / 2 ^ i + carry) (v / 2 ^ (i + 1) + carry) 0 0 (total plusOf t) (total lessOf t) _ _ v
-          p (g .is) (omega arith) (omega arith) (omega arith);
+      is = moved (2 ^ i) (2 ^ (i + 1)) 2 (v / 2 ^ i + carry) (v / 2 ^ (i + 1) + carry) 0 0 (total plusOf t)
+          (total lessOf t) _ _ v p (g .is) (omega arith) (omega arith) (omega arith);
     }
 
 -- what stands in a list in which a free place was filled
@@ -174,19 +113,21 @@ filled t i b P h p q j = elim (ℕ-discrete j i) [
 ]
 
 -- a digit at bit i, and what is left above the five bits
-put : (v b carry next : ℕ) (t : List ℕ) (i : ℕ) → Going v t i carry → i < 256 → b % 2 ≡ 1 → next ≤ 2 * v / 2 ^ (i + 5) % 2
-    → v / 2 ^ i + carry + lessOf b ≡ plusOf b + 32 * (v / 2 ^ (i + 5) + next) → Going v (set t i b) (i + 5) next
+put : (v b carry next : ℕ) (t : List ℕ) (i : ℕ) → Going v t i carry → i < 256 → b % 2 ≡ 1
+    → next ≤ 2 * v / 2 ^ (i + 5) % 2 → v / 2 ^ i + carry + lessOf b ≡ plusOf b + 32 * (v / 2 ^ (i + 5) + next)
+    → Going v (set t i b) (i + 5) next
 put v b carry next t i g l o low e =
     let p : 2 ^ (i + 5) ≡ 2 ^ i * 32 = pow-add 2 i 5 in
     let long : i < length t = omega (arith, g .long) in
+    let none : getD t i 0 ≡ 0 = g .free i (omega arith) in
     record {
       long = length-set t i b ∙ g .long;
       odd = filled t i b (λ j n. Digit n) long (λ _. o) (g .odd);
       free = filled t i b (λ j n. i + 5 ≤ j → n ≡ 0) long (λ h. absurd (omega arith)) (λ j h. g .free j (omega arith));
       low = low;
-      is = moved (2 ^ i) (2 ^ (i + 5)) 32 (v / 2 ^ i + carry) (v / 2 ^ (i + 5) + next) (plusOf b) (lessOf b) (total plusOf t)
-          (total lessOf t) _ _ v p (g .is) (total-put plusOf plus-none t i b long (g .free i (omega arith)))
-          (total-put lessOf less-none t i b long (g .free i (omega arith))) e;
+      is = moved (2 ^ i) (2 ^ (i + 5)) 32 (v / 2 ^ i + carry) (v / 2 ^ (i + 5) + next) (plusOf b) (lessOf b)
+          (total plusOf t) (total lessOf t) _ _ v p (g .is) (total-put plusOf plus-none t i b long none)
+          (total-put lessOf less-none t i b long none) e;
     }
 
 -- five bits and the carry as a digit, w
@@ -221,9 +162,9 @@ module _ (v b w carry : ℕ) (t : List ℕ) (i : ℕ) (g : Going v t i carry) (l
 
   pub going-less : 16 ≤ w → Going v (set t i (48 - w)) (i + 5) 1
   going-less k =
+      let off : lessOf (48 - w) ≡ 32 - w = less-high (48 - w) (32 - w) (omega (arith, most)) (omega (arith, odd)) in
       put v (48 - w) carry 1 t i g l (omega (arith, odd, most)) (rw up4 (top (v / 2 ^ i) w carry carry-low f odd k))
-      (rw (plus-high (48 - w) (omega (arith, most)), less-high (48 - w) (32 - w) (omega (arith, most)) (omega (arith, odd)), up5)
-      (sum (v / 2 ^ i) w carry f most k))
+      (rw (plus-high (48 - w) (omega (arith, most)), off, up5) (sum (v / 2 ^ i) w carry f most k))
     where
       top : (x w carry : ℕ) → carry < 2 → w ≡ x % 32 + carry → w % 2 ≡ 1 → 16 ≤ w → 1 ≤ x / 16 % 2
       top x w carry l f o k = omega arith

@@ -1,6 +1,6 @@
 -- A turn of the loop: [s]P + [k]A, a digit of both scalars more.
 use Prim.Native.Nat.{ℕ, _+_, _*_, _/_, _%_, _≤_, _<_}
-use mathlib.Core.Path.{_≡_, sym, ap, _∙_}
+use mathlib.Core.Path.{_≡_}
 use mathlib.Core.List.{List}
 use native.Mathlib.Omega.{arith}
 use lib.ListN.{drop, getD, length}
@@ -16,13 +16,15 @@ use Rattle.ed25519_group_laws.proofs.Group.{sum-zero}
 use Rattle.ed25519_group_laws.proofs.Times.{times-zero}
 use Rattle.ed25519_group_laws.proofs.Multiples.{neutral-stands, base-stands}
 use Rattle.ed25519_windows.specs.OddDigits.{plusOf, lessOf, total, Recoded, Above, sizeOf, offOf}
-use Rattle.ed25519_windows.specs.Windows.{FlatFor, RowFor, Twice, Rows, at, digitOf, WithBase, WithRow, pairOf, Paired}
-use Rattle.ed25519_windows.proofs.OddDigits.{total-drop, total-above, plus-none, less-none}
+use Rattle.ed25519_windows.specs.Windows.{FlatFor, RowFor, Twice, Rows, at, digitOf, WithBase, WithRow}
+use Rattle.ed25519_windows.specs.Windows.{pairOf, Paired}
+use Rattle.ed25519_windows.proofs.Totals.{total-drop, total-above, plus-none, less-none}
 use Rattle.ed25519_windows.proofs.Coordinates.{flat-for}
 use Rattle.ed25519_windows.proofs.Counts.{Counts, counts-first, counts-turn, counts-last}
 
 -- where there is no digit nothing is added
-pub no-digit : (s : Ends) (b : ℕ) (a y : Affine) → b ≡ 0 → StandsFor (endOf s) a → StandsFor (endOf s) (sumOf a (digitOf b y))
+pub no-digit : (s : Ends) (b : ℕ) (a y : Affine) → b ≡ 0 → StandsFor (endOf s) a
+    → StandsFor (endOf s) (sumOf a (digitOf b y))
 no-digit s b a y e h = rw (e, times-zero y, sum-zero a (h .point)) h
 
 -- where there is one its row is that of its place in the table
@@ -103,16 +105,18 @@ sum-turn u S K d e i j q r rd re low z s g turn = record { good = g; made = made
                 total-drop lessOf d j ld,
                 total-drop plusOf e j le,
                 total-drop lessOf e j le,
-              ) (counts-turn (pointOf base) y (base-stands .point) py _ _ _ _ (getD d j 0) (getD e j 0) (h .sum) (h .counts));
+              ) (counts-turn (pointOf base) y (base-stands .point) py _ _ _ _ (getD d j 0) (getD e j 0) (h .sum)
+              (h .counts));
         }
 
-pub sum-last : (u : Addend) (v : List Addend) (S K : ℕ) (d e : List ℕ) (q : Flat) → Rows u v 8 → Recoded S d → Recoded K e
-    → Sum v d e 0 q → Paired u S K q
+pub sum-last : (u : Addend) (v : List Addend) (S K : ℕ) (d e : List ℕ) (q : Flat) → Rows u v 8 → Recoded S d
+    → Recoded K e → Sum v d e 0 q → Paired u S K q
 sum-last u v S K d e q ru rd re s = record { good = s .good; stands = stand }
   where
     stand : (y : Affine) → RowFor u y → FlatFor q (pairOf (pointOf base) y S K)
     stand y sy =
         let h = s .made y (sy .stands .point) (λ j l. ru .row j l .stands y sy) in
-        let w : Counts (pointOf base) y (S + total lessOf d) (total lessOf d) (K + total lessOf e) (total lessOf e) (h .sum) =
-        rw (rd .is, re .is) at (h .counts) in
+        let n : ℕ = total lessOf d in
+        let l : ℕ = total lessOf e in
+        let w : Counts (pointOf base) y (S + n) n (K + l) l (h .sum) = rw (rd .is, re .is) at (h .counts) in
         rw (counts-last (pointOf base) y (base-stands .point) (sy .stands .point) _ _ _ _ (h .sum) w) at (h .flat)

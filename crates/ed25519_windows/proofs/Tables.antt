@@ -12,7 +12,6 @@ use Rattle.ed25519_curve.specs.declared.Addend.{Addend}
 use Rattle.ed25519_curve.specs.Points.{neutral}
 use Rattle.ed25519_curve.specs.Coords.{ptOf, endOf, sumWith, Even, Cached}
 use Rattle.ed25519_group_laws.specs.Affine.{Affine, sumOf, timesOf}
-use Rattle.ed25519_group_laws.specs.Group.{Point}
 use Rattle.ed25519_group_laws.specs.Standing.{StandsFor}
 use Rattle.ed25519_group_laws.proofs.Times.{times-zero, times-one, times-add}
 use Rattle.ed25519_group_laws.proofs.Multiples.{neutral-stands}

@@ -63,14 +63,15 @@ pub fn times_two(s: Scalar, k: Scalar, u: Addend) -> Flat
     let mut i = top(&d, &e);
     while 0 < i {
         i -= 1;
-        let m = with_base(twice(q), d[i]);
-        let b = e[i];
-        if b == 0 {
+        let b = d[i];
+        let c = e[i];
+        let m = with_base(twice(q), b);
+        if c == 0 {
             q = without_t(m);
         } else {
-            let n = (b % 16 / 2) as usize;
+            let n = (c % 16 / 2) as usize;
             let y = v[n];
-            q = without_t(with_row(m, y, 16 <= b));
+            q = without_t(with_row(m, y, 16 <= c));
         }
     }
     q

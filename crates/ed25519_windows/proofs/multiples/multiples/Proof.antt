@@ -35,7 +35,8 @@ loop-holds c =
     let one = itself r (g .pre) in
     let f1 = fold-sum r (z .result) (q1 .result) r (s1 .result) 0 1 1 (fold-first r (z .result) (z .ensures .0)) one
     (s1 .ensures .0) (q1 .ensures .0) refl in
-    let f2 = fold-sum r (q1 .result) (q2 .result) r (s2 .result) 1 1 2 f1 one (s2 .ensures .0) (q2 .ensures .0) refl in (
+    let f2 = fold-sum r (q1 .result) (q2 .result) r (s2 .result) 1 1 2 f1 one (s2 .ensures .0) (q2 .ensures .0)
+    refl in (
       omega arith,
       omega arith,
       q1 .ensures .1,
@@ -56,7 +57,8 @@ loop-again c =
     let n = c .before .with-t3 in
     let s = c .before .before .summed3 in
     let f : (k : ℕ) → k ≡ 2 * l .i - 1 + 2 → Fold r (n .result) k =
-    λ k. fold-sum r (l .q) (n .result) two (s .result) (2 * l .i - 1) 2 k (v .3) (v .5) (s .ensures .0) (n .ensures .0) in (
+    λ k. fold-sum r (l .q) (n .result) two (s .result) (2 * l .i - 1) 2 k (v .3) (v .5) (s .ensures .0)
+    (n .ensures .0) in (
       omega arith,
       omega arith,
       n .ensures .1,

@@ -1,5 +1,5 @@
--- `ed25519_windows::recoding::digits_of` meets its contract. The loop's invariant: the digits below bit `i`, the bits from
--- there on and the carry are the scalar.
+-- `ed25519_windows::recoding::digits_of` meets its contract. The loop's invariant: the digits below bit `i`, the bits
+-- from there on and the carry are the scalar.
 use Prim.Native.Nat.{_+_, _-_}
 use mathlib.Core.Path.{_≡_, ap}
 use mathlib.Core.Logic.{⊎-elim}

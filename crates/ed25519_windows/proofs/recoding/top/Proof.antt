@@ -1,6 +1,5 @@
 -- `ed25519_windows::recoding::top` meets its contract.
 use mathlib.Core.Path.{refl}
-use native.Mathlib.Omega.{arith}
 use borrow.Author.Needs.{needs}
 use Rattle.ed25519_windows.specs.OddDigits.{Above}
 use Rattle.ed25519_windows.proofs.OddDigits.{above-all, above-next}

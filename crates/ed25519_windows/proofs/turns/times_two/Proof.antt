@@ -1,5 +1,5 @@
--- `ed25519_windows::turns::times_two` meets its contract. The loop's invariant: the digits of both scalars from `i` on are
--- in.
+-- `ed25519_windows::turns::times_two` meets its contract. The loop's invariant: the digits of both scalars from `i` on
+-- are in.
 use Prim.Native.Nat.{_-_, _≤_}
 use mathlib.Core.Path.{_≡_}
 use native.Mathlib.Omega.{arith}
@@ -46,8 +46,8 @@ loop-again c =
       omega arith,
       sum-turn _ _ _ _ _ (l .i) (l .i - 1) (l .q) _ (b .before .digits-of .ensures) (b .digits-of2 .ensures) (l .inv .0)
           (omega arith) (l .inv .1) (r .ensures .1)
-          (turn-without (b .before .before .multiples .result) _ _ (l .q) _ (m .result) (n .result) (m .ensures) (n .ensures) (r .ensures .0)
-          (c .before .if1 .taken)),
+          (turn-without (b .before .before .multiples .result) _ _ (l .q) _ (m .result) (n .result) (m .ensures)
+          (n .ensures) (r .ensures .0) (c .before .if1 .taken)),
     )
 
 with-row-requires : tie.Need-with-row-requires Inv-loop μ-loop
@@ -69,8 +69,8 @@ loop-again-2 c =
       omega arith,
       sum-turn _ _ _ _ _ (l .i) (l .i - 1) (l .q) _ (b .before .digits-of .ensures) (b .digits-of2 .ensures) (l .inv .0)
           (omega arith) (l .inv .1) (r .ensures .1)
-          (turn-with (b .before .before .multiples .result) _ _ (l .q) _ (m .result) (n .result) (m .ensures) (n .ensures) (o .result) (o .ensures)
-          (r .ensures .0) (b .digits-of2 .ensures .odd _ (other .if1 .left))),
+          (turn-with (b .before .before .multiples .result) _ _ (l .q) _ (m .result) (n .result) (m .ensures)
+          (n .ensures) (o .result) (o .ensures) (r .ensures .0) (b .digits-of2 .ensures .odd _ (other .if1 .left))),
     )
 
 returns : tie.Need-returns Inv-loop μ-loop
@@ -97,10 +97,10 @@ times-two-spec =
     top-requires
     loop-holds
     (λ c. search needs)
+    (λ c. search needs)
+    (λ c. search needs)
     twice-requires
-    (λ c. search needs)
     with-base-requires
-    (λ c. search needs)
     (λ c κs. search needs)
     (λ c. search needs)
     loop-again

@@ -15,12 +15,12 @@ returns-2 c =
     let x = c .before .signed-thin in
     let n = c .before .before .with-t in
     let r = c .before .before .before .base-row in
-    let b = c .before .before .before .before .before in
+    let d = c .before .before .before .before in
     record {
       loose = s .ensures .1;
       stands =
           λ a h. summed-stands (n .result) (wholeOf (x .result)) (s .result) a _ (rw (n .ensures .0) h)
-          (x .ensures .stands _ (odd-digit _ _ _ (b .pre .1 (c .before .before .before .before .if1 .left)) (r .ensures .stands)))
+          (x .ensures .stands _ (odd-digit _ _ _ (d .before .pre .1 (d .if1 .left)) (r .ensures .stands)))
           (s .ensures .0);
     }
 

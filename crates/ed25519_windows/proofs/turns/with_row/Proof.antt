@@ -12,8 +12,8 @@ returns c =
     record {
       loose = s .ensures .1;
       stands =
-          λ a b h f. summed-stands (n .result) (y .result) (s .result) a _ (rw (n .ensures .0) h) (y .ensures .stands b f)
-          (s .ensures .0);
+          λ a b h f. summed-stands (n .result) (y .result) (s .result) a _ (rw (n .ensures .0) h)
+          (y .ensures .stands b f) (s .ensures .0);
     }
 
 pub with-row-spec : {M : Type 1} → statement M
