@@ -54,7 +54,7 @@ extern "C" {
 
 /* The version of this header: a change of the first number breaks callers. */
 #define TB_VERSION_MAJOR 1
-#define TB_VERSION_MINOR 0
+#define TB_VERSION_MINOR 1
 
 /* ---- Codes ---- */
 
