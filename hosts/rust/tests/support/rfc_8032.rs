@@ -20,7 +20,7 @@ const SEEDS: [&str; 5] = [
 ];
 
 /// The bytes that a line spells, as many as there should be.
-fn exactly<const N: usize>(bytes: Vec<u8>) -> [u8; N] {
+fn exactly<const N: usize>(bytes: &[u8]) -> [u8; N] {
     bytes.try_into().expect("a line has as many bytes as it should")
 }
 
@@ -33,11 +33,11 @@ pub fn entries() -> Vec<Entry> {
     };
     let (keys, texts, signatures) = (values("key "), values("message"), values("signature "));
     assert_eq!((keys.len(), texts.len(), signatures.len()), (5, 5, 5));
-    let entry = |((seed, key), (text, signature)): ((&str, Vec<u8>), (Vec<u8>, Vec<u8>))| Entry {
-        seed: exactly(unhex(seed).expect("it is hexadecimal")),
-        key: exactly(key),
-        text,
-        signature: exactly(signature),
+    let entry = |at: usize| Entry {
+        seed: exactly(&unhex(SEEDS[at]).expect("it is hexadecimal")),
+        key: exactly(&keys[at]),
+        text: texts[at].clone(),
+        signature: exactly(&signatures[at]),
     };
-    SEEDS.into_iter().zip(keys).zip(texts.into_iter().zip(signatures)).map(entry).collect()
+    (0..5).map(entry).collect()
 }
