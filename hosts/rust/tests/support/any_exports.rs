@@ -6,7 +6,7 @@
 
 use crate::any_trial::Trial;
 use crate::{any_clocks, any_hashes, any_header, any_packets, any_piles};
-use crate::{any_servers, any_texts, any_walks};
+use crate::{any_servers, any_signing, any_texts, any_walks};
 use std::collections::BTreeSet;
 
 /// Which stack the header says is enough. For those of which it says nothing, the least that it
@@ -16,6 +16,7 @@ pub enum Stack {
     Least,
     Tree,
     Verify,
+    Sign,
     Text,
 }
 
@@ -23,7 +24,8 @@ impl Stack {
     pub fn bytes(self) -> usize {
         any_header::number(match self {
             Stack::Tree => "TB_TREE_STACK",
-            Stack::Least | Stack::Verify => "TB_VERIFY_STACK",
+            Stack::Least | Stack::Sign => "TB_SIGN_STACK",
+            Stack::Verify => "TB_VERIFY_STACK",
             Stack::Text => "TB_TEXT_STACK",
         })
     }
@@ -68,6 +70,7 @@ pub fn all() -> impl Iterator<Item = &'static Export> {
     let files = [
         any_hashes::EXPORTS,
         any_packets::EXPORTS,
+        any_signing::EXPORTS,
         any_servers::EXPORTS,
         any_piles::EXPORTS,
         any_texts::EXPORTS,
