@@ -1,6 +1,6 @@
 -- Choices by masks.
-use Prim.Native.Nat.{ℕ, _-_, _*_, _/_, _^_, _≤_, _<_}
-use mathlib.Core.Path.{_≡_, refl, sym, _∙_}
+use Prim.Native.Nat.{ℕ, _+_, _-_, _*_, _/_, _^_, _≤_, _<_}
+use mathlib.Core.Path.{_≡_, refl, sym, ap, _∙_}
 use mathlib.Core.Bool.{Bool, true, false, cond}
 use mathlib.Core.List.{List}
 use lib.ListN.{length, getD}
@@ -64,3 +64,17 @@ chosen false n a b out la lb lo h = ext-getD 0 out a (lo ∙ sym la) (λ i g. h 
 pub bit-of : (t : Bool) (n : ℕ) → n ≡ cond t 1 0 → n < 2
 bit-of true n e = omega arith
 bit-of false n e = omega arith
+
+-- a table of which every row is read: the row that is looked for is kept from its turn on
+module _ {A : Type 0} (row : ℕ → A) (k j hit : ℕ) (out r next : A) where
+  pub row-turn : (k < j → out ≡ row k) → hit ≡ cond (eqb j k) 1 0 → r ≡ row j → next ≡ cond (eqb hit 1) r out
+      → k < j + 1 → next ≡ row k
+  row-turn old h e n g = elim (decLt k j) [
+    | yes f ↦
+        (let q : hit ≡ 0 = (rw (ne-eqb j k (λ (z : j ≡ k). omega arith)) at h) in
+        (rw q at n) ∙ old f)
+    | no f ↦
+        (let z : j ≡ k = omega arith in
+        let q : hit ≡ 1 = (rw (eq-eqb j k z) at h) in
+        (rw q at n) ∙ e ∙ ap row z)
+  ]
