@@ -12,6 +12,7 @@ mod piling;
 mod publishing;
 mod reading;
 mod reusing;
+mod seeds;
 mod serving;
 mod signing;
 mod stamping;

@@ -1,6 +1,6 @@
--- A law for each way out of `check` and `verify_parts`, and what is known of S and k in limbs.
+-- A law for each way out of `check` and `verify_parts`, and what is known of S and k in limbs and of a digest in bytes.
 use Prim.Native.Nat.{ℕ, _+_, _%_, _^_, _≤_, _<_}
-use mathlib.Core.Path.{_≡_, sym, _∙_}
+use mathlib.Core.Path.{_≡_, sym, ap, _∙_}
 use mathlib.Core.Bool.{Bool, true, false}
 use mathlib.Core.List.{List, _++_}
 use native.Mathlib.Nat.{mod-eq-of-lt, mod-lt, lt-trans}
@@ -9,6 +9,9 @@ use lib.Dec.{ltb, lit<}
 use lib.ListN.{length, take, drop}
 use Rattle.laws.specs.Numbers.{le}
 use Rattle.digits.specs.Digits.{value}
+use Rattle.digits.proofs.Numbers.{le-bytes}
+use Rattle.sha512.specs.Computation.{Sha512}
+use Rattle.sha512.proofs.Digested.{Sha512-long}
 use Rattle.ed25519_field.specs.Field.{p}
 use Rattle.ed25519_field.specs.Limbs.{radix, Digits}
 use Rattle.ed25519_field.specs.Residue.{Low}
@@ -34,6 +37,10 @@ below-each l v b h e f t = each-below l h (rw e (lt-trans (ltb-true v L (sym f �
 pub hash-each : (l r a m : List ℕ) → Low l → value radix l ≡ kOf r a m → Digits l
 unfolding kOf
 hash-each l r a m h e = scalar-each l _ h e
+
+-- the number in a digest
+pub digest-number : (m d : List ℕ) → d ≡ Sha512 m → value 256 d ≡ le 64 (Sha512 m) 0
+digest-number m d e = ap (value 256) e ∙ sym (le-bytes 64 (Sha512 m) (Sha512-long m))
 
 -- what is decoded stands for itself
 pub decoded-itself : (s : List ℕ) (D : Decoding) → D ≡ decodeOf s → D .ok ≡ true → Itself (D .point)

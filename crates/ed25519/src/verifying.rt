@@ -21,7 +21,7 @@ use ed25519_scalar::below_order;
 use ed25519_windows::times_two;
 
 // The most bytes that a text may have: with R and A as many as a message in pieces may, 2^64 - 1.
-const MOST: usize = 0xffff_ffff_ffff_ffbf;
+pub const MOST_TEXT: usize = 0xffff_ffff_ffff_ffbf;
 
 // Whether [S]B = R + [k]A, as [S]B + [k](-A) = R.
 fn group_equation(a: Point, r: Point, s: Scalar, k: Scalar) -> bool
@@ -58,7 +58,7 @@ pub fn verify_parts(key: &[u8], context: &[u8], value: &[u8], signature: &[u8]) 
     ensures { λ b. ⌜ b ≡ verifiesParts (now (key .entry)) (now (context .entry)) (now (value .entry))
         (now (signature .entry)) ⌝ }
 {
-    if value.len() > MOST - context.len() {
+    if value.len() > MOST_TEXT - context.len() {
         return false;
     }
     if key.len() != 32 {

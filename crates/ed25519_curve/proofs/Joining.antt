@@ -1,14 +1,17 @@
 -- Rows: the opposite of one, and that an addition of a row is the addition of its point.
 use Prim.Native.Nat.{ℕ, _+_, _*_, _%_, _≤_}
 use mathlib.Core.Path.{_≡_, refl, sym, ap, _∙_}
+use mathlib.Core.List.{[], _∷_}
 use native.Mathlib.Omega.{arith}
+use Rattle.digits.specs.Digits.{value}
 use Rattle.digits.proofs.Mods.{add-cong, mul-cong}
 use Rattle.ed25519_field.specs.Field.{p, addF, subF, mulF}
 use Rattle.ed25519_field.specs.Limbs.{num, Limbs}
 use Rattle.ed25519_field.proofs.Elements.{in-left, in-right, mul-rest, mul-most, sub-below, difference, minus-plus}
 use Rattle.ed25519_curve.specs.declared.Addend.{Addend}
-use Rattle.ed25519_curve.specs.Points.{Pt, twoD, addWith, pointAdd}
-use Rattle.ed25519_curve.specs.Coords.{Cached, oppositeOf, Opposed, Even}
+use Rattle.ed25519_curve.specs.declared.Point.{Point}
+use Rattle.ed25519_curve.specs.Points.{Pt, twoD, pointAdd}
+use Rattle.ed25519_curve.specs.Coords.{ptOf, sumWith, Cached, oppositeOf, Opposed, Even}
 
 -- y and x and -x are y
 gone : (x y : ℕ) → x ≤ p → (y + (subF 0 x + x)) % p ≡ y % p
@@ -66,11 +69,15 @@ swap-add x y =
     let e : x * (y + y) ≡ (x + x) * y = omega arith in
     in-right x (y + y) ∙ ap (λ n. n % p) e ∙ sym (in-left (x + x) y)
 
-pub summed-is : (P Q : Pt) (r : Addend) → Cached Q r
-    → addWith (mulF (subF (P .Y) (P .X)) (num (r .minus))) (mulF (addF (P .Y) (P .X)) (num (r .plus)))
-    (mulF (P .T) (num (r .scaled))) (mulF (P .Z) (num (r .twice))) ≡ pointAdd P Q
+-- twice a number is the number by the 2 Z of a row with Z = 1
+pub twice-two : (x : ℕ) → addF x x ≡ mulF x (num (2 ∷ 0 ∷ 0 ∷ 0 ∷ 0 ∷ []))
+unfolding mulF addF num value p
+twice-two x = let e : x + x ≡ x * 2 = omega arith in ap (λ n. n % p) e
+
+pub summed-is : (q : Point) (Q : Pt) (r : Addend) → Cached Q r → sumWith q r ≡ pointAdd (ptOf q) Q
 unfolding pointAdd
-summed-is P Q r h =
+summed-is q Q r h =
+    let P : Pt = ptOf q in
     let c : mulF (P .T) (num (r .scaled)) ≡ mulF (mulF (P .T) twoD) (Q .T) =
     ap (mulF (P .T)) (h .scaled-is) ∙ swap-mul (P .T) (Q .T) twoD in
     let e : mulF (P .Z) (num (r .twice)) ≡ mulF (addF (P .Z) (P .Z)) (Q .Z) =

@@ -1,13 +1,15 @@
 -- The points that the code's limbs stand for. For contracts of helpers.
 use Prim.Native.Nat.{ℕ, _≤_}
 use mathlib.Core.Path.{_≡_}
+use mathlib.Core.List.{[], _∷_}
 use Rattle.ed25519_field.specs.Field.{p, addF, subF, mulF}
 use Rattle.ed25519_field.specs.Limbs.{num, Limbs}
 use Rattle.ed25519_curve.specs.declared.Point.{Point}
 use Rattle.ed25519_curve.specs.declared.Flat.{Flat}
 use Rattle.ed25519_curve.specs.declared.Ends.{Ends}
 use Rattle.ed25519_curve.specs.declared.Addend.{Addend}
-use Rattle.ed25519_curve.specs.Points.{Pt, twoD, finishOf, pointDouble}
+use Rattle.ed25519_curve.specs.declared.Thin.{Thin}
+use Rattle.ed25519_curve.specs.Points.{Pt, twoD, finishOf, addWith, pointDouble}
 
 abbrev pub ptOf : Point → Pt
 ptOf q = record { X = num (q .x); Y = num (q .y); Z = num (q .z); T = num (q .t) }
@@ -41,6 +43,19 @@ pub record Loose (s : Ends) : Type 0 where
 -- R is the double of every point with these X, Y and Z
 pub record Doubled (X Y Z : ℕ) (R : Pt) : Type 0 where
   pub is : (t : ℕ) → R ≡ pointDouble (record { X = X; Y = Y; Z = Z; T = t })
+
+-- a row of a point with Z = 1 as a whole one, whose 2 Z is 2
+abbrev pub wholeOf : Thin → Addend
+wholeOf r = record { minus = r .minus; plus = r .plus; twice = 2 ∷ 0 ∷ 0 ∷ 0 ∷ 0 ∷ []; scaled = r .scaled }
+
+-- a point with a row's point added
+abbrev pub sumWith : Point → Addend → Pt
+sumWith q r =
+    addWith
+    (mulF (subF (num (q .y)) (num (q .x))) (num (r .minus)))
+    (mulF (addF (num (q .y)) (num (q .x))) (num (r .plus)))
+    (mulF (num (q .t)) (num (r .scaled)))
+    (mulF (num (q .z)) (num (r .twice)))
 
 -- a row that may be multiplied
 pub record Even (r : Addend) : Type 0 where

@@ -7,6 +7,7 @@ mod finishing;
 mod rows;
 
 pub use adding::summed;
+pub use adding::summed_thin;
 pub use comparing::point_equal;
 pub use constants::zero_flat;
 pub use constants::zero_point;
@@ -15,6 +16,7 @@ use ed25519_field::Fe;
 pub use finishing::with_t;
 pub use finishing::without_t;
 pub use rows::opposite;
+pub use rows::opposite_thin;
 pub use rows::row_of;
 
 // A point: x = X/Z, y = Y/Z, x y = T/Z.
@@ -45,5 +47,12 @@ pub struct Addend {
     pub minus: Fe,
     pub plus: Fe,
     pub twice: Fe,
+    pub scaled: Fe,
+}
+
+// The same of a point with Z = 1, whose 2 Z need not be said.
+pub struct Thin {
+    pub minus: Fe,
+    pub plus: Fe,
     pub scaled: Fe,
 }

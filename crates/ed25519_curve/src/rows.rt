@@ -1,9 +1,10 @@
 // What an addition takes of its second point.
 ghost use mathlib.Core.Path.{_≡_};
 ghost use Rattle.ed25519_field.specs.Limbs.{Limbs};
-ghost use Rattle.ed25519_curve.specs.Coords.{ptOf, Good, Cached, Opposed};
+ghost use Rattle.ed25519_curve.specs.Coords.{ptOf, Good, Cached, Opposed, wholeOf};
 use super::Addend;
 use super::Point;
+use super::Thin;
 use super::constants::two_d;
 use ed25519_field::add;
 use ed25519_field::mul;
@@ -43,6 +44,21 @@ pub fn opposite(r: Addend) -> Addend
         minus,
         plus,
         twice,
+        scaled,
+    }
+}
+
+pub fn opposite_thin(r: Thin) -> Thin
+    requires { ⌜ Limbs 1 (r .scaled) ⌝ }
+    ensures { λ s. ⌜ Opposed (wholeOf r) (wholeOf s) ⌝ }
+{
+    let minus = r.plus;
+    let plus = r.minus;
+    let t = r.scaled;
+    let scaled = ed25519_field::minus(t);
+    Thin {
+        minus,
+        plus,
         scaled,
     }
 }

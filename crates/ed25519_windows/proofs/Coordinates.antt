@@ -4,7 +4,7 @@ use mathlib.Core.Path.{_≡_, sym}
 use mathlib.Core.Bool.{true, false}
 use mathlib.Core.List.{List}
 use native.Mathlib.Omega.{arith}
-use Rattle.ed25519_field.specs.Field.{p, addF, subF, mulF}
+use Rattle.ed25519_field.specs.Field.{p}
 use Rattle.ed25519_field.specs.Limbs.{num}
 use Rattle.ed25519_field.proofs.Reducing.{num-lt}
 use Rattle.ed25519_field.proofs.Elements.{sub-below}
@@ -12,8 +12,7 @@ use Rattle.ed25519_curve.specs.declared.Point.{Point as Coords}
 use Rattle.ed25519_curve.specs.declared.Flat.{Flat}
 use Rattle.ed25519_curve.specs.declared.Ends.{Ends}
 use Rattle.ed25519_curve.specs.declared.Addend.{Addend}
-use Rattle.ed25519_curve.specs.Points.{addWith}
-use Rattle.ed25519_curve.specs.Coords.{ptOf, flatOf, endOf, Doubled, Even, Cached, oppositeOf, Opposed}
+use Rattle.ed25519_curve.specs.Coords.{ptOf, flatOf, endOf, sumWith, Doubled, Even, Cached, oppositeOf, Opposed}
 use Rattle.ed25519_curve.proofs.Joining.{summed-is}
 use Rattle.ed25519_group_laws.specs.Affine.{Affine, sumOf, timesOf}
 use Rattle.ed25519_group_laws.specs.Group.{Point}
@@ -47,12 +46,9 @@ module _ (q q1 q2 q3 : Flat) (t1 : Twice q q1) (t2 : Twice q1 q2) (t3 : Twice q2
 
 -- an addition of a row
 pub summed-stands : (q : Coords) (r : Addend) (s : Ends) (a b : Affine) → StandsFor (ptOf q) a → RowFor r b
-    → endOf s ≡ addWith (mulF (subF (num (q .y)) (num (q .x))) (num (r .minus)))
-    (mulF (addF (num (q .y)) (num (q .x))) (num (r .plus))) (mulF (num (q .t)) (num (r .scaled)))
-    (mulF (num (q .z)) (num (r .twice)))
-    → StandsFor (endOf s) (sumOf a b)
+    → endOf s ≡ sumWith q r → StandsFor (endOf s) (sumOf a b)
 summed-stands q r s a b h f e =
-    rw (e, summed-is (ptOf q) (f .P) r (f .cached)) (sum-stands (ptOf q) (f .P) a b h (f .stands))
+    rw (e, summed-is q (f .P) r (f .cached)) (sum-stands (ptOf q) (f .P) a b h (f .stands))
 
 num-low : (l : List ℕ) → num l ≤ p
 num-low l = omega (arith, num-lt l)

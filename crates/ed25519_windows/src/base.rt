@@ -1,9 +1,9 @@
 // The rows of 0, B, 2B, .. 8B, with Z = 1. They stand in branches and not in a table, which would be put on the stack.
 ghost use mathlib.Core.Path.{_≡_};
-ghost use mathlib.Core.List.{[], _∷_};
 ghost use Prim.Native.Nat.{_<_};
+ghost use Rattle.ed25519_curve.specs.Coords.{wholeOf};
 ghost use Rattle.ed25519_windows.specs.Windows.{BaseRow};
-use ed25519_curve::Addend;
+use ed25519_curve::Thin;
 use ed25519_field::Fe;
 
 const MINUS_0: Fe = [1, 0, 0, 0, 0];
@@ -204,23 +204,20 @@ const SCALED_8: Fe = [
     678432056995012,
 ];
 
-// A row with Z = 1.
-fn row(minus: Fe, plus: Fe, scaled: Fe) -> Addend
-    ensures { λ r. ⌜ (r .minus ≡ minus) × (r .plus ≡ plus) × (r .twice ≡ 2 ∷ 0 ∷ 0 ∷ 0 ∷ 0 ∷ []) × (r .scaled ≡ scaled) ⌝ }
+fn row(minus: Fe, plus: Fe, scaled: Fe) -> Thin
+    ensures { λ r. ⌜ (r .minus ≡ minus) × (r .plus ≡ plus) × (r .scaled ≡ scaled) ⌝ }
 {
-    let twice = [2, 0, 0, 0, 0];
-    Addend {
+    Thin {
         minus,
         plus,
-        twice,
         scaled,
     }
 }
 
 // The row of [j]B.
-pub fn base_row(j: usize) -> Addend
+pub fn base_row(j: usize) -> Thin
     requires { ⌜ j < 9 ⌝ }
-    ensures { λ r. ⌜ BaseRow j r ⌝ }
+    ensures { λ r. ⌜ BaseRow j (wholeOf r) ⌝ }
 {
     if j == 0 {
         return row(MINUS_0, PLUS_0, SCALED_0);

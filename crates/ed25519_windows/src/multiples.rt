@@ -1,8 +1,10 @@
 // Rows of the multiples of a point.
-ghost use Rattle.ed25519_curve.specs.Coords.{Even};
+ghost use Rattle.ed25519_curve.specs.Coords.{Even, wholeOf};
 ghost use Rattle.ed25519_windows.specs.Windows.{Rows, Turned};
 use ed25519_curve::Addend;
+use ed25519_curve::Thin;
 use ed25519_curve::opposite;
+use ed25519_curve::opposite_thin;
 use ed25519_curve::row_of;
 use ed25519_curve::summed;
 use ed25519_curve::with_t;
@@ -33,6 +35,16 @@ pub fn signed(r: Addend, off: bool) -> Addend
 {
     if off {
         return opposite(r);
+    }
+    r
+}
+
+pub fn signed_thin(r: Thin, off: bool) -> Thin
+    requires { ⌜ Even (wholeOf r) ⌝ }
+    ensures { λ s. ⌜ Turned off (wholeOf r) (wholeOf s) ⌝ }
+{
+    if off {
+        return opposite_thin(r);
     }
     r
 }

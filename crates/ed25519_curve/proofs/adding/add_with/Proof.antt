@@ -26,8 +26,8 @@ returns c =
       ),
       record {
         e = up tt (c .before .before .before .sub .ensures .grows 1 (g .1));
-        f = up tt (c .before .before .sub2 .ensures .grows 1 (g .3));
-        g = up tt (c .before .add .ensures .grows 1 1 (g .3) (g .2));
+        f = up tt (c .before .before .sub2 .ensures .grows 2 (g .3));
+        g = up tt (c .before .add .ensures .grows 2 1 (g .3) (g .2));
         h = up tt (c .add2 .ensures .grows 1 1 (g .1) (g .0));
       },
     )

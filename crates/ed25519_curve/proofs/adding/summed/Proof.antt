@@ -1,6 +1,6 @@
 -- `ed25519_curve::adding::summed` meets its contract.
 use mathlib.Core.Path.{_∙_}
-use Rattle.ed25519_field.proofs.Raise.{up}
+use Rattle.ed25519_field.proofs.Raise.{up, up2}
 use Rattle.ed25519_curve.proofs.adding.summed.Statement.{statement}
 use Rattle.ed25519_curve.proofs.adding.summed.Tie as tie
 
@@ -37,7 +37,7 @@ add-with-requires c κs = (
   c .before .before .before .before .mul .ensures .limbs,
   c .before .before .mul2 .ensures .limbs,
   c .before .mul3 .ensures .limbs,
-  c .mul4 .ensures .limbs,
+  up2 (c .mul4 .ensures .limbs),
 )
 
 returns : tie.Need-returns

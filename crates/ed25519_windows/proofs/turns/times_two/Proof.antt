@@ -6,6 +6,7 @@ use borrow.Author.Needs.{needs}
 use lib.ListN.{length}
 use Rattle.digits.specs.Digits.{value}
 use Rattle.ed25519_field.specs.Limbs.{radix}
+use Rattle.ed25519_curve.specs.Coords.{wholeOf}
 use Rattle.ed25519_windows.specs.Windows.{rounded}
 use Rattle.ed25519_windows.proofs.Pairs.{Sum, pair-first, pair-turn, pair-last}
 use Rattle.ed25519_windows.proofs.turns.times_two.Statement.{statement}
@@ -57,7 +58,7 @@ loop-again c =
     let e = c .before .before .before .digit2 in
     let x = c .before .base-row in (
       omega arith,
-      pair-turn _ (x .result) (l .q) _ _ _ (l .i - 1) (d .result) (e .result) h (d .ensures) (e .ensures)
+      pair-turn _ (wholeOf (x .result)) (l .q) _ _ _ (l .i - 1) (d .result) (e .result) h (d .ensures) (e .ensures)
           (x .ensures) (c .turned .ensures),
     )
 

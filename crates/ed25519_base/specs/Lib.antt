@@ -1,0 +1,2 @@
+-- The definitions that the contracts of this crate's helpers cite.
+pub mod Comb
