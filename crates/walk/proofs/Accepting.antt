@@ -16,7 +16,7 @@ use Rattle.wire_packet.proofs.Packets.{packet-0}
 use Rattle.walk.specs.State.{overOf, Going, requestNow}
 use Rattle.walk.specs.Starting.{serversIn, twice, keysBad, startCode}
 use Rattle.walk.specs.Asking.{askCode}
-use Rattle.walk.specs.Taking.{clockWrong, responseCodeNow, takeCode}
+use Rattle.walk.specs.Taking.{clockWrong, stepCode, responseCodeNow, takeCode}
 use Rattle.walk.specs.declared.Walk.{Walk}
 use Rattle.walk.specs.declared.Heard.{Heard}
 
@@ -47,6 +47,12 @@ short q p d s e =
     let a = row-quiet refusals _ _ (row-quiet refusals _ _ e .1) in
     packet-0 p (row-quiet refusals _ _ (a .0) .0) .most
 
+-- nothing refuses a response before it is looked at
+pub step-goes : (w : Walk) (h : Heard) (room : ℕ) {x : Refusal} → x ≡ stepCode w h room → x .code ≡ 0 → Going w
+unfolding stepCode
+step-goes w h room e z =
+    going w refl (test-quiet refusals _ _ tt (row-quiet refusals _ _ (quiet-of refusals e z) .0))
+
 -- an accepted response
 pub record Accepted (w : Walk) (h : Heard) (response : List ℕ) (room : ℕ) : Type 0 where
   pub goes : Going w
@@ -59,16 +65,16 @@ pub record Accepted (w : Walk) (h : Heard) (response : List ℕ) (room : ℕ) : 
 
 pub accepted : (w : Walk) (h : Heard) (response : List ℕ) (room : ℕ) {x : Refusal} → x ≡ takeCode w h response room
     → x .code ≡ 0 → Accepted w h response room
-unfolding takeCode responseCodeNow
+unfolding takeCode stepCode responseCodeNow
 accepted w h response room e z =
-    let c28 = row-quiet refusals _ _ (quiet-of refusals e z) in
-    let c19 = row-quiet refusals _ _ (c28 .1) in
+    let both = row-quiet refusals _ _ (quiet-of refusals e z) in
+    let c19 = row-quiet refusals _ _ (row-quiet refusals _ _ (both .0) .1) in
     let c26 = row-quiet refusals _ _ (c19 .1) in
     let c27 = row-quiet refusals _ _ (c26 .1) in
-    let last = row-quiet refusals _ _ (c27 .1) in
+    let last = row-quiet refusals _ _ (both .1) in
     let times = in-time w h refl (test-quiet refusals _ _ tt (c26 .0)) in
     record {
-      goes = going w refl (test-quiet refusals _ _ tt (c28 .0));
+      goes = step-goes w h room refl (both .0);
       fits = ltb-false _ _ (test-quiet refusals _ _ tt (c19 .0));
       order = times .0;
       later = times .1;

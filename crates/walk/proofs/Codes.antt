@@ -9,7 +9,7 @@ use borrow.Author.Tests.{eq-eqb, le-leb}
 use lib.ListN.{length}
 use Rattle.laws.specs.Same.{same}
 use Rattle.laws.proofs.Any.{any-here, any-later}
-use Rattle.laws.proofs.First.{test-true}
+use Rattle.laws.proofs.First.{says-more, test-true}
 use Rattle.laws.proofs.Least.{nowhere, nowhere-at}
 use Rattle.refusal.specs.Refusal.{refusal, refusals}
 use Rattle.wire_packet.specs.Places.{Carries, Bare, ToldIn}
@@ -21,14 +21,15 @@ use Rattle.wire_request.proofs.ReadBack.{request-passes}
 use Rattle.walk.specs.State.{overOf, keyAt, keyOf, requestNow}
 use Rattle.walk.specs.Starting.{metBefore, twice, blankWalk}
 use Rattle.walk.specs.Asking.{askCode}
-use Rattle.walk.specs.Taking.{responseCodeNow, takeCode}
+use Rattle.walk.specs.Taking.{stepCode, responseCodeNow, takeCode}
 use Rattle.walk.specs.declared.Walk.{Walk}
 use Rattle.walk.specs.declared.Heard.{Heard}
 
 -- after the end every call says 28, whatever it is given
 pub over-takes : (w : Walk) (h : Heard) (x : List ℕ) (room : ℕ) → overOf w ≡ true → takeCode w h x room ≡ refusal 28
-unfolding takeCode
-over-takes w h x room e = sym (test-true refusals (refusal 28) _ refl tt refl e)
+unfolding takeCode stepCode
+over-takes w h x room e =
+    sym (says-more refusals _ (test-true refusals (refusal 28) _ refl tt refl e) (λ z. omega (arith, z)))
 
 pub over-asks : (w : Walk) (room : ℕ) → overOf w ≡ true → askCode w room ≡ refusal 28
 unfolding askCode
@@ -62,20 +63,21 @@ twice-exactly keys n = (
 module _ (w : Walk) (h : Heard) (x : List ℕ) (room : ℕ) where
   -- a code of 4 to 7 is that of the response packet, at its place (request P8),
   pub take-place : Carries (takeCode w h x room .code) → ToldIn x (takeCode w h x room)
-  unfolding takeCode responseCodeNow
+  unfolding takeCode stepCode responseCodeNow
   take-place =
-      row-told x _ _ (over-told x _ 28 (omega arith))
+      row-told x _ _
+      (row-told x _ _ (over-told x _ 28 (omega arith))
       (row-told x _ _ (over-told x _ 19 (omega arith))
       (row-told x _ _ (over-told x _ 26 (omega arith))
-      (row-told x _ _ (over-told x _ 27 (omega arith))
-      (row-told x _ _ (check-place (requestNow w) x (h .delegation) (h .signature)) (end-told x)))))
+      (row-told x _ _ (over-told x _ 27 (omega arith)) (end-told x)))))
+      (row-told x _ _ (check-place (requestNow w) x (h .delegation) (h .signature)) (end-told x))
 
   -- and every other code has none
   pub take-bare : Bare (takeCode w h x room)
-  unfolding takeCode responseCodeNow
+  unfolding takeCode stepCode responseCodeNow
   take-bare =
-      first-bare _ _ (when-bare _ 28)
+      first-bare _ _
+      (first-bare _ _ (when-bare _ 28)
       (first-bare _ _ (when-bare _ 19)
-      (first-bare _ _ (when-bare _ 26)
-      (first-bare _ _ (when-bare _ 27)
-      (first-bare _ _ (check-bare (requestNow w) x (h .delegation) (h .signature)) end-bare))))
+      (first-bare _ _ (when-bare _ 26) (first-bare _ _ (when-bare _ 27) end-bare))))
+      (first-bare _ _ (check-bare (requestNow w) x (h .delegation) (h .signature)) end-bare)

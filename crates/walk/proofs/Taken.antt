@@ -17,6 +17,7 @@ use Rattle.walk.specs.Taking.{pileOf, allYes}
 use Rattle.walk.specs.declared.Walk.{Walk}
 use Rattle.walk.specs.declared.Heard.{Heard}
 use Rattle.walk.specs.declared.Said.{Said}
+use Rattle.walk.specs.declared.Stepped.{Stepped}
 use Rattle.walk.specs.declared.Said.the-variants.{Next, Ended, Refused}
 
 -- the last record ends the walk, with what the check says of the n at the front: two a server
@@ -42,6 +43,6 @@ module _ (w : Walk) (h : Heard) (response buffer : List ℕ) where
       (sym e, ((e, (s .0, said, s .2 ∙ f)), (m, p)))
   taken b (Refused why) v e f p s m = absurd s
 
-  pub untaken : (why : Refusal) → why ≡ takeCode w h response (length buffer) → (why .code ≡ 0 → ⊥)
-      → Took (Refused why) w buffer
-  untaken why e n = (ap (λ (r : Refusal). r .code) e, ((e, n), (refl, refl)))
+  pub untaken : {why : Refusal} {m : Stepped} → m ≡ record { said = Refused why; walk = w }
+      → why ≡ takeCode w h response (length buffer) → (why .code ≡ 0 → ⊥) → Took (m .said) (m .walk) buffer
+  untaken i e n = rw i (ap (λ (r : Refusal). r .code) e, ((e, n), (refl, refl)))

@@ -13,8 +13,7 @@ use Rattle.pile.specs.Recording.{recordBytes}
 use Rattle.refusal.specs.Refusal.{first, when}
 use Rattle.refusal.specs.declared.Refusal.{Refusal}
 use Rattle.pile_report.specs.Report.{Reports}
-use Rattle.check_response.specs.Check.{checkCode, windowIn, verdictBy}
-use Rattle.check_response.specs.declared.Verdict.{Verdict}
+use Rattle.check_response.specs.Check.{checkCode, windowIn}
 use Rattle.check_response.specs.declared.Window.{Window}
 use Rattle.wire_packet.specs.Packet.{body}
 use Rattle.walk.specs.State.{overOf, keyOf, requestNow}
@@ -38,20 +37,19 @@ tooSlow w h = ltb (w .most) (h .received - h .sent)
 unfoldable pub responseCodeNow : Walk → Heard → List ℕ → Refusal
 responseCodeNow w h response = checkCode (requestNow w) response (h .delegation) (h .signature)
 
--- the order, with a pile's buffer of room bytes
-unfoldable pub takeCode : Walk → Heard → List ℕ → ℕ → Refusal
-takeCode w h response room =
+-- what is asked before the response is looked at, with a pile's buffer of room bytes
+unfoldable pub stepCode : Walk → Heard → ℕ → Refusal
+stepCode w h room =
     first
     (when (overOf w) 28
     ∷ when (ltb room (2 * RECORD * w .count)) 19
     ∷ when (clockWrong w h) 26
     ∷ when (tooSlow w h) 27
-    ∷ responseCodeNow w h response
     ∷ [])
 
--- the answer of these checks: the window of the response, where nothing is refused (request P9)
-unfoldable pub takeVerdict : Walk → Heard → List ℕ → ℕ → Verdict
-takeVerdict w h response room = verdictBy (takeCode w h response room) (windowIn (body response))
+-- the order: that, and then the response
+unfoldable pub takeCode : Walk → Heard → List ℕ → ℕ → Refusal
+takeCode w h response room = first (stepCode w h room ∷ responseCodeNow w h response ∷ [])
 
 -- ---- an accepted response
 

@@ -8,12 +8,15 @@ mod taking;
 
 pub use asking::ask;
 pub use asking::key_of;
+pub use asking::request_now;
 use check_response::Window;
 use pile_report::Report;
 use refusal::Refusal;
 pub use starting::start;
+pub use taking::accept;
+pub use taking::refused;
+pub use taking::step_code;
 pub use taking::take;
-pub use taking::take_code;
 
 // The state between packets: the servers' keys, 32 bytes each, and how many there are; the step, from 0; the nonce of
 // the request that is asked, and the rand that it was made with; when the last accepted response was received; and the

@@ -5,12 +5,11 @@ ghost use lib.ListN.{length};
 ghost use Rattle.laws.specs.Pasted.{pasted};
 ghost use Rattle.pile.specs.Layout.{RECORD, AREA};
 ghost use Rattle.pile.specs.Recording.{headBytes, recordBytes};
-ghost use Rattle.walk.specs.State.{ASKED, Going};
+ghost use Rattle.walk.specs.State.{ASKED, Going, requestNow};
 ghost use Rattle.walk.specs.Taking.{recordNow};
 use super::Walk;
 use super::asking::ASKED;
 use super::asking::key_of;
-use super::asking::request_now;
 use octets::le32_bytes;
 use octets::put;
 use octets::zero;
@@ -22,16 +21,16 @@ use pile::layout::REQUEST_LENGTH;
 use pile::layout::RESPONSE;
 use pile::layout::RESPONSE_LENGTH;
 
-// The record of this step in its place in the pile. Every other byte stays.
-pub fn put_record(w: Walk, response: &[u8], pile: &mut [u8])
-    requires { ⌜ Going w × (length (now response) ≤ AREA) × (RECORD * w .step + RECORD ≤ length (now pile)) ⌝ }
+// The record of this step, with the request that was asked, in its place in the pile. Every other byte stays.
+pub fn put_record(w: Walk, q: [u8; ASKED], response: &[u8], pile: &mut [u8])
+    requires { ⌜ Going w × (q ≡ requestNow w) × (length (now response) ≤ AREA)
+        × (RECORD * w .step + RECORD ≤ length (now pile)) ⌝ }
     ensures { λ _. ⌜
         now (pile .exit) ≡ pasted (now (pile .entry)) (RECORD * w .step) (recordNow w (now (response .entry)))
         ⌝ }
 {
     let key = key_of(w);
     let rand = w.rand;
-    let q = request_now(w);
     let at = RECORD * w.step;
     lay(key, rand, q, response, &mut pile[at..at + RECORD]);
 }

@@ -3,15 +3,17 @@ ghost use mathlib.Core.Path.{_≡_};
 ghost use Prim.Native.Nat.{_*_, _≤_};
 ghost use lib.ListN.{length};
 ghost use Rattle.wire_packet.specs.Packet.{body};
-ghost use Rattle.check_response.specs.Check.{windowIn, verdictOf};
+ghost use Rattle.check_response.specs.Check.{windowIn};
 ghost use Rattle.pile.specs.Layout.{RECORD};
 ghost use Rattle.walk.specs.State.{Going, requestNow};
-ghost use Rattle.walk.specs.Taking.{clockWrong, takeCode, takeVerdict, movedOn, SaidOf, Takes};
+ghost use Rattle.walk.specs.Taking.{clockWrong, stepCode, takeCode, movedOn, SaidOf, Takes};
 ghost use Rattle.walk.specs.Taking.{saidNumber, walkAfter, pileAfter};
+ghost use Rattle.walk.specs.declared.Said.the-variants.{Refused};
 use super::Heard;
 use super::Said;
 use super::Stepped;
 use super::Walk;
+use super::asking::ASKED;
 use super::asking::over;
 use super::asking::request_now;
 use super::recording::put_record;
@@ -35,21 +37,41 @@ pub fn take(w: Walk, h: Heard, response: &[u8], pile: &mut [u8]) -> Stepped
     ensures { λ r. ⌜ r .walk ≡ walkAfter (r .said) w h (now (response .entry)) ⌝ }
     ensures { λ r. ⌜ now (pile .exit) ≡ pileAfter (r .said) w (now (response .entry)) (now (pile .entry)) ⌝ }
 {
-    let v = take_verdict(w, h, response, pile.len());
+    let c = step_code(w, h, pile.len());
+    if c.code != 0 {
+        return refused(w, c);
+    }
+    let q = request_now(w);
+    let checked = check_response(&q, response, h.delegation, h.signature);
+    let v = checked.verdict;
     match v {
-        Verdict::Refused(why) => Stepped {
-            said: Said::Refused(why),
-            walk: w,
-        },
-        Verdict::Valid(window) => accept(w, h, window, response, pile),
+        Verdict::Refused(why) => refused(w, why),
+        Verdict::Valid(window) => accept(w, h, q, window, response, pile),
     }
 }
 
-// Writes the record of a response that nothing refuses, and moves on.
-fn accept(w: Walk, h: Heard, window: Window, response: &[u8], pile: &mut [u8]) -> Stepped
-    requires { ⌜
-        (takeCode w h (now response) (length (now pile)) .code ≡ 0) × (window ≡ windowIn (body (now response)))
-        ⌝ }
+// Refuses a response: the state stays.
+pub fn refused(w: Walk, why: Refusal) -> Stepped
+    ensures { λ r. ⌜ r ≡ record { said = Refused why; walk = w } ⌝ }
+{
+    Stepped {
+        said: Said::Refused(why),
+        walk: w,
+    }
+}
+
+// Writes the record of a response that nothing refuses, and moves on. The request that was asked is lent, so that it is
+// written once for the check and for the record.
+pub fn accept(
+    w: Walk,
+    h: Heard,
+    q: [u8; ASKED],
+    window: Window,
+    response: &[u8],
+    pile: &mut [u8],
+) -> Stepped
+    requires { ⌜ (takeCode w h (now response) (length (now pile)) .code ≡ 0) × (q ≡ requestNow w)
+        × (window ≡ windowIn (body (now response))) ⌝ }
     ensures { λ r. ⌜
         saidNumber (r .said) ≡ takeCode w h (now (response .entry)) (length (now (pile .entry))) .code
         ⌝ }
@@ -57,7 +79,7 @@ fn accept(w: Walk, h: Heard, window: Window, response: &[u8], pile: &mut [u8]) -
     ensures { λ r. ⌜ r .walk ≡ walkAfter (r .said) w h (now (response .entry)) ⌝ }
     ensures { λ r. ⌜ now (pile .exit) ≡ pileAfter (r .said) w (now (response .entry)) (now (pile .entry)) ⌝ }
 {
-    put_record(w, response, pile);
+    put_record(w, q, response, pile);
     let s = said_of(w, window, pile);
     let next = moved_on(w, h, response);
     Stepped {
@@ -66,34 +88,23 @@ fn accept(w: Walk, h: Heard, window: Window, response: &[u8], pile: &mut [u8]) -
     }
 }
 
-// The refusal of a response that is taken with a pile of room bytes.
-pub fn take_code(w: Walk, h: Heard, response: &[u8], room: usize) -> Refusal
-    ensures { λ r. ⌜ r ≡ takeCode w h (now (response .entry)) room ⌝ }
-{
-    let v = take_verdict(w, h, response, room);
-    match v {
-        Verdict::Valid(_) => PASSED,
-        Verdict::Refused(why) => why,
-    }
-}
-
-// The same, or the window of the response where nothing refuses it.
-fn take_verdict(w: Walk, h: Heard, response: &[u8], room: usize) -> Verdict
-    ensures { λ r. ⌜ r ≡ takeVerdict w h (now (response .entry)) room ⌝ }
+// What refuses a response before it is looked at, with a pile of room bytes: 28, 19, 26, 27.
+pub fn step_code(w: Walk, h: Heard, room: usize) -> Refusal
+    ensures { λ r. ⌜ r ≡ stepCode w h room ⌝ }
 {
     if over(w) {
-        return Verdict::Refused(refuse(codes::ENDED));
+        return refuse(codes::ENDED);
     }
     if room < 2 * RECORD * w.count {
-        return Verdict::Refused(refuse(codes::ROOM));
+        return refuse(codes::ROOM);
     }
     if clock_wrong(w, h) {
-        return Verdict::Refused(refuse(codes::CLOCK));
+        return refuse(codes::CLOCK);
     }
     if w.most < h.received - h.sent {
-        return Verdict::Refused(refuse(codes::DELAY));
+        return refuse(codes::DELAY);
     }
-    verdict_now(w, h, response)
+    PASSED
 }
 
 // It was received before it was sent for, or sent for before the last was received.
@@ -104,16 +115,6 @@ fn clock_wrong(w: Walk, h: Heard) -> bool
         return true;
     }
     h.sent < w.last
-}
-
-// What the response check says of the response to the request that was asked.
-fn verdict_now(w: Walk, h: Heard, response: &[u8]) -> Verdict
-    requires { ⌜ Going w ⌝ }
-    ensures { λ r. ⌜ r ≡ verdictOf (requestNow w) (now (response .entry)) (h .delegation) (h .signature) ⌝ }
-{
-    let q = request_now(w);
-    let c = check_response(&q, response, h.delegation, h.signature);
-    c.verdict
 }
 
 // What is said of a response with this window once its record is written: the last one ends the walk, with what the

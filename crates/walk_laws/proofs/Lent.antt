@@ -1,11 +1,10 @@
 -- The report check and the cutter say of a walk's pile what the walk said, also with the very answers that were lent on
 -- the way: those of accepted responses are all yes.
 use Prim.Native.Nat.{ℕ, _+_, _*_, _≤_}
-use mathlib.Core.Path.{_≡_, refl, sym, ap, _∙_}
+use mathlib.Core.Path.{_≡_, refl, ap, _∙_}
 use mathlib.Core.List.{List, _++_}
 use native.Mathlib.Omega.{arith}
 use lib.ListN.{length, replicate, replicate-append-replicate}
-use Rattle.refusal.specs.declared.Refusal.{Refusal}
 use Rattle.refusal.specs.Refusal.{refusal}
 use Rattle.pile_report.specs.Report.{Reports, reportNumber}
 use Rattle.pile_report.specs.Taking as cutter
@@ -13,8 +12,6 @@ use Rattle.pile_report.specs.declared.Report.{Report}
 use Rattle.pile_report.specs.declared.Report.the-variants.{Pair}
 use Rattle.pile_report.specs.declared.Taken.{Taken}
 use Rattle.pile_report.specs.declared.Taken.the-variants as taken
-use Rattle.check_signatures.proofs.Verdicts.{until-check}
-use Rattle.walk_signed.proofs.Verified.{both-yes}
 use Rattle.check_response.specs.declared.Window.{Window}
 use Rattle.walk.specs.State.{requestNow}
 use Rattle.walk.specs.Starting.{begunWalk}
@@ -25,7 +22,7 @@ use Rattle.walk.specs.declared.Walk.{Walk}
 use Rattle.walk.specs.declared.Heard.{Heard}
 use Rattle.walk.specs.declared.Said.the-variants.{Next, Ended, Refused}
 use Rattle.walk.proofs.Accepting.{accepted}
-use Rattle.walk.proofs.Checked.{check-yes}
+use Rattle.walk.proofs.Checked.{both-yes}
 use Rattle.walk.proofs.Ending.{ends-checked, ends-cut, ends-uncut}
 use Rattle.walk_laws.specs.Lent.{answersIn, lent}
 
@@ -33,11 +30,7 @@ use Rattle.walk_laws.specs.Lent.{answersIn, lent}
 answers-yes : (w : Walk) (h : Heard) (x : List ℕ) (room : ℕ) → takeCode w h x room .code ≡ 0
     → answersIn h ≡ replicate 2 1
 answers-yes w h x room z =
-    let q = requestNow w in
-    let c = accepted w h x room refl z .checked in
-    let left = until-check q x (h .delegation) (h .signature) .passed
-    (check-yes q x (h .delegation) (h .signature) c) in
-    let y = both-yes (h .delegation) (h .signature) (sym (ap (λ (why : Refusal). why .code) left) ∙ c) in
+    let y = both-yes (requestNow w) x (h .delegation) (h .signature) (accepted w h x room refl z .checked) in
     rw (y .0, y .1) refl
 
 one-more : (n : ℕ) (l : List ℕ) (h : Heard) → l ≡ allYes n → answersIn h ≡ replicate 2 1

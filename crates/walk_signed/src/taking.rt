@@ -1,20 +1,23 @@
 // A response taken, its signatures verified.
 ghost use mathlib.Core.Path.{_≡_};
 ghost use lib.ListN.{length};
-ghost use Rattle.walk.specs.State.{Going};
 ghost use Rattle.walk.specs.Taking.{takeCode, Takes, saidNumber, walkAfter, pileAfter};
 ghost use Rattle.walk_signed.specs.Heard.{ownHeard};
-use check_signatures::answers;
+use check_response::Verdict;
+use check_signatures::check_signed;
 use walk::Heard;
-use walk::Said;
 use walk::Stepped;
 use walk::Walk;
+use walk::accept;
 use walk::key_of;
-use walk::take;
-use walk::take_code;
+use walk::refused;
+use walk::request_now;
+use walk::step_code;
 
-// Takes the response to the request that was asked. Its signatures are verified only where nothing else refuses it: 12
-// and 13 come last. A refusal leaves the state and the pile as they were.
+// Takes the response to the request that was asked, as the walk's taker does, but by the check that verifies signatures
+// itself. They are verified only where nothing else refuses the response: 12 and 13 come last. A response that is
+// accepted has both right, so that two answers of yes are what was heard of it. A refusal leaves the state and the pile
+// as they were.
 pub fn take_signed(
     w: Walk,
     sent: u64,
@@ -39,29 +42,16 @@ pub fn take_signed(
         received: received,
         rand: rand,
     };
-    let c = take_code(w, both, response, pile.len());
+    let c = step_code(w, both, pile.len());
     if c.code != 0 {
-        return Stepped {
-            said: Said::Refused(c),
-            walk: w,
-        };
+        return refused(w, c);
     }
-    let h = own_heard(w, sent, received, rand, response);
-    take(w, h, response, pile)
-}
-
-// What our Ed25519 says of the response, under the key of the server that was asked, beside what the caller has of it.
-fn own_heard(w: Walk, sent: u64, received: u64, rand: [u8; 32], response: &[u8]) -> Heard
-    requires { ⌜ Going w ⌝ }
-    ensures { λ r. ⌜ r ≡ ownHeard w sent received rand (now (response .entry)) ⌝ }
-{
+    let q = request_now(w);
     let key = key_of(w);
-    let a = answers(key, response);
-    Heard {
-        delegation: a.delegation,
-        signature: a.signature,
-        sent: sent,
-        received: received,
-        rand: rand,
+    let checked = check_signed(key, &q, response);
+    let v = checked.verdict;
+    match v {
+        Verdict::Refused(why) => refused(w, why),
+        Verdict::Valid(window) => accept(w, both, q, window, response, pile),
     }
 }

@@ -18,23 +18,21 @@ returns : tie.Need-returns
 unfolding recordNow
 returns c =
     let y = c .before .before in
-    let q = y .before .before .before in
-    let k = q .before .before in
+    let k = y .before .before .before .before in
     let s = k .before .before .before in
     let w = s .args .w in
     let x = s .args .response .now in
-    let n = length-now w (long s) (s .pre .0) x (s .pre .1) in
+    let n = length-now w (long s) (s .pre .0) x (s .pre .2) in
     let e : 4096 ≡ 4096 * w .step + 4096 - 4096 * w .step = omega arith in
     part-back (s .args .pile .now) (4096 * w .step) (4096 * w .step + 4096 - 4096 * w .step)
     (y .lay .ensures
-    ∙ ap₂ (λ (a b : List ℕ). recordBytes a (w .rand) b x) (k .key-of .ensures) (q .request-now .ensures))
+    ∙ ap₂ (λ (a b : List ℕ). recordBytes a (w .rand) b x) (k .key-of .ensures) (s .pre .1))
     (n ∙ e)
 
 pub put-record-spec : {M : Type 1} → statement M
 put-record-spec =
     tie.close
     (tie.spec
-    (λ c κs. search needs)
     (λ c κs. search needs)
     (λ c. search needs)
     (λ c. search needs)

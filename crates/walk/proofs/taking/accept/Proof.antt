@@ -17,8 +17,9 @@ passes s = accepted _ _ _ _ refl (s .pre .0)
 
 put-record-requires : tie.Need-put-record-requires
 put-record-requires c κs =
-    let a = passes (c .before .before .before) in
-    (a .goes, a .short, omega (arith, a .goes .inside, a .fits))
+    let s = c .before .before .before in
+    let a = passes s in
+    (a .goes, s .pre .1, a .short, omega (arith, a .goes .inside, a .fits))
 
 said-of-requires : tie.Need-said-of-requires
 said-of-requires c κs =
@@ -38,7 +39,7 @@ returns c =
     let p = d .before .before .before .before in
     let s = p .before .before .before .before in
     taken (s .args .w) (s .args .h) (s .args .response .now) (s .args .pile .now) _ (d .said-of .result) _ (s .pre .0)
-    (s .pre .1) (p .put-record .ensures) (d .said-of .ensures) (c .moved-on .ensures)
+    (s .pre .2) (p .put-record .ensures) (d .said-of .ensures) (c .moved-on .ensures)
 
 pub accept-spec : {M : Type 1} → statement M
 accept-spec =
