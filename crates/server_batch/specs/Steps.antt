@@ -3,19 +3,20 @@
 use mathlib.Core.Bool.{Bool, cond, false, _&&_}
 use mathlib.Core.List.{List, []}
 use mathlib.Core.Path.{_≡_}
-use Prim.Native.Nat.{ℕ, _+_, _*_, _≤_, _<_, _^_}
+use Prim.Native.Nat.{ℕ, _+_, _*_, _-_, _≤_, _<_, _^_}
 use lib.Dec.{eqb, leb}
 use lib.ListN.{length, getD}
 use Rattle.laws.specs.Flat.{flat}
 use Rattle.laws.specs.Pasted.{pasted}
 use Rattle.laws.specs.Written.{Puts}
 use Rattle.hash.specs.Hashes.{leafOf}
-use Rattle.tree.specs.Tree.{depthOf}
-use Rattle.tree_build.specs.AllRows.{nodesOf, pathIn}
+use Rattle.tree.specs.Tree.{nodeIn, nodesIn, depthOf}
+use Rattle.tree_build.specs.AllRows.{levels, nodesOf, pathIn}
 use Rattle.tree_build.specs.Leaves.{most}
 use Rattle.tree_build.specs.Level.{CanRead}
 use Rattle.wire_packet.specs.Request.{requestBad}
 use Rattle.server_response.specs.Response.{reply, responseBytes}
+use Rattle.server_batch.specs.Answering.{signatureOver, outAfter}
 use Rattle.server_batch.specs.Batch.{Batch, count, packetIn, meantAt}
 use Rattle.server_batch.specs.Picking.{howMany, picked}
 use Rattle.server_batch.specs.declared.Said.{Said}
@@ -111,3 +112,32 @@ pub record Enough (n c packets slot rows out room lengths : ℕ) : Type 0 where
   pub of-out : room * n ≤ out
   pub of-lengths : n ≤ lengths
   pub of-room : 264 + 32 * depthOf n + c ≤ room
+
+-- what all answers say, where these are the rows of the tree of depth d: its root is their last node
+abbrev pub saidOf : List ℕ → ℕ → List ℕ → ℕ → ℕ → Said
+saidOf rows d seed midp radi =
+    record {
+      root = nodeIn rows (nodesOf d - 1);
+      midp = midp;
+      radi = radi;
+      signature = signatureOver seed (nodeIn rows (nodesOf d - 1)) midp radi;
+    }
+
+-- n packets, of which k stay, can be answered
+pub record CanServe (stays : ℕ → Bool) (k n c least rows out room : ℕ) : Type 0 where
+  pub some : 0 < k
+  pub all : k ≡ howMany stays n
+  pub few : k ≤ most
+  pub held : 32 * nodesOf (depthOf k) ≤ rows
+  pub longest : 264 + 32 * depthOf k + c ≤ least
+  pub enough : least ≤ room
+  pub slots : room * n ≤ out
+
+-- they are: the rows over the k leaves that stood at the front of them, and the answers
+pub record Served (packets : List ℕ) (slot : ℕ) (lengths marks : List ℕ) (least k : ℕ) (cert seed : List ℕ)
+    (midp radi room : ℕ) (rows out rows-after out-after : List ℕ) : Type 0 where
+  pub laid : Puts rows 0 (flat (levels (nodesIn k rows) (depthOf k) 0)) rows-after (32 * nodesOf (depthOf k))
+  pub answered : out-after
+      ≡ outAfter (stayAt marks lengths least)
+      (answersIn packets slot lengths marks least rows-after (depthOf k) (saidOf rows-after (depthOf k) seed midp radi) cert)
+      room out (length lengths)

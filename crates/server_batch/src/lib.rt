@@ -6,6 +6,7 @@ mod marking;
 mod measuring;
 mod refusing;
 mod saying;
+mod serving;
 
 use refusal::Refusal;
 
