@@ -17,14 +17,14 @@
  * their own, so that threads may call them at once; an answer is a value of its own. Inputs may
  * overlap each other, but not such a state or pile.
  *
- * The functions of hashes and tb_answers write the whole of out, and they and those that answer
- * with a bool cannot fail, but for tb_sha512_take. That one and every other take any bytes and
- * answer with a code: 0 where it passed, or else the first that applies of those that it names, in
- * the order in which it names them. Of a response, 4 to 7 are judged for its outermost message,
- * then SREP, then CERT, then DELE, and 8 comes after them all. A RADI of 0 is a 7 of SREP. 8 is
- * given where TYPE or SREP's VER is not 1, or VERS lacks SREP's VER; where a request is lent, also
- * where its VER lacks SREP's VER, or some version that is larger than SREP's VER stands in both its
- * VER and VERS.
+ * The functions of hashes, those that sign and tb_answers write the whole of out, and they and
+ * those that answer with a bool cannot fail, but for tb_sha512_take. That one and every other take
+ * any bytes and answer with a code: 0 where it passed, or else the first that applies of those that
+ * it names, in the order in which it names them. Of a response, 4 to 7 are judged for its outermost
+ * message, then SREP, then CERT, then DELE, and 8 comes after them all. A RADI of 0 is a 7 of SREP.
+ * 8 is given where TYPE or SREP's VER is not 1, or VERS lacks SREP's VER; where a request is lent,
+ * also where its VER lacks SREP's VER, or some version that is larger than SREP's VER stands in
+ * both its VER and VERS.
  *
  * The codes 4 to 7 come with at, the byte of the packet at which it is bad, counted from the
  * packet's first byte; beside any other code, 14 too, at is 0 and means nothing. Where a response
@@ -54,7 +54,7 @@ extern "C" {
 
 /* The version of this header: a change of the first number breaks callers. */
 #define TB_VERSION_MAJOR 1
-#define TB_VERSION_MINOR 0
+#define TB_VERSION_MINOR 1
 
 /* ---- Codes ---- */
 
@@ -239,15 +239,17 @@ static inline const char *tb_code_text(uint32_t code) {
 #define TB_TREE_STACK 131072
 
 /* Bytes of stack that are enough for a verification and for every function that verifies by itself
- * but tb_cut_signed_text. A verification takes 7,768, and tb_write_signed_report, which takes the
- * most of them, 10,328, measured on x86-64, and 7,936 and 10,528 under an emulator of aarch64.
- * hosts/c/stack.c measures them anew. */
+ * but tb_cut_signed_text. A verification takes 5,960, and tb_walk_take_signed, which takes the most
+ * of them, 9,272, measured on x86-64. hosts/c/stack.c measures them anew. */
 #define TB_VERIFY_STACK 16384
 
+/* Bytes of stack that are enough for tb_public_key, tb_sign and tb_sign_parts. A signature takes
+ * 4,824, measured on x86-64. hosts/c/stack.c measures them anew. */
+#define TB_SIGN_STACK 8192
+
 /* Bytes of stack that are enough for tb_cut_text and tb_cut_signed_text, which hold sixteen records
- * there: 72,488 and 75,800, measured on x86-64, and 72,576 and 76,048 under an emulator of
- * aarch64. hosts/c/stack.c measures them anew. Of functions for which none of the three constants
- * is meant it measures 26, and none takes over 10,208. */
+ * there: 72,488 and 73,992, measured on x86-64. hosts/c/stack.c measures them anew. Of functions
+ * for which none of the four constants is meant it measures 26, and none takes over 10,208. */
 #define TB_TEXT_STACK 98304
 
 /* Bytes of a record of a list of servers. */
@@ -546,11 +548,36 @@ struct tb_laid tb_rows(const uint8_t *leaves, size_t leaves_len, uint8_t *out, s
 struct tb_placed tb_path_from(const uint8_t *rows, size_t rows_len, size_t count, size_t place,
                               uint8_t *out, size_t out_len);
 
+/* ---- Signing ----
+ *
+ * Ed25519 of RFC 8032, 5.1.5 and 5.1.6. A key is its seed, which the RFC calls the private key: 32
+ * bytes of a good random source, which nobody else has. Its public key is made of it in each call
+ * and never taken beside it: two signatures of one text, by one seed and beside two public keys,
+ * would tell the key to whoever sees both. The same seed and the same text have the same signature.
+ *
+ * The seed is secret. No branch and no address hangs on it: for x86-64 that is seen in the compiled
+ * code, on the paths that tools/try-secrets runs, and none of it is proved. What was reckoned of a
+ * seed stays below the caller's stack, which the library cannot wipe. SECURITY.md says what else is
+ * not promised, and what a host must see to. */
+
+/* The public key of a seed. */
+void tb_public_key(const uint8_t seed[32], uint8_t out[32]);
+
+/* The signature of a text. It verifies by tb_verify under the seed's public key. */
+void tb_sign(const uint8_t seed[32], const uint8_t *text, size_t text_len, uint8_t out[64]);
+
+/* The same of a text in two parts, one after the other, as a context and a value, so that no buffer
+ * is needed for the whole. Where the two come to more than 2^64 - 65 bytes, which no host has, it
+ * is 64 zero bytes. */
+void tb_sign_parts(const uint8_t seed[32], const uint8_t *context, size_t context_len,
+                   const uint8_t *value, size_t value_len, uint8_t out[64]);
+
 /* ---- Servers ----
  *
- * What a server writes, of which the caller makes the two signatures, with an Ed25519 of its own.
+ * What a server writes. tb_sign_parts, or an Ed25519 of the caller's own, makes both signatures.
  *   1. Once for each delegated key: tb_write_dele; sign TB_DELEGATION_CONTEXT and then those bytes
- *      with the long-term key; tb_write_cert.
+ *      with the long-term key; tb_write_cert. That is for another machine, to which no packet ever
+ *      comes: it is given the delegated public key, and gives back CERT.
  *   2. Of each packet that comes: tb_read_request. What is refused is ignored; so is what names
  *      another server, that is, has with_srv 1 and an srv that is not tb_srv_value of the long-term
  *      key (draft 19, 5.2). No writer below looks at that. A server with several long-term keys

@@ -90,6 +90,11 @@ have_sodium() {
         cc -x c -o build/sodium - -lsodium 2>/dev/null
 }
 
+# A disassembler for a processor: this machine's, or that which comes with the compiler for it.
+reader_of() { # PROCESSOR
+    if [ "$1" = "$(uname -m)" ]; then command -v objdump; else command -v "$1-linux-gnu-objdump"; fi
+}
+
 # Puts a copy of a file in its place in one step, once it is on the disk, so that there is the old
 # one or the new one, whole.
 put_whole() { # FILE PLACE

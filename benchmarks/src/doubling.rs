@@ -33,6 +33,10 @@ fn exchange(packet: usize) -> Input {
     Input::new("packets", vec![request, response])
 }
 
+fn to_be_signed(length: usize) -> Input {
+    Input::new("bytes", vec![vec![7; 32], hashes::bytes(length)])
+}
+
 fn text(records: usize) -> Input {
     Input::new("full records", vec![Report::of(records).text, vec![1; 2 * records]])
 }
@@ -59,6 +63,7 @@ fn cases() -> Vec<Case> {
         case(op::ROWS, "leaves", [64, 128, 256, 512, 1024].map(inputs::leaves)),
         case(op::FIND_SERVER, "servers", [256, 512, 1024, 2048].map(list)),
         case(op::VERIFY, "text", [1 << 16, 1 << 17, 1 << 18].map(signature)),
+        case(op::SIGN, "text", [1 << 16, 1 << 17, 1 << 18].map(to_be_signed)),
         case(op::SHA512, "message", [1 << 14, 1 << 15, 1 << 16].map(message)),
     ]
 }

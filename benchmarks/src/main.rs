@@ -30,6 +30,7 @@ mod run;
 mod servers;
 mod sides;
 mod signed;
+mod signing;
 mod sodium;
 #[path = "../../hosts/rust/shared/standard_output.rs"]
 mod standard_output;

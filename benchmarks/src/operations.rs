@@ -6,7 +6,7 @@ use crate::{texts, trees};
 use independent::ed25519::Ed25519;
 use independent::{check, report, report_text, request, response, servers, signed};
 use std::hint::black_box;
-use trawlbeacon::LONGEST_REPORT;
+use trawlbeacon::{SigningKey, LONGEST_REPORT};
 
 /// An input: what it is made of, and its parts in the order of the operation's arguments.
 pub struct Input {
@@ -139,6 +139,19 @@ pub const VERIFY: Operation = Operation {
     theirs: |parts| {
         let ed25519 = Ed25519::new();
         work(move || ed25519.verify(black_box(&parts[0]), &parts[1], &parts[2]))
+    },
+};
+
+pub const SIGN: Operation = Operation {
+    name: "`tb_sign`",
+    ours: |parts| {
+        let key = SigningKey::new(parts[0][..].try_into().expect("32 bytes"));
+        work(move || key.sign(black_box(&parts[1])))
+    },
+    theirs: |parts| {
+        let ed25519 = Ed25519::new();
+        let secret = ed25519.secret(parts[0][..].try_into().expect("32 bytes"));
+        work(move || ed25519.sign(&secret, black_box(&parts[1])))
     },
 };
 

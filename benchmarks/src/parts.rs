@@ -1,8 +1,8 @@
 //! The parts of a run, in their order.
 
 use crate::run::Run;
-use crate::{counted, doubling, hashes, memory, piles, refused, servers, signed, texts, trees};
-use crate::{verifying, walks, whence, windows, worst};
+use crate::{counted, doubling, hashes, memory, piles, refused, servers, signed, signing, texts};
+use crate::{trees, verifying, walks, whence, windows, worst};
 
 pub struct Part {
     pub name: &'static str,
@@ -20,6 +20,7 @@ pub const PARTS: &[Part] = &[
     part("growth", "a pile's time by its records, siblings and packets", piles::growth),
     part("refused", "piles with something wrong in them", refused::part),
     part("verify", "one verification, by OpenSSL's and libsodium's too", verifying::part),
+    part("sign", "one signature, by OpenSSL's and libsodium's too", signing::part),
     part("signed", "a response and full piles by their own signatures", signed::part),
     part("counted", "how many verifications a call makes", counted::part),
     part("walks", "a step of the measuring walk", walks::part),

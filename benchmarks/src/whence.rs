@@ -31,12 +31,15 @@ const GROUPS: [(&str, &[&str]); 6] = [
         "Ed25519",
         &[
             "digits",
+            "choices",
             "ed25519_field",
             "ed25519_scalar",
             "ed25519_curve",
             "ed25519_point",
             "ed25519_windows",
+            "ed25519_base",
             "ed25519",
+            "ed25519_sign",
         ],
     ),
     (

@@ -4,15 +4,15 @@
  * function to what the header says of it: a hash by the digest of its parts joined, also where they
  * come in pieces, a tree of three leaves by its nodes and the largest one by a path through it, a
  * reader and the check by a request of ours and by a response that draft 19 prints, a verification
- * by signatures of RFC 8032 and of that response, what verifies by itself by the draft's whole
- * report and by the forms that take answers, a lookup by the place of the record, old stamps by
- * both sides of each limit, a pile by the times it was made of, its report as JSON by a text that
- * is made here of the same records, windows as they come by every pair of them, a walk by its
- * records and by each refusal at each step, and where it verifies by itself by the draft's three
- * responses and tb_answers, a clock by windows whose ends are reckoned here, a writer by what it
- * leaves in a buffer, a server by the draft's response, which it writes again out of its values,
- * the words of a code by some of them. Whether all of that is right on every input is for the tests
- * of hosts/rust.
+ * by signatures of RFC 8032 and of that response, what signs by the same signatures and their
+ * seeds, what verifies by itself by the draft's whole report and by the forms that take answers, a
+ * lookup by the place of the record, old stamps by both sides of each limit, a pile by the times it
+ * was made of, its report as JSON by a text that is made here of the same records, windows as they
+ * come by every pair of them, a walk by its records and by each refusal at each step, and where it
+ * verifies by itself by the draft's three responses and tb_answers, a clock by windows whose ends
+ * are reckoned here, a writer by what it leaves in a buffer, a server by the draft's response,
+ * which it writes again out of its values, and by one that it signs itself, the words of a code by
+ * some of them. Whether all of that is right on every input is for the tests of hosts/rust.
  */
 #include "report.h"
 #include "response.h"
@@ -1571,27 +1571,82 @@ static void expect_all_words(void) {
     expect_words(UINT32_MAX, "no such code");
 }
 
-/* RFC 8032, section 7.1, the first three: a key, a text, its length, a signature. */
+/* RFC 8032, section 7.1, all but the one of 1,023 bytes: a seed, its key, a text, its length, a
+ * signature. The last text is the digest of "abc". */
+enum { LONGEST_SIGNED = 64 };
 static const struct {
-    const char *key, *text;
+    const char *seed, *key, *text;
     size_t length;
     const char *signature;
 } SIGNED[] = {
-    {"d75a980182b10ab7d54bfed3c964073a0ee172f3daa62325af021a68f707511a", "", 0,
+    {"9d61b19deffd5a60ba844af492ec2cc44449c5697b326919703bac031cae7f60",
+     "d75a980182b10ab7d54bfed3c964073a0ee172f3daa62325af021a68f707511a", "", 0,
      "e5564300c360ac729086e2cc806e828a84877f1eb8e5d974d873e06522490155"
      "5fb8821590a33bacc61e39701cf9b46bd25bf5f0595bbe24655141438e7a100b"},
-    {"3d4017c3e843895a92b70aa74d1b7ebc9c982ccf2ec4968cc0cd55f12af4660c", "72", 1,
+    {"4ccd089b28ff96da9db6c346ec114e0f5b8a319f35aba624da8cf6ed4fb8a6fb",
+     "3d4017c3e843895a92b70aa74d1b7ebc9c982ccf2ec4968cc0cd55f12af4660c", "72", 1,
      "92a009a9f0d4cab8720e820b5f642540a2b27b5416503f8fb3762223ebdb69da"
      "085ac1e43e15996e458f3613d0f11d8c387b2eaeb4302aeeb00d291612bb0c00"},
-    {"fc51cd8e6218a1a38da47ed00230f0580816ed13ba3303ac5deb911548908025", "af82", 2,
+    {"c5aa8df43f9f837bedb7442f31dcb7b166d38535076f094b85ce3a2e0b4458f7",
+     "fc51cd8e6218a1a38da47ed00230f0580816ed13ba3303ac5deb911548908025", "af82", 2,
      "6291d657deec24024827e69c3abe01a30ce548a284743a445e3680d7db5ac3ac"
      "18ff9b538d16f290ae67f760984dc6594a7c15e9716ed28dc027beceea1ec40a"},
+    {"833fe62409237b9d62ec77587520911e9a759cec1d19755b7da901b96dca3d42",
+     "ec172b93ad5e563bf4932c70e1245034c35467ef2efd4d64ebf819683467e2bf", ABC, LONGEST_SIGNED,
+     "dc2a4459e7369633a52b1bf277839a00201009a3efbf3ecb69bea2186c26b589"
+     "09351fc9ac90b3ecfdfbc7c66431e0303dca179c138ac17ad9bef1177331a704"},
 };
+
+/* A key is made of its seed, and a signature of a text, whole and in every pair of parts, as the
+ * RFC prints them; nothing beside them is written. */
+static void expect_made(void) {
+    for (size_t i = 0; i < sizeof SIGNED / sizeof *SIGNED; i++) {
+        uint8_t seed[32], kept[32], text[LONGEST_SIGNED] = {0}, should[64], out[64 + 8];
+        size_t n = SIGNED[i].length;
+        from_hex(SIGNED[i].seed, seed, 32);
+        from_hex(SIGNED[i].text, text, n);
+        memcpy(kept, seed, sizeof kept);
+        memset(out, 0xee, sizeof out);
+        from_hex(SIGNED[i].key, should, 32);
+        tb_public_key(seed, out);
+        expect_bytes("a public key of RFC 8032", out, should, 32);
+        expect_all("what follows a public key", out + 32, 0xee, sizeof out - 32);
+        from_hex(SIGNED[i].signature, should, 64);
+        tb_sign(seed, text, n, out);
+        expect_bytes("a signature that is made", out, should, 64);
+        for (size_t k = 0; k <= n; k++) {
+            memset(out, 0xee, sizeof out);
+            tb_sign_parts(seed, text, k, text + k, n - k, out);
+            expect_bytes("a signature of parts", out, should, 64);
+        }
+        expect_all("what follows a signature", out + 64, 0xee, sizeof out - 64);
+        expect_bytes("a seed after all calls", seed, kept, sizeof seed);
+    }
+}
+
+/* What is made verifies, of texts of 0 to 300 bytes, which are signed whole and in two parts; and
+ * not as another text's, nor as another's. */
+static void expect_made_verifies(void) {
+    uint8_t seed[32], other[32], key[32] = {0}, text[301], whole[64] = {0}, parts[64] = {0};
+    for (size_t i = 0; i < sizeof text; i++) text[i] = (uint8_t)(43 * i + 9);
+    for (size_t n = 0; n < sizeof text; n += 12) {
+        memset(seed, (uint8_t)n, sizeof seed);
+        memset(other, (uint8_t)(n + 1), sizeof other);
+        tb_public_key(seed, key);
+        tb_sign(seed, text, n, whole);
+        tb_sign_parts(seed, text, n / 3, text + n / 3, n - n / 3, parts);
+        expect_bytes("parts and the whole", parts, whole, sizeof whole);
+        expect_number("what is made verifies", tb_verify(key, 32, text, n, whole, 64), 1);
+        expect_number("not of a longer text", tb_verify(key, 32, text, n + 1, whole, 64), 0);
+        tb_sign(other, text, n, parts);
+        expect_number("nor by another seed", tb_verify(key, 32, text, n, parts, 64), 0);
+    }
+}
 
 /* A signature verifies as it is, in every pair of parts, and not with a byte of it changed. */
 static void expect_verified(void) {
     for (size_t i = 0; i < sizeof SIGNED / sizeof *SIGNED; i++) {
-        uint8_t key[33] = {0}, text[2] = {0}, signature[65] = {0};
+        uint8_t key[33] = {0}, text[LONGEST_SIGNED] = {0}, signature[65] = {0};
         size_t n = SIGNED[i].length;
         from_hex(SIGNED[i].key, key, 32);
         from_hex(SIGNED[i].text, text, n);
@@ -1616,6 +1671,43 @@ static void expect_verified(void) {
         expect_number("a short signature", tb_verify(key, 32, text, n, signature, 63), 0);
         expect_number("no signature", tb_verify(key, 32, text, n, signature, 0), 0);
     }
+}
+
+/* The seeds of a server: of its long-term key, and of the key that it delegates to. */
+static const uint8_t LONG_TERM[32] = {0x52}, DELEGATED[32] = {0x51};
+
+/* What a client says of the response of that server, made as the header's section on servers goes,
+ * where a key delegates behind some context. */
+static uint32_t served(const uint8_t delegating[32], const char *context, size_t context_len) {
+    const uint64_t mint = 1773600000, midp = 1773685571, maxt = 1773700000;
+    uint8_t pubk[32] = {0}, key[32] = {0}, nonce[32] = {7}, root[32] = {0}, signature[64] = {0};
+    uint8_t dele[TB_DELE_LENGTH] = {0}, cert[TB_CERT_LENGTH] = {0}, srep[TB_SREP_LENGTH] = {0};
+    uint8_t request[TB_REQUEST_LENGTH] = {0}, out[TB_RESPONSE_BYTES(0, TB_CERT_LENGTH)] = {0};
+    tb_public_key(DELEGATED, pubk);
+    tb_public_key(LONG_TERM, key);
+    tb_write_dele(pubk, mint, maxt, dele, sizeof dele);
+    tb_sign_parts(delegating, (const uint8_t *)context, context_len, dele, sizeof dele, signature);
+    tb_write_cert(pubk, mint, maxt, signature, cert, sizeof cert);
+    tb_write_request(key, nonce, request, sizeof request);
+    tb_leaf(request, sizeof request, root);
+    tb_write_srep(root, midp, 3, srep, sizeof srep);
+    tb_sign_parts(DELEGATED, (const uint8_t *)TB_RESPONSE_CONTEXT, sizeof TB_RESPONSE_CONTEXT, srep,
+                  sizeof srep, signature);
+    tb_write_response(request, sizeof request, 0, root, request, 0, midp, 3, cert, sizeof cert,
+                      signature, out, sizeof out);
+    struct tb_verdict said = tb_check_signed(key, request, sizeof request, out, sizeof out);
+    expect_number("midp of what is served", said.midp, said.code == TB_PASSED ? midp : 0);
+    return said.code;
+}
+
+/* It passes, and not where the context is another, or the delegation another's. */
+static void expect_served(void) {
+    const char *right = TB_DELEGATION_CONTEXT, *wrong = TB_RESPONSE_CONTEXT;
+    size_t n = sizeof TB_DELEGATION_CONTEXT, m = sizeof TB_RESPONSE_CONTEXT;
+    expect_number("what is signed and served", served(LONG_TERM, right, n), 0);
+    expect_number("without the zero byte", served(LONG_TERM, right, n - 1), TB_DELEGATION);
+    expect_number("with the other context", served(LONG_TERM, wrong, m), TB_DELEGATION);
+    expect_number("delegated by another", served(DELEGATED, right, n), TB_DELEGATION);
 }
 
 /* The signature of a response that draft 19 prints, over its text and over the parts of that. */
@@ -1990,6 +2082,9 @@ int main(void) {
     expect_parts(packet);
     expect_tree();
     expect_largest_tree();
+    expect_made();
+    expect_made_verifies();
+    expect_served();
     expect_verified();
     expect_signed(packet);
     expect_checks(packet);

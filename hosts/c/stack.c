@@ -1,8 +1,9 @@
 /* Measures the stack that each tree operation takes, and holds the most of them to the header's
  * TB_TREE_STACK: with that much every operation ends, and on one page less than the most some
  * operation runs off the end. A verification is measured too, and held to 8 KB; and every form
- * that verifies by itself, the most of which is held to TB_VERIFY_STACK; and what goes from text to
- * text, which is held to TB_TEXT_STACK. What every other operation takes is told as well.
+ * that verifies by itself, the most of which is held to TB_VERIFY_STACK; what signs, which is held
+ * to TB_SIGN_STACK; and what goes from text to text, which is held to TB_TEXT_STACK. What every
+ * other operation takes is told as well.
  *
  * Each call runs on a stack of this program's own, which is painted first and has memory below it
  * that nobody may touch. That is done with contexts and not with threads, since a C library wants
@@ -50,6 +51,12 @@ static void call_verify(void) {
     verified = tb_verify_parts(SIGNER, sizeof SIGNER, leaves, 0, leaves, 0, SIGNATURE,
                                sizeof SIGNATURE);
 }
+
+/* What signs has no choice to make, and takes the same for every seed. */
+static uint8_t made[64];
+static void call_public_key(void) { tb_public_key(SIGNER, made); }
+static void call_sign(void) { tb_sign(SIGNER, leaves, 1000, made); }
+static void call_sign_parts(void) { tb_sign_parts(SIGNER, leaves, 34, leaves, 72, made); }
 
 /* The forms that verify by themselves, on the report that draft 19 prints, all of whose signatures
  * are right; each tells its code, so that it is seen to have gone to its end. */
@@ -226,6 +233,10 @@ static const struct operation SIGNED[] = {{"tb_verify_parts", call_verify},
                                           {"tb_write_signed_report", call_write_signed_report},
                                           {"tb_walk_take_signed", call_walk_take_signed}};
 
+static const struct operation SIGNING[] = {{"tb_public_key", call_public_key},
+                                           {"tb_sign", call_sign},
+                                           {"tb_sign_parts", call_sign_parts}};
+
 static const struct operation TEXTS[] = {{"tb_cut_text", call_cut_text},
                                          {"tb_cut_signed_text", call_cut_signed_text}};
 
@@ -369,6 +380,8 @@ int main(void) {
                    TB_VERIFY_STACK);
     fits &= within("a verification", taken(stack, call_verify) - before, "it may take",
                    VERIFICATION);
+    fits &= within("signing", most_of(stack, before, SIGNING, SIZE(SIGNING)), header,
+                   TB_SIGN_STACK);
     fits &= within("texts", most_of(stack, before, TEXTS, SIZE(TEXTS)), header, TB_TEXT_STACK);
     most_of(stack, before, OTHERS, SIZE(OTHERS));
     walk_on(15);

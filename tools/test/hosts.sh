@@ -34,8 +34,11 @@ c_host() {
 # The package bench is left out: it has nothing to test, and ./bench builds it.
 rust_tests() {
     cargo check --offline --quiet --release -p bench || return
-    cargo build --offline --quiet --release -p trawlbeacon --example time || return
+    cargo build --offline --quiet --release -p trawlbeacon --example time --example server || return
     console_says build/cargo/release/examples/time || return
+    says build/cargo/release/examples/server \
+        "900 responses of 736 bytes are valid: the time is from 1773685568 to 1773685574" \
+        1773685571 || return
     cargo test --offline --workspace --exclude bench --release -- --nocapture | tee build/rust-said
 }
 
@@ -80,16 +83,12 @@ damaged() { # OFFSET
         xtask poke build/console/damaged "$1" 0 >/dev/null
 }
 
-# The draft's own signatures, those of a server that answers a batch, and responses that were forged
-# without the server's key.
+# The draft's own signatures, those that the library makes, and responses that were forged without
+# the server's key.
 signatures() {
     local package=(--offline --release -p trawlbeacon --features openssl)
     c_program console -lcrypto && console_says build/c/console || return
     cargo build "${package[@]}" --quiet --example console || return
     console_says build/cargo/release/examples/console || return
-    cargo build "${package[@]}" --quiet --example server || return
-    says build/cargo/release/examples/server \
-        "900 responses of 736 bytes are valid: the time is from 1773685568 to 1773685574" \
-        1773685571 || return
     cargo test "${package[@]}" --test signatures --test forgery --test third -- --nocapture
 }

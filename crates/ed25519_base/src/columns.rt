@@ -1,7 +1,7 @@
 // A column of the four words, and its row of the table.
 ghost use mathlib.Core.Path.{_≡_};
 ghost use mathlib.Core.Bool.{cond};
-ghost use Prim.Native.Nat.{_+_, _*_, _≤_, _<_};
+ghost use Prim.Native.Nat.{_+_, _≤_, _<_};
 ghost use lib.Dec.{eqb};
 ghost use lib.ListN.{length};
 ghost use Rattle.ed25519_base.specs.Comb.{fiveOf, rowOf, columnOf};
@@ -31,6 +31,7 @@ fn five(t: &[u64], k: usize) -> Fe
     [t[k], t[k + 1], t[k + 2], t[k + 3], t[k + 4]]
 }
 
+// Row k, where k may be known to all.
 fn row_at(t: &[u64], k: usize) -> Thin
     requires { ⌜ (k < 16) × (length (now t) ≡ 240) ⌝ }
     ensures { λ r. ⌜ r ≡ rowOf (now (t .entry)) k ⌝ }

@@ -1,6 +1,5 @@
 // The multiple itself.
 ghost use mathlib.Core.Path.{_≡_};
-ghost use Prim.Native.Nat.{_<_};
 ghost use lib.ListN.{length};
 ghost use Rattle.digits.specs.Digits.{value};
 ghost use Rattle.ed25519_curve.specs.Points.{base};

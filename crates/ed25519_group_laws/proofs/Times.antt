@@ -43,7 +43,7 @@ unfolding timesOf
 times-double n a pa = ap (λ b. timesOf n (sumOf a b)) (sym (sum-zero a pa)) ∙ times-times n 2 a pa
 
 -- (P + Q) + (R + S) = (P + R) + (Q + S)
-crossed : (a b e f : Affine) → Point a → Point b → Point e → Point f
+pub crossed : (a b e f : Affine) → Point a → Point b → Point e → Point f
     → sumOf (sumOf a b) (sumOf e f) ≡ sumOf (sumOf a e) (sumOf b f)
 crossed a b e f pa pb pe pf =
     sum-associates a b (sumOf e f) pa pb (sum-point e f pe pf)

@@ -145,14 +145,14 @@ pub row-is : (i j : ℕ) (r : Thin) (m q s : List ℕ) → j ≡ i → i < 2 ^ 2
 row-is i j r m q s e h f t =
     rw (e, f .0, f .1, f .2) (row-stands i (record { minus = m; plus = q; scaled = s }) h t)
 
--- a number below 9 that is none of 0 to 7, in two steps, since `omega` splits six times at most
-module _ (j : ℕ) (n0 : j ≡ 0 → ⊥) (n1 : j ≡ 1 → ⊥) (n2 : j ≡ 2 → ⊥) (n3 : j ≡ 3 → ⊥) where
-  from-four : 3 < j
-  from-four = omega arith
+-- a number below 8 that is none of 0 to 6, in two steps, since `omega` splits six times at most
+module _ (j : ℕ) (n0 : j ≡ 0 → ⊥) (n1 : j ≡ 1 → ⊥) (n2 : j ≡ 2 → ⊥) where
+  from-three : 2 < j
+  from-three = omega arith
 
-pub eighth : (j : ℕ) → j < 9 → (j ≡ 0 → ⊥) → (j ≡ 1 → ⊥) → (j ≡ 2 → ⊥) → (j ≡ 3 → ⊥) → (j ≡ 4 → ⊥) → (j ≡ 5 → ⊥)
-    → (j ≡ 6 → ⊥) → (j ≡ 7 → ⊥) → j ≡ 8
-eighth j h n0 n1 n2 n3 n4 n5 n6 n7 = last j h (from-four j n0 n1 n2 n3) n4 n5 n6 n7
+pub seventh : (j : ℕ) → j < 8 → (j ≡ 0 → ⊥) → (j ≡ 1 → ⊥) → (j ≡ 2 → ⊥) → (j ≡ 3 → ⊥) → (j ≡ 4 → ⊥) → (j ≡ 5 → ⊥)
+    → (j ≡ 6 → ⊥) → j ≡ 7
+seventh j h n0 n1 n2 n3 n4 n5 n6 = last j h (from-three j n0 n1 n2) n3 n4 n5 n6
   where
-    last : (j : ℕ) → j < 9 → 3 < j → (j ≡ 4 → ⊥) → (j ≡ 5 → ⊥) → (j ≡ 6 → ⊥) → (j ≡ 7 → ⊥) → j ≡ 8
-    last j h k n4 n5 n6 n7 = omega arith
+    last : (j : ℕ) → j < 8 → 2 < j → (j ≡ 3 → ⊥) → (j ≡ 4 → ⊥) → (j ≡ 5 → ⊥) → (j ≡ 6 → ⊥) → j ≡ 7
+    last j h k n3 n4 n5 n6 = omega arith

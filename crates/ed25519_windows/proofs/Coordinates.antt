@@ -1,6 +1,6 @@
 -- What doublings, additions and rows stand for.
-use Prim.Native.Nat.{ℕ, _+_, _≤_}
-use mathlib.Core.Path.{_≡_, sym}
+use Prim.Native.Nat.{ℕ, _≤_}
+use mathlib.Core.Path.{_≡_}
 use mathlib.Core.Bool.{true, false}
 use mathlib.Core.List.{List}
 use native.Mathlib.Omega.{arith}
@@ -14,35 +14,21 @@ use Rattle.ed25519_curve.specs.declared.Ends.{Ends}
 use Rattle.ed25519_curve.specs.declared.Addend.{Addend}
 use Rattle.ed25519_curve.specs.Coords.{ptOf, flatOf, endOf, sumWith, Doubled, Even, Cached, oppositeOf, Opposed}
 use Rattle.ed25519_curve.proofs.Joining.{summed-is}
-use Rattle.ed25519_group_laws.specs.Affine.{Affine, sumOf, timesOf}
-use Rattle.ed25519_group_laws.specs.Group.{Point}
+use Rattle.ed25519_group_laws.specs.Affine.{Affine, sumOf}
 use Rattle.ed25519_group_laws.specs.Standing.{StandsFor}
 use Rattle.ed25519_group_laws.proofs.Adding.{sum-stands}
 use Rattle.ed25519_group_laws.proofs.Doubling.{double-stands}
 use Rattle.ed25519_group_laws.proofs.Opposites.{opposite-stands}
-use Rattle.ed25519_group_laws.proofs.Times.{times-add, times-one}
-use Rattle.ed25519_windows.specs.Windows.{FlatFor, RowFor, Twice, Turned}
+use Rattle.ed25519_windows.specs.Windows.{FlatFor, RowFor, Turned}
 
 -- the double of coordinates without T
 pub doubled-stands : (q : Flat) (s : Ends) (a : Affine) → Doubled (num (q .x)) (num (q .y)) (num (q .z)) (endOf s)
     → FlatFor q a → StandsFor (endOf s) (sumOf a a)
 doubled-stands q s a d h = rw (d .is (h .t)) (double-stands (flatOf q (h .t)) a (h .stands))
 
-pub flat-for : (r : Flat) (s : Ends) (a : Affine) → flatOf r (endOf s .T) ≡ endOf s → StandsFor (endOf s) a → FlatFor r a
+pub flat-for : (r : Flat) (s : Ends) (a : Affine) → flatOf r (endOf s .T) ≡ endOf s → StandsFor (endOf s) a
+    → FlatFor r a
 flat-for r s a e h = record { t = endOf s .T; stands = rw e h }
-
--- four doublings
-module _ (q q1 q2 q3 : Flat) (t1 : Twice q q1) (t2 : Twice q1 q2) (t3 : Twice q2 q3) (s : Ends)
-    (d : Doubled (num (q3 .x)) (num (q3 .y)) (num (q3 .z)) (endOf s)) where
-  pub four-doubles : (a : Affine) → FlatFor q a → StandsFor (endOf s) (timesOf 16 a)
-  four-doubles a h =
-      let pa : Point a = h .stands .point in
-      let next : (n : ℕ) → sumOf (timesOf n a) (timesOf n a) ≡ timesOf (n + n) a = λ n. sym (times-add n n a pa) in
-      let h0 : FlatFor q (timesOf 1 a) = rw (times-one a pa) h in
-      let h1 : FlatFor q1 (timesOf 2 a) = rw (next 1) at (t1 .stands (timesOf 1 a) h0) in
-      let h2 : FlatFor q2 (timesOf 4 a) = rw (next 2) at (t2 .stands (timesOf 2 a) h1) in
-      let h3 : FlatFor q3 (timesOf 8 a) = rw (next 4) at (t3 .stands (timesOf 4 a) h2) in
-      rw (next 8) at (doubled-stands q3 s (timesOf 8 a) d h3)
 
 -- an addition of a row
 pub summed-stands : (q : Coords) (r : Addend) (s : Ends) (a b : Affine) → StandsFor (ptOf q) a → RowFor r b

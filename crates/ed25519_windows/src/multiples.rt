@@ -1,4 +1,4 @@
-// Rows of the multiples of a point.
+// Rows of the odd multiples of a point.
 ghost use Rattle.ed25519_curve.specs.Coords.{Even, wholeOf};
 ghost use Rattle.ed25519_windows.specs.Windows.{Rows, Turned};
 use ed25519_curve::Addend;
@@ -10,16 +10,17 @@ use ed25519_curve::summed;
 use ed25519_curve::with_t;
 use ed25519_curve::zero_point;
 
-// 0, P, 2P, .. 8P, of P's own row.
-pub fn multiples(r: Addend) -> [Addend; 9]
+// The rows of P, 3P, .. 15P, of P's own row.
+pub fn multiples(r: Addend) -> [Addend; 8]
     requires { ⌜ Even r ⌝ }
-    ensures { λ t. ⌜ Rows r t 9 ⌝ }
+    ensures { λ t. ⌜ Rows r t 8 ⌝ }
 {
-    let mut q = zero_point();
-    let mut t = [row_of(q); 9];
+    let mut q = with_t(summed(zero_point(), r));
+    let two = row_of(with_t(summed(q, r)));
+    let mut t = [r; 8];
     let mut i: usize = 1;
-    while i < 9 {
-        let n = with_t(summed(q, r));
+    while i < 8 {
+        let n = with_t(summed(q, two));
         let w = row_of(n);
         t[i] = w;
         q = n;

@@ -67,7 +67,7 @@ module _ (r : Round) (ok : Laid r) where
     laid-there : PathThere (heldOf (length (r .rows)) (r .count)) (t .place) (length (t .buffer)) (t .indx) (t .siblings)
     laid-there = path-there _ (t .place) (length (t .buffer)) (t .indx) (t .siblings) (given .answered)
 
-    there : t .place < r .count
+    pub there : t .place < r .count
     there = rw (held-is (length (r .rows)) (r .count) refl (laid-there .there)) at (laid-there .there)
 
     request-good : requestBad (a .request) ≡ false
@@ -75,7 +75,7 @@ module _ (r : Round) (ok : Laid r) where
     request-good = ap not (eq-eqb _ 0 (ok .good (t .place) there))
 
     -- the path leads from the leaf of its own request to the last node of the rows,
-    path-leads : leadsOf (leafOf (a .request)) (a .indx) (a .path) (a .root) ≡ true
+    pub path-leads : leadsOf (leafOf (a .request)) (a .indx) (a .path) (a .root) ≡ true
     path-leads =
         let right =
         given .answered
@@ -87,7 +87,7 @@ module _ (r : Round) (ok : Laid r) where
         (served-leads (leavesOf r) (r .buffer) (r .rows) (r .depth) (ok .answered) (ok .left) (t .place) (t .buffer)
         (t .path) (t .indx) (t .siblings) right left)
 
-    typed : Typed a
+    pub typed : Typed a
     typed =
         record {
           indx = omega (arith, laid-there .indx-is, there, ok .few);

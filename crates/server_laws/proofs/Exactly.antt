@@ -44,7 +44,7 @@ module _ (value : List ℕ) where
   abbrev Codeless : Type 0
   Codeless = (messageCode value certTable .code ≡ 0) × (messageCode (deleOf value) deleTable .code ≡ 0)
 
-  good-cert : GoodCert value → Codeless
+  pub good-cert : GoodCert value → Codeless
   good-cert g =
       let dele-row : Holds (g .fields) DELE message = record { there = g .dele .there; right = record {} } in
       let outer = all-passes (g .fields) (g .kept) certTable (g .sig, (dele-row, record {})) in

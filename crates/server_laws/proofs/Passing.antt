@@ -92,6 +92,10 @@ module _ (a : Reply) (t : Typed a) (g : Granted a) where
   unfolding valueAmong
   cert-is = value-is CERT
 
+  pub signature-is : valueOf (body p) SIG ≡ a .signature
+  unfolding valueAmong
+  signature-is = value-is SIG
+
   pub dele-is : dele (body p) ≡ deleOf (a .cert)
   dele-is = ap (λ (s : List ℕ). valueOf s DELE) cert-is
 
@@ -303,9 +307,9 @@ module _ (a : Reply) (t : Typed a) (g : Granted a) where
         delegation = valueOf (a .cert) SIG;
         pubk = valueOf (deleOf (a .cert)) PUBK;
       }
-  unfolding partsOf partsIn valueAmong
+  unfolding partsOf partsIn
   reply-parts =
-      rw (eq-eqb (signedCode p .code) 0 (none-quiet refusals signed-good), value-is SIG, cert-is)
+      rw (eq-eqb (signedCode p .code) 0 (none-quiet refusals signed-good), signature-is, cert-is)
 
   -- over the texts that were signed: SREP as `write_srep` writes it, and the CERT's DELE;
   pub reply-texts : (responseText p ≡ responseContext ++ srep-value)

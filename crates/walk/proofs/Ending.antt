@@ -133,7 +133,7 @@ module _
   stands-sound = record { good = good; all-valid = valid-at; all-joined = joined-at }
 
 -- key i of keys that stand at the front of a row of bytes
-key-front : (keys o : List ℕ) (i : ℕ) → 32 * i + 32 ≤ length keys → keyAt (fronted keys o) i ≡ keyAt keys i
+pub key-front : (keys o : List ℕ) (i : ℕ) → 32 * i + 32 ≤ length keys → keyAt (fronted keys o) i ≡ keyAt keys i
 key-front keys o i h =
     let n : 32 ≤ length (drop (32 * i) keys) = simp length-drop (omega arith) in
     ap (take 32) (drop-append-le (32 * i) keys _ (omega arith)) ∙ take-append-le 32 (drop (32 * i) keys) _ n

@@ -3,8 +3,9 @@
 //! Each function here calls the function of the proved library that has the same name after `tb_`,
 //! and adds nothing to it; [`cut`], [`cut_signed`], [`Record`], [`Pile`] and [`SignedPile`] only
 //! lay out bytes beside such calls, and [`Sha512`], [`Tally`], [`Clock`] and [`Walk`] hold the state
-//! between those that end in `_fields` or `_field`, the last with its pile. The module `picture` draws what
-//! such calls say of a pile. The proofs speak of the library's own code; that these few lines
+//! between those that end in `_fields` or `_field`, the last with its pile; [`SigningKey`] holds a
+//! seed for those that sign, and overwrites it in the end. The module `picture` draws what such
+//! calls say of a pile. The proofs speak of the library's own code; that these few lines
 //! declare and call it rightly is shown by the tests alone, which compare every function with an
 //! implementation that shares no code with the library.
 //!
@@ -62,6 +63,7 @@ mod servers;
 mod serving;
 mod signed;
 mod signing;
+mod signing_key;
 mod stamps;
 mod tally;
 mod trees;
@@ -97,6 +99,7 @@ pub use signed::{
     answers, check_signed, check_signed_report, cut_signed_run, judge_signed, Answers,
 };
 pub use signing::{delegation_text, response_text, signed_parts, SignedParts, LONGEST_TEXT};
+pub use signing_key::SigningKey;
 pub use stamps::{old_window, OldWindow};
 pub use tally::{pile_contradicts, Tally};
 pub use trees::{

@@ -492,6 +492,20 @@ extern "C" {
         signature_len: usize,
     ) -> bool;
 
+    /// The public key of a seed.
+    pub fn tb_public_key(seed: &[u8; 32], out: &mut [u8; 32]);
+    /// The signature of a text.
+    pub fn tb_sign(seed: &[u8; 32], text: *const u8, text_len: usize, out: &mut [u8; 64]);
+    /// The same of a text in two parts.
+    pub fn tb_sign_parts(
+        seed: &[u8; 32],
+        context: *const u8,
+        context_len: usize,
+        value: *const u8,
+        value_len: usize,
+        out: &mut [u8; 64],
+    );
+
     /// Takes out of a response what is verified.
     pub fn tb_signed_parts(packet: *const u8, packet_len: usize) -> tb_parts;
     /// Writes the text that the delegation signs.

@@ -1,5 +1,5 @@
-//! What a server writes: DELE and CERT, SREP, and the response to each request of a batch. The
-//! library makes no signature: the caller does, with an Ed25519 of its own.
+//! What a server writes: DELE and CERT, SREP, and the response to each request of a batch. None of
+//! these functions signs: a [`SigningKey`](crate::SigningKey) does, or an Ed25519 of the caller's.
 
 use crate::packets::wrote;
 use crate::{raw, Hash, PacketRefusal, Refusal};

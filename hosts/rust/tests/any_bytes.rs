@@ -31,6 +31,8 @@ mod any_real;
 mod any_run;
 #[path = "support/any_servers.rs"]
 mod any_servers;
+#[path = "support/any_signing.rs"]
+mod any_signing;
 #[path = "support/any_texts.rs"]
 mod any_texts;
 #[path = "support/any_trial.rs"]

@@ -3,10 +3,11 @@
 
 mod support;
 
-use independent::appendix::{self, Entry};
+use independent::appendix;
 use independent::ed25519::Ed25519;
+use support::rfc_8032::{self, Entry};
 use support::signed::{self, Case, Maker, DAMAGES};
-use support::{counted, unhex, vectors, Xorshift};
+use support::{counted, Xorshift};
 use trawlbeacon::{PacketRefusal, LONGEST_TEXT};
 
 /// How many signatures are made, each verified as it is and damaged in one way.
@@ -14,42 +15,18 @@ const SIGNATURES: usize = 20_000;
 
 const COUNTED: &str = "signatures, right, damaged and at borders";
 
-/// The entries of RFC 8032, section 7.1: key, text and signature.
-fn rfc_8032() -> Vec<(Vec<u8>, Vec<u8>, Vec<u8>)> {
-    let text = vectors("RFC8032-7.1.txt");
-    let values = |name: &str| -> Vec<Vec<u8>> {
-        text.lines()
-            .filter_map(|line| line.strip_prefix(name))
-            .map(|value| unhex(value.trim()).expect("it is hexadecimal"))
-            .collect()
-    };
-    let (keys, texts, signatures) = (values("key "), values("message"), values("signature "));
-    assert_eq!((keys.len(), texts.len(), signatures.len()), (5, 5, 5));
-    keys.into_iter().zip(texts).zip(signatures).map(|((k, t), s)| (k, t, s)).collect()
-}
-
-/// Its secret keys, in the same order: each makes the public one.
-const SECRETS: [&str; 5] = [
-    "9d61b19deffd5a60ba844af492ec2cc44449c5697b326919703bac031cae7f60",
-    "4ccd089b28ff96da9db6c346ec114e0f5b8a319f35aba624da8cf6ed4fb8a6fb",
-    "c5aa8df43f9f837bedb7442f31dcb7b166d38535076f094b85ce3a2e0b4458f7",
-    "f5e5767cf153319517630f226876b86c8160cc583bc013744c6bf255f5cc0ee5",
-    "833fe62409237b9d62ec77587520911e9a759cec1d19755b7da901b96dca3d42",
-];
-
 #[test]
 fn rfc_8032_section_7_1() {
     let ed25519 = Ed25519::new();
-    for ((key, text, signature), seed) in rfc_8032().iter().zip(SECRETS) {
-        let seed = unhex(seed).expect("it is hexadecimal").try_into().expect("32 bytes");
+    for Entry { seed, key, text, signature } in rfc_8032::entries() {
         let secret = ed25519.secret(&seed);
-        assert_eq!(secret.public[..], key[..]);
-        assert_eq!(ed25519.sign(&secret, text)[..], signature[..]);
-        assert!(ed25519.verify(key, text, signature));
-        assert!(trawlbeacon::verify(key, text, signature));
+        assert_eq!(secret.public, key);
+        assert_eq!(ed25519.sign(&secret, &text), signature);
+        assert!(ed25519.verify(&key, &text, &signature));
+        assert!(trawlbeacon::verify(&key, &text, &signature));
         for at in 0..=text.len() {
             let (context, value) = text.split_at(at);
-            assert!(trawlbeacon::verify_parts(key, context, value, signature));
+            assert!(trawlbeacon::verify_parts(&key, context, value, &signature));
         }
     }
     println!("RFC 8032, section 7.1: five signatures verify, and the independent side makes them");
@@ -75,7 +52,7 @@ fn written(
 #[test]
 fn draft_19_appendix_b() {
     let ed25519 = Ed25519::new();
-    for Entry { key, response, .. } in appendix::entries() {
+    for appendix::Entry { key, response, .. } in appendix::entries() {
         let parts = trawlbeacon::signed_parts(&response).expect("it is a response");
         let signed = [
             (written(trawlbeacon::delegation_text, &response), key, parts.delegation),

@@ -2,9 +2,6 @@
 //! deserve no answer. Each answer is checked as its client does. What is not answered must have
 //! been dropped by the system, which counts that.
 
-#[allow(dead_code)]
-#[path = "../examples/demo/keys.rs"]
-mod keys;
 #[path = "../examples/demo/running.rs"]
 mod running;
 #[allow(dead_code)]
@@ -15,9 +12,8 @@ mod serving;
 mod support;
 
 use independent::write::padded_request;
-use keys::TestSigner;
 use server::{now, Server};
-use serving::{Batch, Delegated, Sign};
+use serving::{Batch, Delegated};
 use std::collections::HashMap;
 use std::net::{SocketAddr, UdpSocket};
 use std::sync::atomic::{AtomicU64, Ordering};
@@ -25,8 +21,8 @@ use std::time::{Duration, Instant};
 use std::{fs, thread};
 use support::Xorshift;
 use trawlbeacon::{
-    response_length, PacketRefusal, Refusal, Window, CERT_LENGTH, LONGEST_PACKET, LONGEST_TEXT,
-    REQUEST_LENGTH,
+    response_length, PacketRefusal, Refusal, SigningKey, Window, CERT_LENGTH, LONGEST_PACKET,
+    LONGEST_TEXT, REQUEST_LENGTH,
 };
 
 const REQUESTS: usize = 100_000;
@@ -50,11 +46,11 @@ const SENT: u64 = (REQUESTS + CROWDS * ROUNDS) as u64;
 const PATIENCE: Duration = Duration::from_millis(100);
 
 /// A key to sign with for some time, and the long-term public key that delegates to it.
-fn delegated() -> (Delegated<TestSigner>, [u8; 32]) {
-    let long_term = TestSigner::new(&[1; 32]);
+fn delegated() -> (Delegated, [u8; 32]) {
+    let long_term = SigningKey::new(&[1; 32]);
     let times = (now() - 60, now() + 3_600);
-    let delegated = Delegated::new(&long_term, TestSigner::new(&[2; 32]), times);
-    (delegated.expect("there is room"), long_term.key())
+    let delegated = Delegated::new(&long_term, SigningKey::new(&[2; 32]), times);
+    (delegated.expect("there is room"), long_term.public_key())
 }
 
 fn server() -> (Server, [u8; 32]) {

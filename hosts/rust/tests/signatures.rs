@@ -1,14 +1,32 @@
-//! The whole of a check with a real Ed25519, OpenSSL's: the signatures of draft 19's report verify
-//! under its keys, over the texts and with the parts that the library hands out, and nothing else
-//! does. The examples that ask OpenSSL are tried here, too, where they cannot write what they found.
+//! OpenSSL's Ed25519 as a third opinion. The whole of a check with it: the signatures of draft 19's
+//! report verify under its keys, over the texts and with the parts that the library hands out, and
+//! nothing else does. What the library signs is what OpenSSL signs, byte for byte, and OpenSSL
+//! verifies it; and so it does both signatures of each response to a batch. The example that asks
+//! OpenSSL is tried here, too, where it cannot write what it found.
 
 mod openssl;
+#[path = "../examples/serving/mod.rs"]
+mod serving;
+mod support;
 #[path = "support/written.rs"]
 mod written;
 
 use independent::appendix::{self, Entry};
 use openssl::{by_the_parts, text, verifies, Signer};
-use trawlbeacon::{raw, Pair, Pile, Record, Refusal, Run, RECORD_LENGTH};
+use serving::{is_meant, Batch, Delegated};
+use std::thread;
+use support::Xorshift;
+use trawlbeacon::{
+    raw, Pair, Pile, Record, Refusal, Run, SigningKey, LONGEST_PACKET, RECORD_LENGTH,
+    REQUEST_LENGTH,
+};
+
+/// How many threads sign, how many seeds each has, and how many texts each seed signs: 100,000
+/// signatures in all, of texts of up to so many bytes.
+const THREADS: usize = 4;
+const SEEDS: usize = 250;
+const TEXTS: usize = 100;
+const LONGEST: usize = 2_100;
 
 /// RFC 8032, section 7.1, test 2: OpenSSL is called rightly.
 #[test]
@@ -116,8 +134,77 @@ fn a_library_that_fails_has_said_no() {
     }
 }
 
+/// One seed: its public key, and texts that it signs. Ed25519 is deterministic, so that equal bytes
+/// are the whole comparison.
+fn sign_alike(seed: [u8; 32], random: &mut Xorshift, texts: usize) {
+    let (ours, theirs) = (SigningKey::new(&seed), Signer::new(&seed));
+    let key = ours.public_key();
+    assert_eq!(key, theirs.key(), "{seed:?}");
+    for _ in 0..texts {
+        let length = random.below(LONGEST + 1);
+        let text = random.bytes(length);
+        let signature = ours.sign(&text);
+        assert_eq!(signature, theirs.sign(&text), "{seed:?}, {length} bytes");
+        assert!(verifies(&key, &signature, &text) && trawlbeacon::verify(&key, &text, &signature));
+    }
+}
+
 #[test]
-fn the_examples_write_or_are_no_success() {
+fn ours_and_openssl_sign_alike() {
+    let job = |thread: u64| {
+        let mut random = Xorshift::new(0x5eed_0930 + thread);
+        for _ in 0..SEEDS {
+            let seed = random.array();
+            sign_alike(seed, &mut random, TEXTS);
+        }
+    };
+    thread::scope(|scope| {
+        for thread in 0..THREADS as u64 {
+            scope.spawn(move || job(thread));
+        }
+    });
+    let mut random = Xorshift::new(0x5eed_0934);
+    for seed in [[0; 32], [0xff; 32]] {
+        sign_alike(seed, &mut random, TEXTS);
+    }
+    let made = (THREADS * SEEDS + 2) * TEXTS;
+    println!("{made} signatures of ours are OpenSSL's, byte for byte, and verify by both");
+}
+
+/// The response to each of 900 requests, all of one batch.
+fn responses(key: &[u8; 32], delegated: &Delegated, midp: u64) -> Vec<Vec<u8>> {
+    let request = |client: usize| {
+        let mut request = vec![0; REQUEST_LENGTH];
+        let nonce = trawlbeacon::leaf(&client.to_le_bytes());
+        trawlbeacon::write_request(key, &nonce, &mut request).expect("there is room");
+        assert!(is_meant(&request, &trawlbeacon::srv_value(key)));
+        request
+    };
+    let requests: Vec<Vec<u8>> = (0..900).map(request).collect();
+    let batch = Batch::sign(delegated, midp, requests.iter().map(Vec::as_slice));
+    let batch = batch.expect("so many fit into one");
+    let respond = |(place, request): (usize, &Vec<u8>)| {
+        let mut out = [0; LONGEST_PACKET];
+        let length = batch.answer(place, request, &mut out).expect("it is no longer");
+        out[..length].to_vec()
+    };
+    requests.iter().enumerate().map(respond).collect()
+}
+
+#[test]
+fn openssl_verifies_every_response_to_a_batch() {
+    let (long_term, midp) = (SigningKey::new(&[1; 32]), 1_773_685_571);
+    let times = (midp - 60, midp + 60);
+    let delegated = Delegated::new(&long_term, SigningKey::new(&[2; 32]), times);
+    let (key, delegated) = (long_term.public_key(), delegated.expect("there is room"));
+    let responses = responses(&key, &delegated, midp);
+    for response in &responses {
+        assert_eq!(by_the_parts(&key, response), (true, true));
+    }
+    println!("{} responses to a batch, whose signatures OpenSSL verifies", responses.len());
+}
+
+#[test]
+fn the_example_writes_or_is_no_success() {
     written::or_no_success("console", &[]);
-    written::or_no_success("server", &["1773685571"]);
 }

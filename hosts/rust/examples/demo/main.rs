@@ -10,8 +10,8 @@
 //! says which packets are lost or damaged. The status is 0 where the story went as it should
 //! and could be written.
 //!
-//! Everything on the wire is the library's: requests, batches of responses, and what is said of
-//! them. Signatures are made by a signer for tests.
+//! Everything on the wire is the library's: requests, batches of responses with their signatures,
+//! and what is said of them.
 
 mod asking;
 mod backoff;

@@ -1,6 +1,5 @@
 //! A time server: one socket, and a thread that takes what waits there as one batch.
 
-use super::keys::TestSigner;
 use super::running::{self, Running};
 use super::serving::{is_meant, Batch, Delegated};
 use std::io;
@@ -48,7 +47,7 @@ struct Asked {
 struct Post {
     socket: UdpSocket,
     srv: Hash,
-    delegated: Delegated<TestSigner>,
+    delegated: Delegated,
     ahead: Arc<AtomicU64>,
     counts: Arc<Counts>,
 }
@@ -60,7 +59,7 @@ pub fn now() -> u64 {
 
 impl Server {
     /// Starts the server with this long-term public key, at a free port of this machine.
-    pub fn start(key: &[u8; 32], delegated: Delegated<TestSigner>) -> io::Result<Server> {
+    pub fn start(key: &[u8; 32], delegated: Delegated) -> io::Result<Server> {
         let socket = running::socket()?;
         let address = socket.local_addr()?;
         let (ahead, counts) = (Arc::new(AtomicU64::new(0)), Arc::new(Counts::default()));

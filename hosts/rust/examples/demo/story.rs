@@ -2,11 +2,11 @@
 
 use super::console::{Console, Known};
 use super::evidence::{self, Received};
-use super::keys::{self, TestSigner};
+use super::keys;
 use super::measuring::Measured;
 use super::relay::{Relay, ONE_IN};
 use super::server::{self, Server};
-use super::serving::{Delegated, Sign};
+use super::serving::Delegated;
 use super::teller::Teller;
 use super::words;
 use std::error::Error;
@@ -42,10 +42,10 @@ struct Scene {
 
 /// A server with new keys, and its long-term public key.
 fn server() -> Result<(Server, [u8; 32]), Ended> {
-    let long_term = TestSigner::new(&keys::random()?);
-    let (key, now) = (long_term.key(), server::now());
+    let long_term = keys::new()?;
+    let (key, now) = (long_term.public_key(), server::now());
     let times = (now.saturating_sub(DAY), now + DAY);
-    let delegated = Delegated::new(&long_term, TestSigner::new(&keys::random()?), times)?;
+    let delegated = Delegated::new(&long_term, keys::new()?, times)?;
     Ok((Server::start(&key, delegated)?, key))
 }
 

@@ -1,6 +1,6 @@
-//! Answers a batch of 900 requests, as a time server does, with OpenSSL's Ed25519.
+//! Answers a batch of 900 requests, as a time server does.
 //!
-//!     cargo run --release -p trawlbeacon --features openssl --example server [TIME]
+//!     cargo run --release -p trawlbeacon --example server [TIME]
 //!
 //! delegates a key, looks which of 1,000 packets are requests to it, takes these 900 into one batch,
 //! signs once, writes a response to each, and then does what 900 clients do: each verifies both
@@ -10,22 +10,16 @@
 //! A server would keep its long-term key on another machine, which only ever signs DELE, would take
 //! random seeds for both keys, and would take requests and send responses over UDP.
 
-#[path = "../console/ed25519.rs"]
-mod ed25519;
 #[path = "../serving/mod.rs"]
 mod serving;
-#[allow(dead_code)]
-#[path = "../../tests/openssl/signer.rs"]
-mod signer;
 #[path = "../time/told.rs"]
 mod told;
 
-use serving::{is_meant, Batch, Delegated, Sign};
-use signer::Signer;
+use serving::{is_meant, Batch, Delegated};
 use std::process::ExitCode;
 use std::time::{SystemTime, UNIX_EPOCH};
 use told::told;
-use trawlbeacon::{Checked, PacketRefusal, LONGEST_PACKET, LONGEST_TEXT, REQUEST_LENGTH};
+use trawlbeacon::{PacketRefusal, SigningKey, LONGEST_PACKET, REQUEST_LENGTH};
 
 /// How many requests one batch has, and how many others come with them.
 const BATCH: usize = 900;
@@ -33,16 +27,6 @@ const OTHERS: usize = 100;
 
 /// How long a delegated key may sign, in seconds.
 const DAY: u64 = 86_400;
-
-impl Sign for Signer {
-    fn key(&self) -> [u8; 32] {
-        Signer::key(self)
-    }
-
-    fn sign(&self, context: &[u8], value: &[u8]) -> [u8; 64] {
-        Signer::sign(self, &[context, value].concat())
-    }
-}
 
 /// What arrives at the server with this long-term key: requests to it, and every tenth to another.
 fn packets(key: &[u8; 32]) -> Result<Vec<Vec<u8>>, PacketRefusal> {
@@ -57,22 +41,11 @@ fn packets(key: &[u8; 32]) -> Result<Vec<Vec<u8>>, PacketRefusal> {
     (0..BATCH + OTHERS).map(request).collect()
 }
 
-/// What a client learns from a response to its request, from the server with this long-term key.
-fn check(key: &[u8; 32], request: &[u8], response: &[u8]) -> Result<Checked, PacketRefusal> {
-    let parts = trawlbeacon::signed_parts(response)?;
-    let mut text = [0; LONGEST_TEXT];
-    let length = trawlbeacon::delegation_text(response, &mut text)?;
-    let delegation = ed25519::verifies(key, &parts.delegation, &text[..length]);
-    let length = trawlbeacon::response_text(response, &mut text)?;
-    let signature = ed25519::verifies(&parts.pubk, &parts.signature, &text[..length]);
-    trawlbeacon::check_response(request, response, delegation, signature)
-}
-
 /// Serves the requests to it at this second, with one signature, and says what their clients learnt.
 fn serve(now: u64) -> Result<String, PacketRefusal> {
-    let long_term = Signer::new(&[1; 32]);
-    let (key, times) = (long_term.key(), (now, now.saturating_add(DAY)));
-    let delegated = Delegated::new(&long_term, Signer::new(&[2; 32]), times)?;
+    let long_term = SigningKey::new(&[1; 32]);
+    let (key, times) = (long_term.public_key(), (now, now.saturating_add(DAY)));
+    let delegated = Delegated::new(&long_term, SigningKey::new(&[2; 32]), times)?;
     let srv = trawlbeacon::srv_value(&key);
     // What names another server is not for this one to answer (draft 19, section 5.2).
     let requests: Vec<Vec<u8>> =
@@ -81,7 +54,8 @@ fn serve(now: u64) -> Result<String, PacketRefusal> {
     let (mut response, mut learnt) = ([0; LONGEST_PACKET], Vec::new());
     for (place, request) in requests.iter().enumerate() {
         let length = batch.answer(place, request, &mut response)?;
-        learnt.push((length, check(&key, request, &response[..length])?.window));
+        let checked = trawlbeacon::check_signed(&key, request, &response[..length])?;
+        learnt.push((length, checked.window));
     }
     learnt.dedup();
     let [(bytes, window)] = learnt[..] else { panic!("one SREP has one window") };

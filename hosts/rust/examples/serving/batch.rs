@@ -1,9 +1,9 @@
 //! A batch: requests that are answered with one signature for all of them.
 
-use super::delegation::{Delegated, Sign};
+use super::delegation::Delegated;
 use trawlbeacon::{
     Hash, Laid, PacketRefusal, Refusal, Reply, LONGEST_PACKET, MOST_LEAVES, MOST_ROWS_LENGTH,
-    RESPONSE_CONTEXT, SREP_LENGTH,
+    SREP_LENGTH,
 };
 
 /// The radius that a server claims, in seconds: the least that draft 19 (5.2.5) recommends to one
@@ -11,8 +11,8 @@ use trawlbeacon::{
 const RADI: u32 = 3;
 
 /// What all responses to a batch have in common: the tree of its requests, and the signed time.
-pub struct Batch<'a, S> {
-    delegated: &'a Delegated<S>,
+pub struct Batch<'a> {
+    delegated: &'a Delegated,
     count: usize,
     rows: Vec<u8>,
     depth: usize,
@@ -21,14 +21,14 @@ pub struct Batch<'a, S> {
     signature: [u8; 64],
 }
 
-impl<'a, S: Sign> Batch<'a, S> {
+impl<'a> Batch<'a> {
     /// Makes the tree of 1 to [`MOST_LEAVES`] good requests, and signs its root with the time
     /// `midp`.
     pub fn sign<'r>(
-        delegated: &'a Delegated<S>,
+        delegated: &'a Delegated,
         midp: u64,
         requests: impl Iterator<Item = &'r [u8]>,
-    ) -> Result<Batch<'a, S>, Refusal> {
+    ) -> Result<Batch<'a>, Refusal> {
         let leaves: Vec<u8> = requests.flat_map(trawlbeacon::leaf).collect();
         let mut rows = vec![0; MOST_ROWS_LENGTH];
         let Laid { depth, length } = trawlbeacon::rows(&leaves, &mut rows)?;
@@ -37,7 +37,7 @@ impl<'a, S: Sign> Batch<'a, S> {
         let root = rows[length - 32..].try_into().expect("a node has 32 bytes");
         let mut srep = [0; SREP_LENGTH];
         trawlbeacon::write_srep(&root, midp, RADI, &mut srep)?;
-        let signature = delegated.signer.sign(RESPONSE_CONTEXT, &srep);
+        let signature = delegated.key.sign_srep(&srep);
         Ok(Batch { delegated, count: leaves.len() / 32, rows, depth, root, midp, signature })
     }
 

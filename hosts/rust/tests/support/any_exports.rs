@@ -6,16 +6,17 @@
 
 use crate::any_trial::Trial;
 use crate::{any_clocks, any_hashes, any_header, any_packets, any_piles};
-use crate::{any_servers, any_texts, any_walks};
+use crate::{any_servers, any_signing, any_texts, any_walks};
 use std::collections::BTreeSet;
 
 /// Which stack the header says is enough. For those of which it says nothing, the least that it
-/// says of any is taken.
+/// says of any but those that sign is taken.
 #[derive(Clone, Copy)]
 pub enum Stack {
     Least,
     Tree,
     Verify,
+    Sign,
     Text,
 }
 
@@ -24,6 +25,7 @@ impl Stack {
         any_header::number(match self {
             Stack::Tree => "TB_TREE_STACK",
             Stack::Least | Stack::Verify => "TB_VERIFY_STACK",
+            Stack::Sign => "TB_SIGN_STACK",
             Stack::Text => "TB_TEXT_STACK",
         })
     }
@@ -68,6 +70,7 @@ pub fn all() -> impl Iterator<Item = &'static Export> {
     let files = [
         any_hashes::EXPORTS,
         any_packets::EXPORTS,
+        any_signing::EXPORTS,
         any_servers::EXPORTS,
         any_piles::EXPORTS,
         any_texts::EXPORTS,

@@ -19,6 +19,7 @@ pub mod piles;
 pub mod published;
 pub mod python;
 pub mod replies;
+pub mod rfc_8032;
 pub mod signed;
 pub mod signed_answers;
 pub mod signing;

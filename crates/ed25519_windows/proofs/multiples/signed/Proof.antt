@@ -1,7 +1,5 @@
 -- `ed25519_windows::multiples::signed` meets its contract.
 use borrow.Author.Needs.{needs}
-use mathlib.Core.Bool.{true, false}
-use Rattle.ed25519_windows.specs.Windows.{Turned}
 use Rattle.ed25519_windows.proofs.Coordinates.{turned-on, turned-off}
 use Rattle.ed25519_windows.proofs.multiples.signed.Statement.{statement}
 use Rattle.ed25519_windows.proofs.multiples.signed.Tie as tie
