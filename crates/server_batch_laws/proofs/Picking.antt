@@ -1,0 +1,72 @@
+-- Laws of the places at which a test holds: what is picked there, in its order, and a test that holds more rarely.
+use mathlib.Core.Bool.{Bool, true, false, cond, true≢false}
+use mathlib.Core.List.{List, [], _∷_, _++_}
+use mathlib.Core.Path.{_≡_, refl, sym, ap, _∙_}
+use Prim.Native.Nat.{ℕ, zero, suc, _+_, _≤_, _<_}
+use native.Mathlib.Omega.{arith}
+use lib.ListN.{length, getD, length-append, List·getD-append}
+use lib.Seq.{getD-append-add}
+use Rattle.laws.proofs.Split.{split}
+use Rattle.server_batch.specs.Picking.{howMany, picked}
+use Rattle.server_batch.proofs.Picked.{many-below}
+use Rattle.tree.proofs.Nodes.{Whole, whole-append}
+
+-- as many are picked as there are places,
+pub picked-length : {A : Type 0} (p : ℕ → Bool) (f : ℕ → A) (n : ℕ) → length (picked p f n) ≡ howMany p n
+unfolding picked howMany
+picked-length p f zero = refl
+picked-length p f (suc n) = by (p n) (picked-length p f n)
+  where
+    by : (t : Bool) → length (picked p f n) ≡ howMany p n
+        → length (cond t (picked p f n ++ (f n ∷ [])) (picked p f n)) ≡ cond t (suc (howMany p n)) (howMany p n)
+    by true e = length-append (picked p f n) (f n ∷ []) ∙ omega (arith, e)
+    by false e = e
+
+-- and what is picked at a place stands behind what is picked before it
+pub picked-at : {A : Type 0} (p : ℕ → Bool) (f : ℕ → A) (i : ℕ) (d : A) → p i ≡ true → (n : ℕ) → i < n
+    → getD (picked p f n) (howMany p i) d ≡ f i
+unfolding picked
+picked-at p f i d holds zero h = absurd (omega arith)
+picked-at p f i d holds (suc n) h =
+    split n i
+    (λ g.
+    let e : i ≡ n = omega arith in
+    let t : p n ≡ true = ap p (sym e) ∙ holds in
+    rw (t, e) (last n))
+    (λ g. earlier (p n) n g (picked-at p f i d holds n g))
+  where
+    last : (n : ℕ) → getD (picked p f n ++ (f n ∷ [])) (howMany p n) d ≡ f n
+    last n =
+        let e : howMany p n ≡ length (picked p f n) + 0 = omega (arith, picked-length p f n) in
+        ap (λ k. getD (picked p f n ++ (f n ∷ [])) k d) e ∙ getD-append-add (picked p f n) (f n ∷ []) 0 d
+
+    earlier : (t : Bool) (n : ℕ) → i < n → getD (picked p f n) (howMany p i) d ≡ f i
+        → getD (cond t (picked p f n ++ (f n ∷ [])) (picked p f n)) (howMany p i) d ≡ f i
+    earlier true n g e =
+        List·getD-append (picked p f n) (f n ∷ []) d (howMany p i)
+        (omega (arith, picked-length p f n, many-below p i holds n g))
+        ∙ e
+    earlier false n g e = e
+
+-- nodes are picked where f says nodes
+pub picked-whole : (p : ℕ → Bool) (f : ℕ → List ℕ) → ((i : ℕ) → length (f i) ≡ 32) → (n : ℕ) → Whole (picked p f n)
+unfolding picked
+picked-whole p f long zero = tt
+picked-whole p f long (suc n) = by (p n) (picked-whole p f long n)
+  where
+    by : (t : Bool) → Whole (picked p f n) → Whole (cond t (picked p f n ++ (f n ∷ [])) (picked p f n))
+    by true w = whole-append (picked p f n) (f n ∷ []) w (long n, tt)
+    by false w = w
+
+-- where a test implies another, it holds at no more places
+pub many-fewer : (p q : ℕ → Bool) → ((i : ℕ) → p i ≡ true → q i ≡ true) → (n : ℕ) → howMany p n ≤ howMany q n
+unfolding howMany
+many-fewer p q imply zero = omega arith
+many-fewer p q imply (suc n) = by (p n) (q n) (imply n) (many-fewer p q imply n)
+  where
+    by : (s t : Bool) → (s ≡ true → t ≡ true) → howMany p n ≤ howMany q n
+        → cond s (suc (howMany p n)) (howMany p n) ≤ cond t (suc (howMany q n)) (howMany q n)
+    by true true f h = omega arith
+    by true false f h = absurd (true≢false (sym (f refl)))
+    by false true f h = omega arith
+    by false false f h = h

@@ -1,0 +1,58 @@
+-- A call of `answer_batch`, and the answer to one of its packets as `write_response` would be told to write it.
+use mathlib.Core.Bool.{Bool}
+use mathlib.Core.List.{List}
+use mathlib.Core.Path.{_≡_}
+use Prim.Native.Nat.{ℕ, _^_, _<_}
+use lib.ListN.{length}
+use Rattle.laws.specs.Flat.{flat}
+use Rattle.tree.specs.Tree.{pathOf}
+use Rattle.server_batch.specs.Answering.{batchCode, signatureOver}
+use Rattle.server_batch.specs.Batch.{Batch, packetAt, longest, answeredAt, placeOf, leaves, depthIn, rootIn, answerAt}
+use Rattle.server_response.specs.Response.{Reply, reply}
+
+-- what the call is lent: the batch, the value of CERT, the delegated seed, MIDP and RADI; how many bytes there are for
+-- the rows and for the answers, the size of an answer's slot, and how many lengths there are
+pub record Call : Type 0 where
+  pub batch : Batch
+  pub cert : List ℕ
+  pub seed : List ℕ
+  pub midp : ℕ
+  pub radi : ℕ
+  pub rows : ℕ
+  pub out : ℕ
+  pub room : ℕ
+  pub lengths : ℕ
+
+-- nothing is refused, and the numbers have the width of their types
+pub record Taken (c : Call) : Type 0 where
+  pub passes :
+      batchCode (c .batch) (c .cert) (c .seed) (c .midp) (c .radi) (c .rows) (c .out) (c .room) (c .lengths) .code ≡ 0
+  pub midp : c .midp < 2 ^ 64
+  pub radi : c .radi < 2 ^ 32
+
+-- packet i
+abbrev pub packet : Call → ℕ → List ℕ
+packet c i = packetAt (c .batch) i
+
+-- it is answered
+abbrev pub leastOf : Call → ℕ
+leastOf c = longest (c .batch) (length (c .cert))
+
+abbrev pub answered : Call → ℕ → Bool
+answered c i = answeredAt (c .batch) (leastOf c) i
+
+-- the one signature, over the SREP of all
+abbrev pub signatureIn : Call → List ℕ
+signatureIn c = signatureOver (c .seed) (rootIn (c .batch) (leastOf c)) (c .midp) (c .radi)
+
+-- the answer to packet i
+abbrev pub answer : Call → ℕ → List ℕ
+answer c i = answerAt (c .batch) (leastOf c) (c .midp) (c .radi) (c .cert) (signatureIn c) i
+
+-- and the call of `write_response` for it: its place among the answered, with its path
+abbrev pub replyTo : Call → ℕ → Reply
+replyTo c i =
+    let b = c .batch in
+    let n = leastOf c in
+    reply (packet c i) (placeOf b n i) (rootIn b n) (flat (pathOf (leaves b n) (depthIn b n) (placeOf b n i))) (c .midp)
+    (c .radi) (c .cert) (signatureIn c)

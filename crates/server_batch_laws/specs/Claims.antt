@@ -1,0 +1,50 @@
+-- What is claimed of the answers of a batch.
+use mathlib.Core.Bool.{true}
+use mathlib.Core.List.{List}
+use mathlib.Core.Path.{_≡_}
+use Prim.Native.Nat.{ℕ, _≤_}
+use lib.ListN.{length, take}
+use Rattle.laws.specs.Written.{written}
+use Rattle.check_response.specs.Window.{windowOf}
+use Rattle.check_response.specs.declared.Verdict.the-variants.{Valid}
+use Rattle.server_response.specs.Refusing.{deleOf, mintOf, maxtOf, replyCode}
+use Rattle.server_response.specs.Response.{Reply, responseBytes}
+use Rattle.server_signed_laws.specs.Signer.{checkSigned}
+use Rattle.wire_message.specs.Tags.{SIG, SRV, PATH, PUBK, SREP, ROOT, INDX}
+use Rattle.wire_message.specs.Values.{has, valueOf}
+use Rattle.wire_packet.specs.Good.{GoodRequest}
+use Rattle.wire_packet.specs.Packet.{body}
+use Rattle.wire_packet.specs.Response.{srep}
+use Rattle.wire_request.specs.Answered.{answered}
+use Rattle.wire_request.specs.declared.Wrote.the-variants.{Done}
+
+-- the packet p is what `write_response` writes for the call a: it refuses nothing of it; lent any buffer that has room
+-- for p, it answers the length of p, and p stands at the front
+pub record Writes (a : Reply) (p : List ℕ) : Type 0 where
+  pub granted : replyCode a .code ≡ 0
+  pub done : (out : List ℕ) → length p ≤ length out → answered (replyCode a) (responseBytes a) out ≡ Done (length p)
+  pub front : (out : List ℕ) → take (length p) (written 0 (responseBytes a) out) ≡ p
+
+-- a request is meant for the server with this SRV value (draft 19, 5.2): it is a good one, and has no SRV or this one
+pub record Meant (srv q : List ℕ) : Type 0 where
+  pub request : GoodRequest q
+  pub own : has (body q) SRV ≡ true → valueOf (body q) SRV ≡ srv
+
+-- what `check_signed` answers to the response packet p to the request packet q, under a long-term key: it is valid,
+-- with the window of this MIDP and RADI and of the MINT and MAXT of CERT, and CERT's key stands beside it
+abbrev pub Passes : List ℕ → List ℕ → List ℕ → ℕ → ℕ → List ℕ → Type 0
+Passes key q p midp radi cert =
+    checkSigned key q p
+    ≡ record {
+      verdict = Valid (windowOf midp radi (mintOf cert) (maxtOf cert));
+      pubk = valueOf (deleOf cert) PUBK;
+    }
+
+-- two response packets have the same tags, and the same value for each but SIG, PATH, INDX and, in SREP, ROOT: so NONC,
+-- TYPE and CERT, and in SREP VER, RADI, MIDP and VERS
+pub record Alike (p q : List ℕ) : Type 0 where
+  pub tags : (tag : ℕ) → has (body p) tag ≡ has (body q) tag
+  pub values : (tag : ℕ) → (tag ≡ SIG → ⊥) → (tag ≡ PATH → ⊥) → (tag ≡ SREP → ⊥) → (tag ≡ INDX → ⊥)
+      → valueOf (body p) tag ≡ valueOf (body q) tag
+  pub srep-tags : (tag : ℕ) → has (srep (body p)) tag ≡ has (srep (body q)) tag
+  pub srep-values : (tag : ℕ) → (tag ≡ ROOT → ⊥) → valueOf (srep (body p)) tag ≡ valueOf (srep (body q)) tag

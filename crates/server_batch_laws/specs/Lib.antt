@@ -1,0 +1,3 @@
+-- A call that answers a batch: what it is lent and what it answers is Call; what is claimed of an answer is Claims.
+pub mod Call
+pub mod Claims
