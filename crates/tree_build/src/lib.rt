@@ -1,6 +1,6 @@
 // Trees that a server builds (draft 19, section 5.3): the root and the paths of a batch of leaves, and all rows of its
-// tree at once, for a server that answers the whole batch. `fill_rows` and `read_path` are for the crate above; no other
-// public function has a `requires`.
+// tree at once, for a server that answers the whole batch. `bytes`, `depth`, `fill_rows` and `read_path` are for the
+// crate above; no other public function has a `requires`.
 mod ascent;
 mod build;
 mod heap;
@@ -17,6 +17,8 @@ pub use build::rows;
 pub use heap::fill_rows;
 use refusal::Refusal;
 pub use siblings::read_path;
+pub use size::MOST;
+pub use size::bytes;
 pub use size::depth;
 pub use size::rows_length;
 
