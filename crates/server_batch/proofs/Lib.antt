@@ -4,3 +4,8 @@ pub mod Meant
 pub mod Laid
 pub mod Answered
 pub mod Rooms
+pub mod Batched
+pub mod Left
+pub mod Finished
+pub mod Ended
+pub mod Told

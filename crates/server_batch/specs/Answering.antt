@@ -1,6 +1,7 @@
 -- What the call answers and leaves (draft 19, 5.2 and 5.3; the order of the codes is 7, 4 to 7 of CERT, 35, 11, 20, 19).
 use mathlib.Core.Bool.{Bool, not, cond}
 use mathlib.Core.List.{List, [], _∷_}
+use mathlib.Core.Path.{_≡_}
 use Prim.Native.Nat.{ℕ, zero, suc, _+_, _*_}
 use lib.Dec.{eqb, ltb}
 use lib.ListN.{length}
@@ -22,7 +23,7 @@ use Rattle.wire_message.specs.Values.{valueOf}
 use Rattle.wire_request.specs.Texts.{responseContext}
 use Rattle.server_parts.specs.Signed.{srepBytes, radiusCode}
 use Rattle.server_response.specs.Refusing.{deleOf, certCode, midpOutside}
-use Rattle.server_batch.specs.Batch.{Batch, count, answeredAt, answers, leaves, longest, answerAt}
+use Rattle.server_batch.specs.Batch.{Batch, count, answeredAt, answers, leaves, rootIn, longest, answerAt}
 use Rattle.server_batch.specs.declared.BatchAnswer.{BatchAnswer}
 use Rattle.server_batch.specs.declared.BatchAnswer.the-variants.{Answered, Refused}
 
@@ -80,6 +81,10 @@ abbrev pub batchNumber : BatchAnswer → ℕ
 batchNumber (Answered n) = 0
 batchNumber (Refused why) = why .code
 
+-- what a buffer holds after a call with this number: what is left where it is 0, and else what it held before
+abbrev pub leftBy : ℕ → List ℕ → List ℕ → List ℕ
+leftBy number left before = cond (eqb number 0) left before
+
 -- ---- What is left, where nothing is refused: `least` is how long a packet must be that is answered
 
 -- the rows of the tree at the front of the buffer, where any packet is answered
@@ -106,3 +111,16 @@ unfoldable pub lengthsLeft : Batch → ℕ → List ℕ → List ℕ → ℕ →
 lengthsLeft b least cert signature midp radi lengths =
     fronted
     (upto (λ i. cond (answeredAt b least i) (length (answerAt b least midp radi cert signature i)) 0) (count b)) lengths
+
+-- all three, after a call whose answer has this number
+pub record LeftBy (b : Batch) (cert seed : List ℕ) (midp radi room : ℕ) (rows out lengths : List ℕ) (number : ℕ)
+    (rows-after out-after lengths-after : List ℕ) : Type 0 where
+  pub of-rows : rows-after ≡ leftBy number (rowsLeft b (longest b (length cert)) rows) rows
+  pub of-out : out-after
+      ≡ leftBy number
+      (outLeft b (longest b (length cert)) cert
+      (signatureOver seed (rootIn b (longest b (length cert))) midp radi) midp radi room out) out
+  pub of-lengths : lengths-after
+      ≡ leftBy number
+      (lengthsLeft b (longest b (length cert)) cert
+      (signatureOver seed (rootIn b (longest b (length cert))) midp radi) midp radi lengths) lengths

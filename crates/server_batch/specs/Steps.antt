@@ -16,8 +16,8 @@ use Rattle.tree_build.specs.Leaves.{most}
 use Rattle.tree_build.specs.Level.{CanRead}
 use Rattle.wire_packet.specs.Request.{requestBad}
 use Rattle.server_response.specs.Response.{reply, responseBytes}
-use Rattle.server_batch.specs.Answering.{signatureOver, outAfter}
-use Rattle.server_batch.specs.Batch.{Batch, count, packetIn, meantAt}
+use Rattle.server_batch.specs.Answering.{signatureOver, outAfter, rowsLeft, outLeft, lengthsLeft}
+use Rattle.server_batch.specs.Batch.{Batch, count, packetIn, meantAt, answers, rootIn, longest}
 use Rattle.server_batch.specs.Picking.{howMany, picked}
 use Rattle.server_batch.specs.declared.Said.{Said}
 
@@ -136,8 +136,18 @@ pub record CanServe (stays : ℕ → Bool) (k n c least rows out room : ℕ) : T
 -- they are: the rows over the k leaves that stood at the front of them, and the answers
 pub record Served (packets : List ℕ) (slot : ℕ) (lengths marks : List ℕ) (least k : ℕ) (cert seed : List ℕ)
     (midp radi room : ℕ) (rows out rows-after out-after : List ℕ) : Type 0 where
+  pub whole : Whole (saidOf rows-after (depthOf k) seed midp radi)
   pub laid : Puts rows 0 (flat (levels (nodesIn k rows) (depthOf k) 0)) rows-after (32 * nodesOf (depthOf k))
   pub answered : out-after
       ≡ outAfter (stayAt marks lengths least)
       (answersIn packets slot lengths marks least rows-after (depthOf k) (saidOf rows-after (depthOf k) seed midp radi) cert)
       room out (length lengths)
+
+-- what is left of a batch, where nothing is refused: r packets are answered
+pub record Left (b : Batch) (least : ℕ) (cert seed : List ℕ) (midp radi room : ℕ) (rows out lengths : List ℕ)
+    (rows-after out-after lengths-after : List ℕ) (r : ℕ) : Type 0 where
+  pub many : r ≡ answers b least
+  pub of-rows : rows-after ≡ rowsLeft b least rows
+  pub of-out : out-after ≡ outLeft b least cert (signatureOver seed (rootIn b least) midp radi) midp radi room out
+  pub of-lengths : lengths-after
+      ≡ lengthsLeft b least cert (signatureOver seed (rootIn b least) midp radi) midp radi lengths

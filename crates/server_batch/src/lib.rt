@@ -1,6 +1,7 @@
 // A whole batch in one call (draft 19, 5.2 and 5.3): which of the packets are answered, the tree over these, one
 // signature by the delegated key, and the answers, each at the front of its slot.
 mod answering;
+mod batch;
 mod laying;
 mod marking;
 mod measuring;
@@ -8,6 +9,7 @@ mod refusing;
 mod saying;
 mod serving;
 
+pub use batch::answer_batch;
 use refusal::Refusal;
 
 // How many packets were answered, or why nothing was written.

@@ -3,7 +3,7 @@
 use mathlib.Core.Bool.{true, false}
 use mathlib.Core.List.{List, [], _++_, append-nil}
 use mathlib.Core.Path.{_≡_, refl, sym, ap, ap₂, subst, _∙_}
-use Prim.Native.Nat.{ℕ, _*_, _≤_, _<_}
+use Prim.Native.Nat.{ℕ, _+_, _*_, _≤_, _<_}
 use native.Mathlib.Omega.{arith}
 use lib.ListN.{length, drop}
 use lib.Seq.{take-at}
@@ -138,11 +138,12 @@ module _ (c : Call) (t : Taken c) (i : ℕ) (holds : answered c i ≡ true) wher
   good : requestBad (packet c i) ≡ false
   good = meant-good (c .batch .srv) (packet c i) (stays .meant)
 
+  long : length (responseBytes a) ≡ 264 + 32 * depthOf n + length (c .cert)
+  long = length-response a (sized a (typed .root) (typed .signature) good) ∙ omega (arith, tree .path-long)
+
   short : length (responseBytes a) ≤ length (packet c i)
   unfolding longest
-  short =
-      let size = length-response a (sized a (typed .root) (typed .signature) good) in
-      omega (arith, size, tree .path-long, depth-rises _ _ fewer few, stays .long, packet-long c ok i stays)
+  short = omega (arith, long, depth-rises _ _ fewer few, stays .long, packet-long c ok i stays)
 
   pub granted : Granted a
   granted =
@@ -169,10 +170,16 @@ module _ (c : Call) (t : Taken c) (i : ℕ) (holds : answered c i ≡ true) wher
         front = λ out. take-at p (drop (length p) out) (length p) refl;
       }
 
-  -- and no longer than the packet.
+  -- and so is no longer than the packet, nor than its slot.
   pub answer-short : length (answer c i) ≤ length (packet c i)
   unfolding answerAt
   answer-short = short
+
+  pub answer-fits : length (answer c i) ≤ c .room
+  unfolding answerAt
+  answer-fits =
+      let all = many-most (meantAt (c .batch)) (count (c .batch)) in
+      omega (arith, long, depth-rises n (count (c .batch)) (omega (arith, fewer, all)) (ok .few), ok .room)
 
   -- ---- its signatures
 

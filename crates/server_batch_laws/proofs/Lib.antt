@@ -1,9 +1,12 @@
 -- Picking: the places at which a test holds. Depths: trees of more leaves are not less deep. Taken: what a call that
 -- refuses nothing was lent. Answers: each answer is what `write_response` writes, passes, and is not longer than its
--- request. Meant: which packets are answered. Alone: what the other packets change of an answer.
+-- request. Meant: which packets are answered. Alone: what the other packets change of an answer. Found: where a host
+-- finds the answers. Single: that there are such calls.
 pub mod Picking
 pub mod Depths
 pub mod Taken
 pub mod Answers
 pub mod Meant
 pub mod Alone
+pub mod Found
+pub mod Single

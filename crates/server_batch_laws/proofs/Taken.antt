@@ -18,6 +18,7 @@ use Rattle.refusal.specs.Refusal.{refusals}
 use Rattle.server_batch.specs.Answering.{otherKey, countWrong, roomShort, keysCode, sizesCode, batchCode}
 use Rattle.server_batch.specs.Batch.{count, sizeAt, packetIn, meantFor, meantAt, longest, answeredAt}
 use Rattle.server_response.specs.Refusing.{deleOf, mintOf, maxtOf, certCode, midpOutside}
+use Rattle.tree.specs.Tree.{depthOf}
 use Rattle.tree_build.specs.Leaves.{most}
 use Rattle.wire_message.specs.Rules.{messageCode}
 use Rattle.wire_message.specs.Tags.{PUBK}
@@ -35,6 +36,8 @@ pub record Lent (c : Call) : Type 0 where
   pub to : c .midp ≤ maxtOf (c .cert)
   pub few : count (c .batch) ≤ most
   pub whole : c .batch .slot * count (c .batch) ≤ length (c .batch .packets)
+  pub slots : c .room * count (c .batch) ≤ c .out
+  pub room : 264 + 32 * depthOf (count (c .batch)) + length (c .cert) ≤ c .room
 
 pub lent : (c : Call) → Taken c → Lent c
 unfolding batchCode keysCode sizesCode certCode otherKey midpOutside countWrong roomShort
@@ -49,6 +52,8 @@ lent c t =
     let times = any-parts _ _ (test-quiet refusals _ _ tt (c11 .0)) in
     let counts = any-parts _ _ (test-quiet refusals _ _ tt (sizes .0)) in
     let rooms = any-parts _ _ (test-quiet refusals _ _ tt (row-quiet refusals _ _ (sizes .1) .0)) in
+    let slots = any-parts _ _ (any-parts _ _ (rooms .1) .1) in
+    let last = any-parts _ _ (any-parts _ _ (slots .1) .1) in
     let some = eqb-false (c .radi) 0 (test-quiet refusals _ _ tt (c7 .0)) in
     record {
       radius = omega (arith, some);
@@ -59,6 +64,8 @@ lent c t =
       to = ltb-false _ _ (any-parts _ _ (times .1) .0);
       few = ltb-false _ _ (any-parts _ _ (counts .1) .0);
       whole = ltb-false _ _ (rooms .0);
+      slots = ltb-false _ _ (slots .0);
+      room = ltb-false _ _ (last .0);
     }
 
 -- ---- a packet that is answered

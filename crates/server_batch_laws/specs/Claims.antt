@@ -2,8 +2,8 @@
 use mathlib.Core.Bool.{true}
 use mathlib.Core.List.{List}
 use mathlib.Core.Path.{_≡_}
-use Prim.Native.Nat.{ℕ, _≤_}
-use lib.ListN.{length, take}
+use Prim.Native.Nat.{ℕ, _*_, _≤_}
+use lib.ListN.{length, take, drop, getD}
 use Rattle.laws.specs.Written.{written}
 use Rattle.check_response.specs.Window.{windowOf}
 use Rattle.check_response.specs.declared.Verdict.the-variants.{Valid}
@@ -24,6 +24,11 @@ pub record Writes (a : Reply) (p : List ℕ) : Type 0 where
   pub granted : replyCode a .code ≡ 0
   pub done : (out : List ℕ) → length p ≤ length out → answered (replyCode a) (responseBytes a) out ≡ Done (length p)
   pub front : (out : List ℕ) → take (length p) (written 0 (responseBytes a) out) ≡ p
+
+-- a host finds the packet p in slot i of `room` bytes: it is as many bytes at the front of the slot as length i says
+pub record Finds (p : List ℕ) (i room : ℕ) (out lengths : List ℕ) : Type 0 where
+  pub size : getD lengths i 0 ≡ length p
+  pub bytes : take (getD lengths i 0) (drop (room * i) out) ≡ p
 
 -- a request is meant for the server with this SRV value (draft 19, 5.2): it is a good one, and has no SRV or this one
 pub record Meant (srv q : List ℕ) : Type 0 where

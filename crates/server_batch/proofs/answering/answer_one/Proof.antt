@@ -15,12 +15,6 @@ use borrow.Author.Needs.{needs}
 use borrow.Author.Needs.{needs}
 use Rattle.server_batch.proofs.answering.answer_one.Statement.{statement}
 use Rattle.server_batch.proofs.answering.answer_one.Tie as tie
-use Rattle.server_batch.proofs.answering.answer_one.Reads as reads
-use Rattle.server_batch.proofs.answering.answer_one.Lts as lts
-use Rattle.server_batch.proofs.answering.write_answer.Reads as write-answer-reads
-use Rattle.server_batch.proofs.laying.stays.Reads as stays-reads
-use Rattle.server_batch.proofs.marking.packet.Reads as packet-reads
-use Rattle.server_batch.proofs.marking.wide.Reads as wide-reads
 
 abbrev start : tie.After-stays → tie.Start
 start t = t .before .before .before .before .before .before .before .before .before .before

@@ -11,14 +11,6 @@ use borrow.Author.Needs.{needs}
 use borrow.Author.Needs.{needs}
 use Rattle.server_batch.proofs.answering.write_answer.Statement.{statement}
 use Rattle.server_batch.proofs.answering.write_answer.Tie as tie
-use Rattle.server_batch.proofs.answering.write_answer.Reads as reads
-use Rattle.server_batch.proofs.answering.write_answer.Lts as lts
-use Rattle.server_batch.proofs.marking.wide.Reads as wide-reads
-use Rattle.server_response.proofs.put_behind.Reads as put-behind-reads
-use Rattle.server_response.proofs.put_front.Reads as put-front-reads
-use Rattle.tree_build.proofs.read_path.Reads as read-path-reads
-use Rattle.wire_packet.proofs.fields.value32.Reads as value32-reads
-use Rattle.wire_packet.proofs.packet.body_of.Reads as body-of-reads
 
 wide-requires : tie.Need-wide-requires
 wide-requires c κs = search needs

@@ -53,6 +53,7 @@ returns c =
     let d = f .before .before in
     let deep = d .depth .ensures .0 in
     record {
+      whole = rw (y .say .ensures .0, deep) at (y .say .ensures .1);
       laid = rw deep at (f .fill-rows .ensures);
       answered = rw (y .say .ensures .0, deep) at (e .answer-each .ensures);
     }

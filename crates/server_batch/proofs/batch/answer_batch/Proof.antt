@@ -1,0 +1,50 @@
+-- `server_batch::batch::answer_batch` meets its contract. Each way out has its law.
+use Rattle.laws.proofs.First.{says-0, says-more, is-last}
+use Rattle.refusal.specs.Refusal.{refusals}
+use Rattle.server_batch.specs.Answering.{batchCode}
+use Rattle.server_batch.proofs.Told.{sizes-right, told-refused, told-answered}
+use borrow.Author.Needs.{needs}
+use Rattle.server_batch.proofs.batch.answer_batch.Statement.{statement}
+use Rattle.server_batch.proofs.batch.answer_batch.Tie as tie
+
+returns : tie.Need-returns
+unfolding batchCode
+returns c =
+    told-refused _ _ _ _ _ _ _ _ _ (says-more refusals _ (c .before .before .keys-code .ensures) (c .if1 .taken)) (c .if1 .taken)
+
+returns-2 : tie.Need-returns-2
+unfolding batchCode
+returns-2 c =
+    let i = c .before .before .before in
+    told-refused _ _ _ _ _ _ _ _ _
+    (says-0 refusals _ _ (i .before .before .keys-code .ensures) (i .if1 .left)
+    (is-last refusals (c .before .before .sizes-code .ensures))) (c .if2 .taken)
+
+answer-all-requires : tie.Need-answer-all-requires
+answer-all-requires c κs =
+    let j = c .before .before .before in
+    sizes-right _ _ _ _ _ _ _ _ (j .before .before .sizes-code .ensures) (j .if2 .left)
+
+returns-3 : tie.Need-returns-3
+unfolding batchCode
+returns-3 c =
+    let j = c .before .before .before .before .before .before .before .before .before .before in
+    let z = j .before .before in
+    let i = z .before in
+    told-answered _ _ _ _ _ _ _ _ _
+    (says-0 refusals _ _ (i .before .before .keys-code .ensures) (i .if1 .left)
+    (is-last refusals (z .sizes-code .ensures))) (j .if2 .left) (c .before .before .before .before .before .before .answer-all .ensures)
+
+pub answer-batch-spec : {M : Type 1} → statement M
+answer-batch-spec =
+    tie.close
+    (tie.spec
+    (λ c κs. search needs)
+    returns
+    (λ c κs. search needs)
+    returns-2
+    answer-all-requires
+    (λ c. search needs)
+    (λ c. search needs)
+    (λ c. search needs)
+    returns-3)

@@ -1,0 +1,147 @@
+// A whole batch in one call.
+ghost use mathlib.Core.Path.{_≡_};
+ghost use Prim.Native.Nat.{_+_, _*_, _^_, _≤_, _<_};
+ghost use lib.ListN.{length};
+ghost use Rattle.tree.specs.Tree.{depthOf};
+ghost use Rattle.tree_build.specs.Leaves.{most};
+ghost use Rattle.server_batch.specs.Batch.{batch, longest};
+ghost use Rattle.server_batch.specs.Answering.{batchCode, batchAnswer, batchNumber, LeftBy};
+ghost use Rattle.server_batch.specs.Steps.{Enough, Left};
+use super::BatchAnswer;
+use super::laying::put_leaves;
+use super::marking::mark;
+use super::marking::wide;
+use super::measuring::put_lengths;
+use super::refusing::keys_code;
+use super::refusing::sizes_code;
+use super::serving::serve;
+use tree_build::depth;
+
+// How many bytes an answer has with the path of n leaves and a CERT of c bytes.
+fn answer_length(n: usize, c: usize) -> usize
+    requires { ⌜ (n ≤ most) × (264 + 32 * depthOf n + c < 2 ^ 64) ⌝ }
+    ensures { λ r. ⌜ r ≡ 264 + 32 * depthOf n + c ⌝ }
+{
+    if n == 0 {
+        return 264 + c;
+    }
+    264 + 32 * wide(depth(n)) + c
+}
+
+// The answers to a batch of which nothing is refused. Answers how many there are.
+pub fn answer_all(
+    packets: &[u8],
+    slot: usize,
+    lengths: &[u32],
+    srv: [u8; 32],
+    cert: &[u8],
+    seed: [u8; 32],
+    midp: u64,
+    radi: u32,
+    rows: &mut [u8],
+    out: &mut [u8],
+    room: usize,
+    marks: &mut [u32],
+) -> usize
+    requires { ⌜
+        (0 < length (now lengths))
+        × (length (now lengths) ≤ most)
+        × Enough (length (now lengths)) (length (now cert)) (length (now packets)) slot (length (now rows))
+        (length (now out)) room (length (now marks))
+        ⌝ }
+    ensures { λ r. ⌜
+        Left (batch (now (packets .entry)) slot (now (lengths .entry)) srv)
+        (longest (batch (now (packets .entry)) slot (now (lengths .entry)) srv) (length (now (cert .entry))))
+        (now (cert .entry)) seed midp radi room (now (rows .entry)) (now (out .entry)) (now (marks .entry))
+        (now (rows .exit)) (now (out .exit)) (now (marks .exit)) r
+        ⌝ }
+{
+    let n = mark(packets, slot, lengths, srv, marks);
+    let least = answer_length(n, cert.len());
+    let k = put_leaves(packets, slot, lengths, marks, least, rows);
+    if k == 0 {
+        put_lengths(lengths, least, 0, marks);
+        return 0;
+    }
+    serve(
+        packets,
+        slot,
+        lengths,
+        marks,
+        least,
+        k,
+        cert,
+        seed,
+        midp,
+        radi,
+        rows,
+        out,
+        room,
+    );
+    let size = answer_length(k, cert.len());
+    put_lengths(lengths, least, size as u32, marks);
+    k
+}
+
+// The answers to a batch of packets, in slots of one size with the lengths of the packets: each answer at the front of
+// its slot of room bytes, its length in out_lengths, 0 where there is none, and the rows of the tree at the front of
+// rows. cert is the value of CERT, and seed that of the delegated key. Refused, in this order and before anything is
+// written, with 7 for RADI 0; 4 to 7 for CERT and its DELE; 35; 11; 20; 19.
+pub fn answer_batch(
+    packets: &[u8],
+    slot: usize,
+    lengths: &[u32],
+    srv: [u8; 32],
+    cert: &[u8],
+    seed: [u8; 32],
+    midp: u64,
+    radi: u32,
+    rows: &mut [u8],
+    out: &mut [u8],
+    room: usize,
+    out_lengths: &mut [u32],
+) -> BatchAnswer
+    ensures { λ r. ⌜
+        r
+        ≡ batchAnswer (batch (now (packets .entry)) slot (now (lengths .entry)) srv) (now (cert .entry))
+        (batchCode (batch (now (packets .entry)) slot (now (lengths .entry)) srv) (now (cert .entry)) seed midp radi
+        (length (now (rows .entry))) (length (now (out .entry))) room (length (now («out_lengths» .entry))))
+        ⌝ }
+    ensures { λ r. ⌜
+        LeftBy (batch (now (packets .entry)) slot (now (lengths .entry)) srv) (now (cert .entry)) seed midp radi room
+        (now (rows .entry)) (now (out .entry)) (now («out_lengths» .entry)) (batchNumber r) (now (rows .exit))
+        (now (out .exit)) (now («out_lengths» .exit))
+        ⌝ }
+{
+    let why = keys_code(cert, seed, midp, radi);
+    if why.code != 0 {
+        return BatchAnswer::Refused(why);
+    }
+    let short = sizes_code(
+        lengths.len(),
+        cert.len(),
+        packets.len(),
+        slot,
+        rows.len(),
+        out.len(),
+        room,
+        out_lengths.len(),
+    );
+    if short.code != 0 {
+        return BatchAnswer::Refused(short);
+    }
+    BatchAnswer::Answered(answer_all(
+        packets,
+        slot,
+        lengths,
+        srv,
+        cert,
+        seed,
+        midp,
+        radi,
+        rows,
+        out,
+        room,
+        out_lengths,
+    ))
+}
