@@ -233,23 +233,24 @@ static inline const char *tb_code_text(uint32_t code) {
 #define TB_MOST_ROWS_LENGTH (32 * (2 * TB_MOST_LEAVES - 1))
 
 /* Bytes of stack that are enough for every tree operation; hosts/c/stack.c sees on the machine at
- * hand whether they are. tb_root, tb_path and tb_rows have room there for two levels of
- * TB_MOST_LEAVES nodes, one of which is made of the other: 69,280 bytes at the most, measured on
- * aarch64, and 35,184 for one leaf. tb_path_from takes next to nothing, and tb_leads 1,456. */
+ * hand whether they are. tb_root and tb_path have room there for two levels of TB_MOST_LEAVES
+ * nodes, one of which is made of the other: 70,248 bytes at the most, measured on x86-64. tb_rows
+ * works in the buffer that it is lent and takes 1,336, tb_leads 1,448, tb_path_from next to
+ * nothing. */
 #define TB_TREE_STACK 131072
 
 /* Bytes of stack that are enough for a verification and for every function that verifies by itself
- * but tb_cut_signed_text. A verification takes 5,960, and tb_walk_take_signed, which takes the most
- * of them, 9,272, measured on x86-64. hosts/c/stack.c measures them anew. */
+ * but tb_cut_signed_text. A verification takes 7,336, and tb_walk_take_signed, which takes the most
+ * of them, 10,968, measured on x86-64. hosts/c/stack.c measures them anew. */
 #define TB_VERIFY_STACK 16384
 
 /* Bytes of stack that are enough for tb_public_key, tb_sign and tb_sign_parts. A signature takes
- * 4,824, measured on x86-64. hosts/c/stack.c measures them anew. */
+ * 4,840, measured on x86-64. hosts/c/stack.c measures them anew. */
 #define TB_SIGN_STACK 8192
 
 /* Bytes of stack that are enough for tb_cut_text and tb_cut_signed_text, which hold sixteen records
- * there: 72,488 and 73,992, measured on x86-64. hosts/c/stack.c measures them anew. Of functions
- * for which none of the four constants is meant it measures 26, and none takes over 10,208. */
+ * there: 72,488 and 75,368, measured on x86-64. hosts/c/stack.c measures them anew. Of functions
+ * for which none of the four constants is meant it measures 26, and none takes over 11,880. */
 #define TB_TEXT_STACK 98304
 
 /* Bytes of a record of a list of servers. */
