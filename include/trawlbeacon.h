@@ -249,8 +249,8 @@ static inline const char *tb_code_text(uint32_t code) {
 #define TB_VERIFY_STACK 16384
 
 /* Bytes of stack that are enough for tb_public_key, tb_sign and tb_sign_parts. A signature takes
- * NNNN, measured on x86-64. hosts/c/stack.c measures them anew. */
-#define TB_SIGN_STACK 12288
+ * 4,824, measured on x86-64. hosts/c/stack.c measures them anew. */
+#define TB_SIGN_STACK 8192
 
 /* Bytes of stack that are enough for tb_cut_text and tb_cut_signed_text, which hold sixteen records
  * there: 72,488 and 75,800, measured on x86-64, and 72,576 and 76,048 under an emulator of

@@ -10,7 +10,7 @@ use crate::{any_servers, any_signing, any_texts, any_walks};
 use std::collections::BTreeSet;
 
 /// Which stack the header says is enough. For those of which it says nothing, the least that it
-/// says of any is taken.
+/// says of any but those that sign is taken.
 #[derive(Clone, Copy)]
 pub enum Stack {
     Least,
@@ -24,8 +24,8 @@ impl Stack {
     pub fn bytes(self) -> usize {
         any_header::number(match self {
             Stack::Tree => "TB_TREE_STACK",
-            Stack::Least | Stack::Sign => "TB_SIGN_STACK",
-            Stack::Verify => "TB_VERIFY_STACK",
+            Stack::Least | Stack::Verify => "TB_VERIFY_STACK",
+            Stack::Sign => "TB_SIGN_STACK",
             Stack::Text => "TB_TEXT_STACK",
         })
     }
