@@ -252,9 +252,13 @@ static inline const char *tb_code_text(uint32_t code) {
  * 4,824, measured on x86-64. hosts/c/stack.c measures them anew. */
 #define TB_SIGN_STACK 8192
 
+/* Bytes of stack that are enough for tb_answer_batch, which signs once and remembers there which
+ * packets it answers. hosts/c/stack.c measures it. */
+#define TB_BATCH_STACK 16384
+
 /* Bytes of stack that are enough for tb_cut_text and tb_cut_signed_text, which hold sixteen records
  * there: 72,488 and 75,800, measured on x86-64, and 72,576 and 76,048 under an emulator of
- * aarch64. hosts/c/stack.c measures them anew. Of functions for which none of the four constants is
+ * aarch64. hosts/c/stack.c measures them anew. Of functions for which none of the five constants is
  * meant it measures 26, and none takes over 10,208. */
 #define TB_TEXT_STACK 98304
 

@@ -123,8 +123,8 @@ impl Batch {
     }
 
     /// Answers the packets with the time `midp` and its radius, in seconds, and tells how many have
-    /// an answer, as [`answer_batch`] says. Its refusals but 19 are those here, and then there are no
-    /// answers.
+    /// an answer, as [`answer_batch`] says. The refusals are those of that but 19, and then there are
+    /// no answers.
     pub fn answer(&mut self, midp: u64, radi: u32) -> Result<usize, PacketRefusal> {
         self.out_lengths.clear();
         self.out_lengths.resize(self.lengths.len(), 0);
