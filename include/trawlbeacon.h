@@ -243,9 +243,8 @@ static inline const char *tb_code_text(uint32_t code) {
 #define TB_TREE_STACK 131072
 
 /* Bytes of stack that are enough for a verification and for every function that verifies by itself
- * but tb_cut_signed_text. A verification takes 7,768, and tb_write_signed_report, which takes the
- * most of them, 10,328, measured on x86-64, and 7,936 and 10,528 under an emulator of aarch64.
- * hosts/c/stack.c measures them anew. */
+ * but tb_cut_signed_text. A verification takes 5,960, and tb_walk_take_signed, which takes the most
+ * of them, 9,272, measured on x86-64. hosts/c/stack.c measures them anew. */
 #define TB_VERIFY_STACK 16384
 
 /* Bytes of stack that are enough for tb_public_key, tb_sign and tb_sign_parts. A signature takes
@@ -257,9 +256,8 @@ static inline const char *tb_code_text(uint32_t code) {
 #define TB_BATCH_STACK 16384
 
 /* Bytes of stack that are enough for tb_cut_text and tb_cut_signed_text, which hold sixteen records
- * there: 72,488 and 75,800, measured on x86-64, and 72,576 and 76,048 under an emulator of
- * aarch64. hosts/c/stack.c measures them anew. Of functions for which none of the five constants is
- * meant it measures 26, and none takes over 10,208. */
+ * there: 72,488 and 73,992, measured on x86-64. hosts/c/stack.c measures them anew. Of functions
+ * for which none of the five constants is meant it measures 26, and none takes over 10,208. */
 #define TB_TEXT_STACK 98304
 
 /* Bytes of a record of a list of servers. */

@@ -3,18 +3,16 @@ use Prim.Native.Nat.{ℕ, zero, suc, _+_, _*_, _/_, _%_, _^_, _≤_, _<_}
 use mathlib.Core.Path.{_≡_, sym, ap, _∙_}
 use mathlib.Core.List.{[], _∷_}
 use native.Mathlib.Omega.{arith}
-use native.Mathlib.Nat.{pow-zero, pow-suc, mul-comm, mul-assoc, div-one, div-div-eq-div-mul, div-lt-iff-lt-mul}
+use native.Mathlib.Nat.{pow-zero, mul-assoc, div-one, div-lt-iff-lt-mul}
 use native.Mathlib.Nat.{lt-of-lt-of-le}
 use lib.Dec.{leb→le, lit<}
 use lib.ListN.{set, getD}
 use Rattle.laws.specs.Numbers.{leBytes}
 use Rattle.ed25519_field.specs.Field.{p}
+use Rattle.ed25519_field.proofs.Octets.{above, lowest-same, others-more}
 use Rattle.ed25519_point.specs.Encoding.{encodeOf}
 
--- what lies above the first k + 1 bytes
-above : (k y : ℕ) → y / 256 / 256 ^ k ≡ y / 256 ^ suc k
-above k y = div-div-eq-div-mul y 256 (256 ^ k) ∙ ap (λ n. y / n) (mul-comm 256 (256 ^ k) ∙ sym (pow-suc 256 k))
-
+-- the last of k + 1 bytes
 last-of : (k y : ℕ) → getD (leBytes (suc k) y) k 0 ≡ y / 256 ^ k % 256
 unfolding leBytes
 last-of zero y = rw (pow-zero, div-one)
@@ -28,11 +26,7 @@ raised zero y a h =
     let e : y % 256 + a ≡ (y + 1 * a) % 256 = omega arith in
     rw pow-zero (ap (λ n. n ∷ []) e)
 raised (suc k) y a h =
-    let t : ℕ = 256 ^ k * a in
-    let e : 256 ^ suc k * a ≡ 256 * t = rw (pow-suc 256 k) (omega arith) in
-    let low : (y + 256 * t) % 256 ≡ y % 256 = omega arith in
-    let high : (y + 256 * t) / 256 ≡ y / 256 + t = omega arith in
-    rw (e, low, high) (ap (λ l. y % 256 ∷ l) (raised k (y / 256) a (rw (above k y) h)))
+    rw (lowest-same k y a, others-more k y a) (ap (λ l. y % 256 ∷ l) (raised k (y / 256) a (rw (above k y) h)))
 
 p-top : p ≤ 128 * 256 ^ 31
 unfolding p

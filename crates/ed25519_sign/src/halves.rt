@@ -44,7 +44,7 @@ pub fn first_half(prefix: &[u8], zero: u64, context: &[u8], text: &[u8]) -> Firs
     }
 }
 
-// S = (r + k s) mod L, where s and k have the bytes of theirs (step 5).
+// S = (r + k s) mod L, of the bytes of k and of s (step 5).
 fn number_s(r: Scalar, k: &[u8], s: &[u8]) -> [u8; 32]
     requires { ⌜ Low r × (value radix r < L) × (length (now s) ≡ 32) × (value 256 (now s) < 2 ^ 255) ⌝ }
     ensures { λ b. ⌜ b

@@ -3,10 +3,8 @@
 use crate::any_answers::Answer;
 use crate::any_exports::{export, Export, Stack::Batch};
 use crate::any_trial::{Trial, Use, MOST_BYTES};
-use independent::ed25519::Ed25519;
 use independent::respond;
-use std::sync::OnceLock;
-use trawlbeacon::raw;
+use trawlbeacon::{raw, SigningKey};
 
 pub const EXPORTS: &[Export] = &[export(
     "tb_answer_batch",
@@ -16,13 +14,8 @@ pub const EXPORTS: &[Export] = &[export(
     answer_batch,
 )];
 
-/// The seed of the delegated key, and its public key.
+/// The seed of the delegated key.
 const SEED: [u8; 32] = [7; 32];
-
-fn public_key() -> [u8; 32] {
-    static KEY: OnceLock<[u8; 32]> = OnceLock::new();
-    *KEY.get_or_init(|| Ed25519::new().secret(&SEED).public)
-}
 
 /// Slots with packets, their lengths, and the SRV value that the first of them names.
 fn slots(t: &mut Trial, slot: usize, count: usize) -> (Vec<u8>, Vec<u32>, [u8; 32]) {
@@ -61,7 +54,8 @@ fn answer_batch(t: &mut Trial) {
     }
     let (midp, width) = (t.make.number(), count.next_power_of_two());
     let mint = if t.make.random.once_in(8) { t.make.number() } else { midp };
-    let pubk = if t.make.random.once_in(8) { t.make.array() } else { public_key() };
+    let own = SigningKey::new(&SEED).public_key();
+    let pubk = if t.make.random.once_in(8) { t.make.array() } else { own };
     let right = respond::cert(&pubk, mint, mint.max(midp), &t.make.array());
     let cert = if t.make.random.once_in(3) { t.make.near(&right, &right) } else { right };
     let radi = if t.make.random.once_in(16) { t.make.word() } else { 5 };
