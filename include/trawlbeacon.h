@@ -134,7 +134,7 @@ enum tb_code {
     /* no time lies in the windows of enough servers */
     TB_NO_AGREEMENT = 34,
     /* the seed's public key is not the PUBK of CERT */
-    TB_SEED = 35
+    TB_OTHER_KEY = 35
 };
 
 /* What a code says, in words. */
@@ -213,7 +213,7 @@ static inline const char *tb_code_text(uint32_t code) {
         return "no more servers are counted than may lie";
     case TB_NO_AGREEMENT:
         return "no time lies in the windows of enough servers";
-    case TB_SEED:
+    case TB_OTHER_KEY:
         return "the seed's public key is not the PUBK of CERT";
     default:
         return "no such code";

@@ -1806,7 +1806,7 @@ static void expect_batch(void) {
     expect_unanswered(TB_LEAVES, answer_some(TB_MOST_LEAVES + 1, DELEGATED, BATCH_MINT, 3, 0));
     expect_unanswered(TB_TIME, answer_some(0, DELEGATED, BATCH_MAXT + 1, 3, 0));
     expect_unanswered(TB_TIME, answer_some(0, DELEGATED, BATCH_MINT - 1, 3, 0));
-    expect_unanswered(TB_SEED, answer_some(0, LONG_TERM, BATCH_MAXT + 1, 3, 0));
+    expect_unanswered(TB_OTHER_KEY, answer_some(0, LONG_TERM, BATCH_MAXT + 1, 3, 0));
     expect_unanswered(TB_VALUE, answer_some(0, LONG_TERM, BATCH_MAXT + 1, 0, 0));
     batch.cert[0] = 0;
     expect_unanswered(TB_FRAME, answer_some(0, LONG_TERM, BATCH_MAXT + 1, 3, 0));

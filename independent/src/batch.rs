@@ -77,7 +77,7 @@ impl Desk<'_> {
             at: place::in_cert(self.cert).map(|place| place.at),
         })?;
         if delegation.pubk != self.secret.public {
-            return Err(Refusal::Seed.into());
+            return Err(Refusal::OtherKey.into());
         }
         if !(delegation.mint..=delegation.maxt).contains(&self.midp) {
             return Err(Refusal::Time.into());

@@ -79,7 +79,7 @@ pub enum Refusal {
     /// Of a clock, no time lies in the windows of enough servers.
     NoAgreement = 34,
     /// The key that a batch is to be signed with is not the one that CERT delegates to.
-    Seed = 35,
+    OtherKey = 35,
 }
 
 impl Refusal {

@@ -82,7 +82,7 @@ pub enum Refusal {
     /// no time lies in the windows of enough servers
     NoAgreement,
     /// the seed's public key is not the PUBK of CERT
-    Seed,
+    OtherKey,
 }
 
 impl Refusal {
@@ -124,7 +124,7 @@ impl Refusal {
             Refusal::ClockInput => 32,
             Refusal::TooFew => 33,
             Refusal::NoAgreement => 34,
-            Refusal::Seed => 35,
+            Refusal::OtherKey => 35,
         }
     }
 
@@ -197,7 +197,7 @@ impl Refusal {
             }
             Refusal::TooFew => "no more servers are counted than may lie",
             Refusal::NoAgreement => "no time lies in the windows of enough servers",
-            Refusal::Seed => "the seed's public key is not the PUBK of CERT",
+            Refusal::OtherKey => "the seed's public key is not the PUBK of CERT",
         }
     }
 
@@ -239,7 +239,7 @@ impl Refusal {
             32 => Refusal::ClockInput,
             33 => Refusal::TooFew,
             34 => Refusal::NoAgreement,
-            35 => Refusal::Seed,
+            35 => Refusal::OtherKey,
             _ => return None,
         })
     }
