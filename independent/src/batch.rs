@@ -156,7 +156,7 @@ impl<'a> Lent<'a> {
         if count == 0 || count > MOST_LEAVES {
             return Err(Refusal::Leaves);
         }
-        let slots = |size: usize| size.checked_mul(count).unwrap_or(usize::MAX);
+        let slots = |size: usize| size.saturating_mul(count);
         let nodes: usize = (0..=depth(count)).map(|level| 1 << level).sum();
         let room = slots(self.slot) <= self.packets.len()
             && 32 * nodes <= self.rows
