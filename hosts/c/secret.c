@@ -46,7 +46,7 @@ void leaking_division(size_t n) {
     for (size_t i = 0; i < sizeof out; i++) out[i] = (uint8_t)(n / (seed[i % sizeof seed] | 1u));
 }
 
-/* The key hangs on the seed, and is taken for as secret; the signature is made public. */
+/* The key hangs on the seed, and is taken for secret; the signature is made public. */
 static void leaking_verify(size_t n) {
     uint8_t key[32] = {0}, signature[64] = {0};
     tb_public_key(seed, key);

@@ -37,8 +37,8 @@ pub fn select(bit: u64, a: [u64; 5], b: [u64; 5]) -> [u64; 5]
     out
 }
 
-// 0, of which a compiler does not know that it is 0: 2 is no square modulo 3. n is anything public that is known only
-// when the program runs.
+// 0, of which a compiler does not know that it is 0: 2 is no square modulo 3. n is any word that is known only when the
+// program runs, a secret one too: nothing branches on it.
 pub fn still(n: u64) -> u64
     ensures { λ r. ⌜ r ≡ 0 ⌝ }
 {

@@ -30,6 +30,7 @@ certifies cert e z =
     record {
       frame = message-good cert certTable _ refl (a .0);
       dele-frame = message-good (deleOf cert) deleTable _ refl (b .0);
+      pubk-long = kept (deleOf cert) deleTable (b .0) 0 tt refl;
       mint-long = kept (deleOf cert) deleTable (b .0) 1 tt refl;
       maxt-long = kept (deleOf cert) deleTable (b .0) 2 tt refl;
     }

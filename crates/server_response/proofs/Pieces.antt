@@ -13,7 +13,7 @@ use Rattle.server_parts.proofs.Pieces.{length-srep}
 use Rattle.wire_packet.specs.Packet.{mark, packetOf}
 use Rattle.wire_packet.proofs.Packets.{length-packet}
 use Rattle.server_response.specs.Response.{Reply, nonceOf, responseFields, responseBytes}
-use Rattle.server_response.specs.Steps.{frontBytes, restBytes}
+use Rattle.server_response.specs.Steps.{frontBytes, behindBytes, restBytes}
 
 -- ---- the two pieces, from the left
 
@@ -42,22 +42,28 @@ pub front-is : (signature nonce : List ℕ) (p c : ℕ) → frontBytes signature
 unfolding frontBytes
 front-is signature nonce p c = simp append-assoc
 
-pub rest-is : (path root : List ℕ) (midp radi : ℕ) (cert : List ℕ) (indx : ℕ) → restBytes path root midp radi cert indx
-    ≡ ((path ++ srepBytes root midp radi) ++ cert) ++ words (indx ∷ [])
-unfolding restBytes
-rest-is path root midp radi cert indx = simp append-assoc
+pub behind-is : (root : List ℕ) (midp radi : ℕ) (cert : List ℕ) (indx : ℕ) → behindBytes root midp radi cert indx
+    ≡ (srepBytes root midp radi ++ cert) ++ words (indx ∷ [])
+unfolding behindBytes
+behind-is root midp radi cert indx = simp append-assoc
 
 pub length-front : (signature nonce : List ℕ) (p c : ℕ) → length signature ≡ 64 → length nonce ≡ 32
     → length (frontBytes signature nonce p c) ≡ 168
 unfolding words leBytes
 length-front signature nonce p c s64 n32 = ap length (front-is signature nonce p c) ∙ simp (length-append, s64, n32)
 
+pub length-behind : (root : List ℕ) (midp radi : ℕ) (cert : List ℕ) (indx : ℕ) → length root ≡ 32
+    → length (behindBytes root midp radi cert indx) ≡ 96 + length cert
+unfolding words leBytes
+length-behind root midp radi cert indx r32 =
+    ap length (behind-is root midp radi cert indx)
+    ∙ simp (length-append, length-srep root midp radi r32) (omega arith)
+
 pub length-rest : (path root : List ℕ) (midp radi : ℕ) (cert : List ℕ) (indx : ℕ) → length root ≡ 32
     → length (restBytes path root midp radi cert indx) ≡ 96 + length path + length cert
-unfolding words leBytes
+unfolding restBytes
 length-rest path root midp radi cert indx r32 =
-    ap length (rest-is path root midp radi cert indx)
-    ∙ simp (length-append, length-srep root midp radi r32) (omega arith)
+    length-append path (behindBytes root midp radi cert indx) ∙ omega (arith, length-behind root midp radi cert indx r32)
 
 -- ---- the response
 
@@ -97,7 +103,7 @@ module _ (a : Reply) (ok : Sized a) where
   -- the two pieces
   pub response-is : responseBytes a
       ≡ frontBytes (a .signature) (nonceOf a) p c ++ restBytes (a .path) (a .root) (a .midp) (a .radi) (a .cert) (a .indx)
-  unfolding responseBytes packetOf frontBytes restBytes words leBytes values
+  unfolding responseBytes packetOf frontBytes restBytes behindBytes words leBytes values
   response-is = rw (length-message, message-is) (simp append-assoc)
 
   -- 264 bytes, the path and CERT

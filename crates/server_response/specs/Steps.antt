@@ -1,5 +1,5 @@
 -- What private functions promise: the checks with the response's length as the sum that code compares, and the bytes of
--- a response in two pieces. No public contract cites it.
+-- a response in two pieces. No contract of an operation cites it.
 use mathlib.Core.List.{List, [], _∷_, _++_}
 use Prim.Native.Nat.{ℕ, _+_}
 use lib.Dec.{ltb}
@@ -52,6 +52,10 @@ frontBytes signature nonce p c =
     ∷ [])
     ++ (signature ++ (nonce ++ words (1 ∷ []))))
 
+-- the bytes behind the path
+unfoldable pub behindBytes : List ℕ → ℕ → ℕ → List ℕ → ℕ → List ℕ
+behindBytes root midp radi cert indx = srepBytes root midp radi ++ (cert ++ words (indx ∷ []))
+
 -- the path and the bytes behind it
 unfoldable pub restBytes : List ℕ → List ℕ → ℕ → ℕ → List ℕ → ℕ → List ℕ
-restBytes path root midp radi cert indx = path ++ (srepBytes root midp radi ++ (cert ++ words (indx ∷ [])))
+restBytes path root midp radi cert indx = path ++ behindBytes root midp radi cert indx

@@ -61,7 +61,7 @@ pub fn tests_code<'a>(
 }
 
 // Codes 4 to 7 of the value of CERT, then of its DELE, with their place in that value.
-fn cert_code(cert: &[u8]) -> Refusal
+pub fn cert_code(cert: &[u8]) -> Refusal
     ensures { λ r. ⌜ r ≡ certCode (now (cert .entry)) ⌝ }
 {
     let outer = outer_code(cert);
@@ -112,7 +112,7 @@ fn fit_code<'a>(request: &'a [u8], midp: u64, cert: &'a [u8], p: usize) -> Refus
 }
 
 // MIDP is outside the MINT..MAXT of a good CERT.
-fn midp_outside(midp: u64, cert: &[u8]) -> bool
+pub fn midp_outside(midp: u64, cert: &[u8]) -> bool
     requires { ⌜ Certifies (now cert) ⌝ }
     ensures { λ r. ⌜ r ≡ midpOutside midp (now (cert .entry)) ⌝ }
 {

@@ -7,7 +7,7 @@ ghost use Rattle.laws.specs.Written.{written};
 ghost use Rattle.wire_request.specs.Answered.{wroteNumber, answered};
 ghost use Rattle.server_response.specs.Refusing.{replyCode};
 ghost use Rattle.server_response.specs.Response.{reply, responseBytes};
-ghost use Rattle.server_response.specs.Steps.{frontBytes, restBytes};
+ghost use Rattle.server_response.specs.Steps.{frontBytes, behindBytes, restBytes};
 use super::refusing::tests_code;
 use octets::put;
 use refusal::codes;
@@ -68,7 +68,7 @@ pub fn write_response<'a>(
 }
 
 // What stands before the path, which has p bytes, and CERT c.
-fn put_front(dst: &mut [u8], signature: [u8; 64], nonce: [u8; 32], p: u32, c: u32)
+pub fn put_front(dst: &mut [u8], signature: [u8; 64], nonce: [u8; 32], p: u32, c: u32)
     requires { ⌜ (168 ≤ length (now dst)) × (p + c ≤ 2000) ⌝ }
     ensures { λ _. ⌜ now (dst .exit) ≡ pasted (now (dst .entry)) 0 (frontBytes signature nonce p c) ⌝ }
 {
@@ -117,10 +117,26 @@ fn put_rest<'a>(
         ≡ pasted (now (dst .entry)) 168
         (restBytes (now (path .entry)) root midp radi (now (cert .entry)) indx) ⌝ }
 {
-    let p = path.len();
-    let c = cert.len();
     put(dst, 168, path);
-    put_srep(dst, 168 + p, root, midp, radi);
-    put(dst, 260 + p, cert);
-    put_words(dst, 260 + p + c, &[indx]);
+    put_behind(dst, 168 + path.len(), root, midp, radi, cert, indx);
+}
+
+// What stands behind the path, which ends before index at: SREP, CERT and INDX.
+pub fn put_behind(
+    dst: &mut [u8],
+    at: usize,
+    root: [u8; 32],
+    midp: u64,
+    radi: u32,
+    cert: &[u8],
+    indx: u32,
+)
+    requires { ⌜ at + (96 + length (now cert)) ≤ length (now dst) ⌝ }
+    ensures { λ _. ⌜ now (dst .exit)
+        ≡ pasted (now (dst .entry)) at (behindBytes root midp radi (now (cert .entry)) indx) ⌝ }
+{
+    let c = cert.len();
+    put_srep(dst, at, root, midp, radi);
+    put(dst, at + 92, cert);
+    put_words(dst, at + 92 + c, &[indx]);
 }

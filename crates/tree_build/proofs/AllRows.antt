@@ -25,7 +25,7 @@ start-is d (suc m) l e =
     rw q (omega (arith, start-is d m (suc l) (omega arith)))
 
 -- node j of the level m above level k
-levels-at : (xs : List (List ℕ)) (d k m j : ℕ) → m ≤ d → j < 2 ^ (d - m)
+pub levels-at : (xs : List (List ℕ)) (d k m j : ℕ) → m ≤ d → j < 2 ^ (d - m)
     → getD (levels xs d k) (levelStart d m + j) [] ≡ nodeAt xs (k + m) j
 unfolding levels
 levels-at xs zero k m j h g =
@@ -56,7 +56,7 @@ levels-at xs (suc d) k (suc m) j h g =
     ∙ levels-at xs d (suc k) m j (omega arith) (rw b at g)
     ∙ ap (λ (x : ℕ). nodeAt xs x j) e
 
-levels-length : (xs : List (List ℕ)) (d k : ℕ) → length (levels xs d k) ≡ nodesOf d
+pub levels-length : (xs : List (List ℕ)) (d k : ℕ) → length (levels xs d k) ≡ nodesOf d
 unfolding levels
 levels-length xs zero k = refl
 levels-length xs (suc d) k =
@@ -64,7 +64,7 @@ levels-length xs (suc d) k =
     ∙ omega (arith, upto-length (nodeAt xs k) (2 ^ suc d), levels-length xs d (suc k), pow-pos d)
 
 module _ (xs : List (List ℕ)) (long : (k j : ℕ) → length (nodeAt xs k j) ≡ 32) where
-  levels-whole : (d k : ℕ) → Whole (levels xs d k)
+  pub levels-whole : (d k : ℕ) → Whole (levels xs d k)
   unfolding levels
   levels-whole zero k = (long k 0, tt)
   levels-whole (suc d) k =

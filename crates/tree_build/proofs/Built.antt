@@ -19,7 +19,7 @@ use Rattle.tree_build.specs.declared.Rooted.{Rooted}
 use Rattle.tree_build.specs.declared.PathAnswer.the-variants.{Written}
 use Rattle.tree_build.proofs.Leads.{path-leads}
 use Rattle.tree.proofs.Nodes.{Whole, whole-siblings, leaves-long, tree-long, nodes-at, nodes-flat, flat-length}
-use Rattle.tree_build.proofs.Depth.{depth-holds, depth-short}
+use Rattle.tree_build.proofs.Depths.{depth-holds, depth-short}
 use Rattle.tree_build.proofs.Leaves.{count-bounds}
 use Rattle.tree_build.proofs.BuildingLaws.{rooted-some, path-there}
 

@@ -4,7 +4,7 @@ use mathlib.Core.Bool.{Bool, true, false, cond, _&&_}
 use Prim.Native.Nat.{ℕ, _*_, _/_, _%_, _≤_, _<_}
 use native.Mathlib.Omega.{arith}
 use lib.Dec.{eqb, leb}
-use borrow.Author.Tests.{le-leb, leb-true}
+use borrow.Author.Tests.{le-leb, leb-true, eqb-true}
 use Rattle.tree.specs.Tree.{depthOf}
 use Rattle.tree_build.specs.AllRows.{nodesOf}
 use Rattle.tree_build.specs.Leaves.{most, countOf, heldOf}
@@ -19,6 +19,16 @@ count-bounds size = by (eqb (size % 32) 0) (leb (size / 32) most) refl
     by true true e = let h : size / 32 ≤ most = leb-true (size / 32) most e in omega arith
     by true false e = omega arith
     by false b e = omega arith
+
+-- where there are some, the bytes are theirs
+pub count-whole : (size : ℕ) {n : ℕ} → n ≡ countOf size → (n ≡ 0 → ⊥) → size ≡ 32 * n
+unfolding countOf
+count-whole size {n} = by (eqb (size % 32) 0) (leb (size / 32) most) refl
+  where
+    by : (a b : Bool) → eqb (size % 32) 0 ≡ a → n ≡ cond (a && b) (size / 32) 0 → (n ≡ 0 → ⊥) → size ≡ 32 * n
+    by true true p e some = omega (arith, eqb-true (size % 32) 0 p)
+    by true false p e some = absurd (some e)
+    by false b p e some = absurd (some e)
 
 -- rows that are long enough hold what is asked for
 pub held-all : (size n : ℕ) → n ≤ most → 32 * nodesOf (depthOf n) ≤ size → heldOf size n ≡ n

@@ -1,13 +1,14 @@
 -- Laws that belong to no one function. What the crate claims of itself stands in Leads, Built, Served, Sizes
 -- and Once.
 pub mod Leads
-pub mod Depth
+pub mod Depths
 pub mod Leaves
 pub mod Filling
 pub mod Writing
 pub mod Ascending
 pub mod Reading
 pub mod AllRows
+pub mod Heaped
 pub mod BuildingLaws
 pub mod Built
 pub mod Served

@@ -21,7 +21,7 @@ use Rattle.tree_build.specs.declared.PathAnswer.{PathAnswer}
 use Rattle.tree_build.specs.declared.PathAnswer.the-variants as path-answer
 use Rattle.tree_build.specs.declared.RowsAnswer.the-variants as rows-answer
 use Rattle.tree.proofs.Nodes.{leaves-long, node-long, tree-long}
-use Rattle.tree_build.proofs.Depth.{depth-holds}
+use Rattle.tree_build.proofs.Depths.{depth-holds}
 use Rattle.tree_build.proofs.Leaves.{count-bounds, held-all}
 use Rattle.tree_build.proofs.AllRows.{rows-length, path-laid, root-laid}
 use Rattle.tree_build.proofs.BuildingLaws.{RowsThere, rooted-some, path-there, path-refused, rows-there}

@@ -33,7 +33,7 @@ fn ascend_few(
     let mut j = place;
     let mut at = start;
     while 0 < left {
-        at = put_part(wanted, &row, n, j, out, at);
+        at = put_part(wanted, &row, j, out, at);
         n = n / 2;
         j = j / 2;
         left -= 1;
@@ -70,7 +70,7 @@ pub fn ascend(
     let mut j = place;
     let mut at: usize = 0;
     loop {
-        at = put_part(wanted, &row, n, j, out, at);
+        at = put_part(wanted, &row, j, out, at);
         n = n / 2;
         j = j / 2;
         left -= 1;

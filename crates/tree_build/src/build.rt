@@ -10,12 +10,13 @@ use super::Rooted;
 use super::RowsAnswer;
 use super::Wanted;
 use super::ascent::ascend;
-use super::siblings::put_node;
+use super::heap::fill_rows;
 use super::siblings::read_path;
 use super::size::bytes;
 use super::size::count_of;
 use super::size::depth;
 use super::size::held_of;
+use octets::put;
 use refusal::PASSED;
 use refusal::codes;
 use refusal::refuse;
@@ -79,8 +80,8 @@ pub fn rows(leaves: &[u8], out: &mut [u8]) -> RowsAnswer
     if out.len() < size {
         return RowsAnswer::Refused(refuse(codes::ROOM));
     }
-    let root = ascend(leaves, count, d, Wanted::Row, 0, out);
-    put_node(root, out, size - 32);
+    put(out, 0, leaves);
+    fill_rows(out, count, d);
     RowsAnswer::Written { depth: d }
 }
 

@@ -1,7 +1,9 @@
 // Trees that a server builds (draft 19, section 5.3): the root and the paths of a batch of leaves, and all rows of its
-// tree at once, for a server that answers the whole batch. No public function has a `requires`.
+// tree at once, for a server that answers the whole batch. `bytes`, `depth`, `fill_rows` and `read_path` are for the
+// crate above; no other public function has a `requires`.
 mod ascent;
 mod build;
+mod heap;
 mod level;
 mod part;
 mod row;
@@ -12,7 +14,12 @@ pub use build::path;
 pub use build::path_from;
 pub use build::root;
 pub use build::rows;
+pub use heap::fill_rows;
 use refusal::Refusal;
+pub use siblings::read_path;
+pub use size::MOST;
+pub use size::bytes;
+pub use size::depth;
 pub use size::rows_length;
 
 // The root of a batch; or a refusal, with zeros for the rest. (An enum cannot hold an array.)
@@ -35,10 +42,9 @@ pub enum RowsAnswer {
     Refused(Refusal),
 }
 
-// What is written of each level of a tree as it is built: nothing, where the root is all that is wanted; the sibling of
-// one node, for a path; or all nodes.
+// What is written of each level of a tree as it is built: nothing, where the root is all that is wanted; or the sibling
+// of one node, for a path.
 enum Wanted {
     Nothing,
     Sibling,
-    Row,
 }

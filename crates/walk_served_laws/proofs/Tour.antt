@@ -1,5 +1,5 @@
 -- There is a walk among servers that sign with their own seeds, from its start to its end: every signature on it
--- verifies, and where one of the servers lies, the pile that it leaves convicts.
+-- verifies, and where an earlier window lies wholly after a later one, the pile that it leaves convicts.
 use Prim.Native.Nat.{ℕ, zero, suc, _+_, _-_, _*_, _<_}
 use mathlib.Core.Path.{_≡_, refl, subst}
 use mathlib.Core.List.{List, []}

@@ -1,6 +1,6 @@
 -- `tree_build::size::depth` meets its contract.
 use native.Mathlib.Omega.{arith}
-use Rattle.tree_build.proofs.Depth.{depth-of, deep-most}
+use Rattle.tree_build.proofs.Depths.{depth-of, deep-most}
 use borrow.Author.Needs.{needs}
 use Rattle.tree_build.proofs.size.depth.Statement.{statement}
 use Rattle.tree_build.proofs.size.depth.Tie as tie
