@@ -669,7 +669,8 @@ struct tb_batch {
  *
  * Each answer is what tb_write_response writes of the same, and passes tb_check_signed for its
  * request, if CERT is signed by the long-term key, of which nothing is asked here. rows, out and
- * out_lengths overlap nothing, and the seed is treated as tb_sign_parts treats it.
+ * out_lengths overlap nothing. The seed is treated as tb_sign_parts treats it; its public key, which
+ * is no secret, is compared with PUBK.
  *
  * The codes are 7, where radi is 0; 4 to 7 of CERT, then of its DELE; 35, where PUBK of CERT is not
  * the seed's public key; 11, where midp is outside MINT to MAXT; 20, where there is no packet, or
