@@ -10,7 +10,8 @@
  *   - a pointer leads to as many readable bytes as the length after it, or the array it is
  *     declared as, says;
  *   - out leads to as many writable bytes as out_len, or the array it is declared as, says, is
- *     initialised memory, and overlaps no input.
+ *     initialised memory, and overlaps no input; and so do rows and out_lengths of tb_answer_batch,
+ *     where the length of out_lengths, as that of lengths, is of numbers and not of bytes.
  * All memory stays the caller's. The functions only read their inputs, but for the state of a hash
  * in pieces, that of windows as they come, that of a walk and that of a clock, which starting and
  * taking write, and the pile of a walk; they allocate nothing, and keep no pointer and no state of
