@@ -252,8 +252,7 @@ static inline const char *tb_code_text(uint32_t code) {
  * 4,824, measured on x86-64. hosts/c/stack.c measures them anew. */
 #define TB_SIGN_STACK 8192
 
-/* Bytes of stack that are enough for tb_answer_batch, which signs once and remembers there which
- * packets it answers. hosts/c/stack.c measures it. */
+/* Bytes of stack that are enough for tb_answer_batch. hosts/c/stack.c measures it. */
 #define TB_BATCH_STACK 16384
 
 /* Bytes of stack that are enough for tb_cut_text and tb_cut_signed_text, which hold sixteen records
