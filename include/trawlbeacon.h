@@ -10,7 +10,8 @@
  *   - a pointer leads to as many readable bytes as the length after it, or the array it is
  *     declared as, says;
  *   - out leads to as many writable bytes as out_len, or the array it is declared as, says, is
- *     initialised memory, and overlaps no input.
+ *     initialised memory, and overlaps no input; and so do rows and out_lengths of tb_answer_batch,
+ *     where the length of out_lengths, as that of lengths, is of numbers and not of bytes.
  * All memory stays the caller's. The functions only read their inputs, but for the state of a hash
  * in pieces, that of windows as they come, that of a walk and that of a clock, which starting and
  * taking write, and the pile of a walk; they allocate nothing, and keep no pointer and no state of
@@ -132,7 +133,9 @@ enum tb_code {
     /* no more servers are counted than may lie */
     TB_TOO_FEW = 33,
     /* no time lies in the windows of enough servers */
-    TB_NO_AGREEMENT = 34
+    TB_NO_AGREEMENT = 34,
+    /* the seed's public key is not the PUBK of CERT */
+    TB_OTHER_KEY = 35
 };
 
 /* What a code says, in words. */
@@ -211,6 +214,8 @@ static inline const char *tb_code_text(uint32_t code) {
         return "no more servers are counted than may lie";
     case TB_NO_AGREEMENT:
         return "no time lies in the windows of enough servers";
+    case TB_OTHER_KEY:
+        return "the seed's public key is not the PUBK of CERT";
     default:
         return "no such code";
     }
@@ -248,9 +253,12 @@ static inline const char *tb_code_text(uint32_t code) {
  * 4,840, measured on x86-64. hosts/c/stack.c measures them anew. */
 #define TB_SIGN_STACK 8192
 
+/* Bytes of stack that are enough for tb_answer_batch. hosts/c/stack.c measures it. */
+#define TB_BATCH_STACK 16384
+
 /* Bytes of stack that are enough for tb_cut_text and tb_cut_signed_text, which hold sixteen records
  * there: 72,488 and 75,368, measured on x86-64. hosts/c/stack.c measures them anew. Of functions
- * for which none of the four constants is meant it measures 26, and none takes over 11,880. */
+ * for which none of the five constants is meant it measures 26, and none takes over 11,880. */
 #define TB_TEXT_STACK 98304
 
 /* Bytes of a record of a list of servers. */
@@ -575,10 +583,15 @@ void tb_sign_parts(const uint8_t seed[32], const uint8_t *context, size_t contex
 
 /* ---- Servers ----
  *
- * What a server writes. tb_sign_parts, or an Ed25519 of the caller's own, makes both signatures.
+ * What a server writes. tb_answer_batch answers a whole batch in one call, and signs it:
  *   1. Once for each delegated key: tb_write_dele; sign TB_DELEGATION_CONTEXT and then those bytes
  *      with the long-term key; tb_write_cert. That is for another machine, to which no packet ever
  *      comes: it is given the delegated public key, and gives back CERT.
+ *   2. Receive up to TB_MOST_LEAVES packets into slots of one size; tb_answer_batch; send each
+ *      answer whose length is not 0 back to where its packet came from.
+ *
+ * Where the delegated key is in hardware, or signs elsewhere, the same is done in steps:
+ *   1. As above.
  *   2. Of each packet that comes: tb_read_request. What is refused is ignored; so is what names
  *      another server, that is, has with_srv 1 and an srv that is not tb_srv_value of the long-term
  *      key (draft 19, 5.2). No writer below looks at that. A server with several long-term keys
@@ -626,6 +639,52 @@ struct tb_wrote tb_write_response(const uint8_t *request, size_t request_len, ui
                                   uint64_t midp, uint32_t radi, const uint8_t *cert,
                                   size_t cert_len, const uint8_t signature[64], uint8_t *out,
                                   size_t out_len);
+
+/* What came of a batch: how many packets were answered, 0 on a refusal. */
+struct tb_batch {
+    uint32_t code;
+    uint64_t at;
+    uint64_t answered;
+};
+
+/* The most bytes of an answer to a batch of up to TB_MOST_LEAVES packets: room for each. */
+#define TB_ANSWER_ROOM(cert_len) TB_RESPONSE_BYTES(320, (cert_len))
+
+/* Answers a batch: writes the response to each packet that gets one, signed once for all.
+ *
+ * Packet i is the first lengths[i] of the slot bytes from packets + i * slot on; lengths_len says
+ * how many there are, 1 to TB_MOST_LEAVES. srv is tb_srv_value of the long-term key, cert the value
+ * of CERT, seed that of the delegated key, midp the time and radi its radius.
+ *
+ * Meant for this server is a packet that is no longer than its slot, that tb_read_request takes,
+ * and that has no SRV or this one (draft 19, 5.2). Where m are, each of them is answered that has
+ * at least 264 + 32 * d + cert_len bytes, d being the depth of a tree of m leaves, which is the
+ * least with 2^d >= m: no answer is longer than its request, whoever else is answered. The tree is
+ * that of the answered packets in their order.
+ *
+ * Written are: out_lengths[i] for each packet, the length of its answer, 0 where it has none; the
+ * answer, from out + i * room on; and to the front of rows what tb_rows writes for the leaves of
+ * the answered packets. All else stays: the rest of each room, all of the room of a packet that has
+ * no answer, out_lengths behind the packets', and all of rows where nobody is answered, which is no
+ * refusal.
+ *
+ * Each answer is what tb_write_response writes of the same, and passes tb_check_signed for its
+ * request, if CERT is signed by the long-term key, of which nothing is asked here. rows, out and
+ * out_lengths overlap nothing. The seed is treated as tb_sign_parts treats it; its public key, which
+ * is no secret, is compared with PUBK.
+ *
+ * The codes are 7, where radi is 0; 4 to 7 of CERT, then of its DELE; 35, where PUBK of CERT is not
+ * the seed's public key; 11, where midp is outside MINT to MAXT; 20, where there is no packet, or
+ * more than TB_MOST_LEAVES; 19, where packets_len is below lengths_len slots, rows_len below the
+ * rows of a tree of lengths_len leaves, which are 32 * (2^(d+1) - 1) bytes, out_len below
+ * lengths_len rooms, out_lengths_len below lengths_len, or room below 264 + 32 * d + cert_len, with
+ * the depth d of that tree. at is as with tb_write_response. */
+struct tb_batch tb_answer_batch(const uint8_t *packets, size_t packets_len, size_t slot,
+                                const uint32_t *lengths, size_t lengths_len,
+                                const uint8_t srv[32], const uint8_t *cert, size_t cert_len,
+                                const uint8_t seed[32], uint64_t midp, uint32_t radi,
+                                uint8_t *rows, size_t rows_len, uint8_t *out, size_t out_len,
+                                size_t room, uint32_t *out_lengths, size_t out_lengths_len);
 
 /* ---- Lists of servers ---- */
 

@@ -9,6 +9,7 @@
 //! A ratio is our time by the other's: below 1 ours is the faster. The program fails where a ratio
 //! is above its limit.
 
+mod batches;
 mod clock;
 mod counted;
 mod doubling;

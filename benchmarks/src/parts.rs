@@ -1,7 +1,9 @@
 //! The parts of a run, in their order.
 
 use crate::run::Run;
-use crate::{counted, doubling, hashes, memory, piles, refused, servers, signed, signing, texts};
+use crate::{
+    batches, counted, doubling, hashes, memory, piles, refused, servers, signed, signing, texts,
+};
 use crate::{trees, verifying, walks, whence, windows, worst};
 
 pub struct Part {
@@ -25,6 +27,7 @@ pub const PARTS: &[Part] = &[
     part("counted", "how many verifications a call makes", counted::part),
     part("walks", "a step of the measuring walk", walks::part),
     part("servers", "a server's batches of 1 to 1,024", servers::part),
+    part("batches", "whole batches in one call, and by steps", batches::part),
     part("trees", "rows, roots and paths by their hashing", trees::part),
     part("json", "reports read, written and cut as JSON", texts::part),
     part("texts", "long texts that are read as reports", texts::long),

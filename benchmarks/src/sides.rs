@@ -22,10 +22,12 @@ pub enum Side {
     /// libsodium's Ed25519. No work of it is made where libsodium is not linked.
     #[cfg_attr(not(feature = "sodium"), allow(dead_code))]
     Sodium,
-    /// Ours too, the hashing alone, as much of it as a tree needs.
+    /// Ours too, the hashing alone, as much of it as a tree needs; of a batch, with its signature.
     Hashing,
     /// Ours too, all rows of the same tree.
     Rows,
+    /// Ours too, a batch in steps.
+    Steps,
     /// Ours too, over the whole message at once.
     Whole,
     /// Ours too, every pair of windows compared.
@@ -49,6 +51,7 @@ impl Side {
             Side::Sodium => "libsodium",
             Side::Hashing => "hashing",
             Side::Rows => "rows",
+            Side::Steps => "steps",
             Side::Whole => "at once",
             Side::Pairs => "pairs",
             Side::Verification => "verification",

@@ -1710,6 +1710,108 @@ static void expect_served(void) {
     expect_number("delegated by another", served(DELEGATED, right, n), TB_DELEGATION);
 }
 
+/* A batch of that server: packets in slots that are a little longer than ours, and room for the
+ * answers to each. One place more has room, and must stay as it is. */
+enum {
+    BATCH = 5,
+    BATCH_SLOT = TB_REQUEST_LENGTH + 4,
+    BATCH_ROOM = TB_ANSWER_ROOM(TB_CERT_LENGTH) + 3,
+    BATCH_ROWS = 15 * 32
+};
+static const uint64_t BATCH_MINT = 1773600000, BATCH_TIME = 1773685571, BATCH_MAXT = 1773700000;
+
+static struct batch {
+    uint8_t key[32], srv[32], cert[TB_CERT_LENGTH];
+    uint8_t packets[BATCH * BATCH_SLOT], rows[BATCH_ROWS], out[(BATCH + 1) * BATCH_ROOM];
+    uint32_t lengths[TB_MOST_LEAVES + 1], out_lengths[BATCH + 1];
+} batch;
+
+/* Lays packets 0, 2 and 4 for that server, 1 for another, and 3 that is longer than its slot. */
+static void lay_batch(void) {
+    uint8_t pubk[32] = {0}, dele[TB_DELE_LENGTH] = {0}, signature[64] = {0};
+    tb_public_key(DELEGATED, pubk);
+    tb_public_key(LONG_TERM, batch.key);
+    tb_srv_value(batch.key, batch.srv);
+    tb_write_dele(pubk, BATCH_MINT, BATCH_MAXT, dele, sizeof dele);
+    tb_sign_parts(LONG_TERM, (const uint8_t *)TB_DELEGATION_CONTEXT, sizeof TB_DELEGATION_CONTEXT,
+                  dele, sizeof dele, signature);
+    tb_write_cert(pubk, BATCH_MINT, BATCH_MAXT, signature, batch.cert, sizeof batch.cert);
+    memset(batch.packets, 0x5a, sizeof batch.packets);
+    for (uint8_t i = 0; i < BATCH; i++) {
+        const uint8_t nonce[32] = {i};
+        tb_write_request(i == 1 ? pubk : batch.key, nonce, batch.packets + i * BATCH_SLOT,
+                         BATCH_SLOT);
+        batch.lengths[i] = i == 3 ? BATCH_SLOT + 1 : TB_REQUEST_LENGTH;
+    }
+}
+
+/* Clears all that is written, and answers so many of the packets. */
+static struct tb_batch answer_some(size_t count, const uint8_t seed[32], uint64_t midp,
+                                   uint32_t radi, size_t room) {
+    memset(batch.rows, 0xee, sizeof batch.rows);
+    memset(batch.out, 0xee, sizeof batch.out);
+    memset(batch.out_lengths, 0xee, sizeof batch.out_lengths);
+    return tb_answer_batch(batch.packets, sizeof batch.packets, BATCH_SLOT, batch.lengths, count,
+                           batch.srv, batch.cert, sizeof batch.cert, seed, midp, radi, batch.rows,
+                           sizeof batch.rows, batch.out, sizeof batch.out, room, batch.out_lengths,
+                           BATCH + 1);
+}
+
+/* Three have an answer of two siblings, the others none, and what follows stays. */
+static void expect_answers(void) {
+    const size_t n = TB_RESPONSE_BYTES(64, TB_CERT_LENGTH);
+    struct tb_batch told = answer_some(BATCH, DELEGATED, BATCH_TIME, 3, BATCH_ROOM);
+    expect_number("code of a batch", told.code, 0);
+    expect_number("at of a batch", told.at, 0);
+    expect_number("answers of a batch", told.answered, 3);
+    for (size_t i = 0; i < BATCH; i++) {
+        const uint8_t *out = batch.out + i * BATCH_ROOM, *asked = batch.packets + i * BATCH_SLOT;
+        size_t length = i % 2 == 0 ? n : 0;
+        expect_number("length of an answer", batch.out_lengths[i], length);
+        expect_all("what follows an answer", out + length, 0xee, BATCH_ROOM - length);
+        if (length == 0) continue;
+        struct tb_verdict said =
+            tb_check_signed(batch.key, asked, TB_REQUEST_LENGTH, out, length);
+        expect_number("an answer that is checked", said.code, 0);
+        expect_number("the time of an answer", said.midp, BATCH_TIME);
+        expect_number("indx of an answer", tb_read_response(out, length).indx, i / 2);
+    }
+    expect_all("the room behind a batch", batch.out + BATCH * BATCH_ROOM, 0xee, BATCH_ROOM);
+    expect_all("the length behind a batch", (const uint8_t *)(batch.out_lengths + BATCH), 0xee, 4);
+    expect_all("what follows the rows", batch.rows + 7 * 32, 0xee, BATCH_ROWS - 7 * 32);
+}
+
+/* A refusal, after which all stays. */
+static void expect_unanswered(uint32_t code, struct tb_batch told) {
+    expect_number("code of a refused batch", told.code, code);
+    expect_number("answers of a refused batch", told.answered, 0);
+    expect_number("at of a refused batch", told.at, 0);
+    expect_all("rows of a refused batch", batch.rows, 0xee, sizeof batch.rows);
+    expect_all("out of a refused batch", batch.out, 0xee, sizeof batch.out);
+    expect_all("lengths of a refused batch", (const uint8_t *)batch.out_lengths, 0xee,
+               sizeof batch.out_lengths);
+}
+
+static void expect_batch(void) {
+    lay_batch();
+    expect_answers();
+    batch.lengths[0] = 0;
+    struct tb_batch none = answer_some(2, DELEGATED, BATCH_TIME, 3, BATCH_ROOM);
+    expect_number("code where nobody is answered", none.code, 0);
+    expect_number("answers where nobody is answered", none.answered, 0);
+    expect_all("rows where nobody is answered", batch.rows, 0xee, sizeof batch.rows);
+    batch.lengths[0] = TB_REQUEST_LENGTH;
+    expect_unanswered(TB_ROOM, answer_some(BATCH, DELEGATED, BATCH_MAXT, 3, 511));
+    expect_unanswered(TB_LEAVES, answer_some(0, DELEGATED, BATCH_TIME, 3, 0));
+    expect_unanswered(TB_LEAVES, answer_some(TB_MOST_LEAVES + 1, DELEGATED, BATCH_MINT, 3, 0));
+    expect_unanswered(TB_TIME, answer_some(0, DELEGATED, BATCH_MAXT + 1, 3, 0));
+    expect_unanswered(TB_TIME, answer_some(0, DELEGATED, BATCH_MINT - 1, 3, 0));
+    expect_unanswered(TB_OTHER_KEY, answer_some(0, LONG_TERM, BATCH_MAXT + 1, 3, 0));
+    expect_unanswered(TB_VALUE, answer_some(0, LONG_TERM, BATCH_MAXT + 1, 0, 0));
+    batch.cert[0] = 0;
+    expect_unanswered(TB_FRAME, answer_some(0, LONG_TERM, BATCH_MAXT + 1, 3, 0));
+}
+
 /* The signature of a response that draft 19 prints, over its text and over the parts of that. */
 static void expect_signed(const uint8_t *packet) {
     static const char context[] = "RoughTime v1 response signature";
@@ -2085,6 +2187,7 @@ int main(void) {
     expect_made();
     expect_made_verifies();
     expect_served();
+    expect_batch();
     expect_verified();
     expect_signed(packet);
     expect_checks(packet);

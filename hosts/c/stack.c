@@ -2,8 +2,8 @@
  * TB_TREE_STACK: with that much every operation ends, and on one page less than the most some
  * operation runs off the end. A verification is measured too, and held to 8 KB; and every form
  * that verifies by itself, the most of which is held to TB_VERIFY_STACK; what signs, which is held
- * to TB_SIGN_STACK; and what goes from text to text, which is held to TB_TEXT_STACK. What every
- * other operation takes is told as well.
+ * to TB_SIGN_STACK; a whole batch, which is held to TB_BATCH_STACK; and what goes from text to text,
+ * which is held to TB_TEXT_STACK. What every other operation takes is told as well.
  *
  * Each call runs on a stack of this program's own, which is painted first and has memory below it
  * that nobody may touch. That is done with contexts and not with threads, since a C library wants
@@ -58,6 +58,24 @@ static void call_public_key(void) { tb_public_key(SIGNER, made); }
 static void call_sign(void) { tb_sign(SIGNER, leaves, 1000, made); }
 static void call_sign_parts(void) { tb_sign_parts(SIGNER, leaves, 34, leaves, 72, made); }
 
+/* A batch of as many requests as there may be, all of which are answered. */
+static uint8_t requests[TB_MOST_LEAVES * TB_REQUEST_LENGTH], signed_cert[TB_CERT_LENGTH];
+static uint8_t batch_rows[TB_MOST_ROWS_LENGTH];
+static uint8_t answers[TB_MOST_LEAVES * TB_ANSWER_ROOM(TB_CERT_LENGTH)];
+static uint32_t lengths[TB_MOST_LEAVES], answer_lengths[TB_MOST_LEAVES];
+static uint8_t srv[32];
+static void lay_batch(void) {
+    uint8_t pubk[32];
+    tb_public_key(SIGNER, pubk);
+    tb_write_cert(pubk, 0, 2000, SIGNATURE, signed_cert, sizeof signed_cert);
+    tb_srv_value(SIGNER, srv);
+    for (size_t i = 0; i < TB_MOST_LEAVES; i++) {
+        tb_write_request(SIGNER, leaves + 32 * i, requests + i * TB_REQUEST_LENGTH,
+                         TB_REQUEST_LENGTH);
+        lengths[i] = TB_REQUEST_LENGTH;
+    }
+}
+
 /* The forms that verify by themselves, on the report that draft 19 prints, all of whose signatures
  * are right; each tells its code, so that it is seen to have gone to its end. */
 static uint8_t pile[REPORT_LENGTH], run[REPORT_LENGTH], told[2];
@@ -66,6 +84,13 @@ static bool refused;
 static void call_answers(void) {
     tb_answers(KEY, RESPONSE, sizeof RESPONSE, told);
     code = told[0] == 1 && told[1] == 1 ? 0 : 12;
+}
+static void call_answer_batch(void) {
+    code = tb_answer_batch(requests, sizeof requests, TB_REQUEST_LENGTH, lengths, TB_MOST_LEAVES,
+                           srv, signed_cert, sizeof signed_cert, SIGNER, 1000, 5, batch_rows,
+                           sizeof batch_rows, answers, sizeof answers,
+                           TB_ANSWER_ROOM(TB_CERT_LENGTH), answer_lengths, TB_MOST_LEAVES)
+               .code;
 }
 static void call_check_signed(void) {
     code = tb_check_signed(KEY, pile + 96, TB_REQUEST_LENGTH, RESPONSE, sizeof RESPONSE).code;
@@ -237,6 +262,8 @@ static const struct operation SIGNING[] = {{"tb_public_key", call_public_key},
                                            {"tb_sign", call_sign},
                                            {"tb_sign_parts", call_sign_parts}};
 
+static const struct operation BATCH = {"tb_answer_batch", call_answer_batch};
+
 static const struct operation TEXTS[] = {{"tb_cut_text", call_cut_text},
                                          {"tb_cut_signed_text", call_cut_signed_text}};
 
@@ -368,6 +395,7 @@ int main(void) {
     text_length = (size_t)tb_write_signed_report(pile, sizeof pile, text, sizeof text).length;
     nest_text();
     start_among_drafts();
+    lay_batch();
     tb_sha512_start(&running);
     call_walk_start();
     walk_on(0);
@@ -382,6 +410,7 @@ int main(void) {
                    VERIFICATION);
     fits &= within("signing", most_of(stack, before, SIGNING, SIZE(SIGNING)), header,
                    TB_SIGN_STACK);
+    fits &= within("a batch", most_of(stack, before, &BATCH, 1), header, TB_BATCH_STACK);
     fits &= within("texts", most_of(stack, before, TEXTS, SIZE(TEXTS)), header, TB_TEXT_STACK);
     most_of(stack, before, OTHERS, SIZE(OTHERS));
     walk_on(15);

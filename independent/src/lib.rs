@@ -11,17 +11,19 @@
 //!
 //! It has SHA-512, the hashes that Roughtime makes of it and the Merkle tree, a reader of packets,
 //! requests and responses, the check of a response, the writer of a request, the texts that are
-//! signed, the writer of a response with its delegation, the lookup of a server, piles of responses
-//! and the reports that are made of them, also as JSON, the measuring walk, the clock that tells the
-//! time though servers lie, the timestamps of an old draft, and Ed25519, by which responses and
-//! piles are judged with no answers beside them. Beside all this stands what it is tried with: what
-//! makes piles and signatures, courses of time, and a server that answers batches.
+//! signed, the writer of a response with its delegation and of the answers to a whole batch, the
+//! lookup of a server, piles of responses and the reports that are made of them, also as JSON, the
+//! measuring walk, the clock that tells the time though servers lie, the timestamps of an old
+//! draft, and Ed25519, by which responses and piles are judged with no answers beside them. Beside
+//! all this stands what it is tried with: what makes piles and signatures, courses of time, and a
+//! server that answers batches.
 
 #![forbid(unsafe_code)]
 #![warn(missing_docs)]
 
 pub mod appendix;
 pub mod base64;
+pub mod batch;
 pub mod check;
 pub mod clock;
 pub mod course;

@@ -78,6 +78,8 @@ pub enum Refusal {
     TooFew = 33,
     /// Of a clock, no time lies in the windows of enough servers.
     NoAgreement = 34,
+    /// The key that a batch is to be signed with is not the one that CERT delegates to.
+    OtherKey = 35,
 }
 
 impl Refusal {

@@ -4,6 +4,7 @@
 // Each struct has the header's name, `tb_request` for `TbRequest`. Its code is document 01's number, 0 where nothing
 // was refused, and `at` the byte place that it carries, 0 where it carries none; what else stands beside a refusal is
 // zeros.
+mod batching;
 mod building;
 mod clocking;
 mod judging;
@@ -12,6 +13,7 @@ mod reading;
 mod stamping;
 mod writing;
 
+pub use batching::batch_told;
 pub use building::path_told;
 pub use building::root_told;
 pub use building::rows_told;
@@ -64,6 +66,14 @@ pub struct TbWrote {
     pub code: u32,
     pub at: u64,
     pub length: u64,
+}
+
+// What `tb_answer_batch` answers: how many packets were answered.
+#[repr(C)]
+pub struct TbBatch {
+    pub code: u32,
+    pub at: u64,
+    pub answered: u64,
 }
 
 // What `tb_check_response` answers.

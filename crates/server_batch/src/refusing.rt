@@ -45,7 +45,7 @@ pub fn keys_code(cert: &[u8], seed: [u8; 32], midp: u64, radi: u32) -> Refusal
         return c;
     }
     if other_key(seed, cert) {
-        return refuse(OTHER_KEY);
+        return refuse(codes::OTHER_KEY);
     }
     if midp_outside(midp, cert) {
         return refuse(codes::TIME);
@@ -117,6 +117,3 @@ pub fn sizes_code(
     }
     PASSED
 }
-
-// The code of a seed that is not that of the delegated key.
-const OTHER_KEY: u8 = 35;

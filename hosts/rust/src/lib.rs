@@ -4,10 +4,10 @@
 //! and adds nothing to it; [`cut`], [`cut_signed`], [`Record`], [`Pile`] and [`SignedPile`] only
 //! lay out bytes beside such calls, and [`Sha512`], [`Tally`], [`Clock`] and [`Walk`] hold the state
 //! between those that end in `_fields` or `_field`, the last with its pile; [`SigningKey`] holds a
-//! seed for those that sign, and overwrites it in the end. The module `picture` draws what such
-//! calls say of a pile. The proofs speak of the library's own code; that these few lines
-//! declare and call it rightly is shown by the tests alone, which compare every function with an
-//! implementation that shares no code with the library.
+//! seed for those that sign, and overwrites it in the end; [`Batch`] holds packets and the answers
+//! to them. The module `picture` draws what such calls say of a pile. The proofs speak of the
+//! library's own code; that these few lines declare and call it rightly is shown by the tests alone,
+//! which compare every function with an implementation that shares no code with the library.
 //!
 //! H, below, is Roughtime's hash: the first 32 bytes of SHA-512. The example `time` goes from the
 //! request to the window by [`check_signed`], and takes a file for what the server answered; the
@@ -44,6 +44,9 @@
 #[cfg(feature = "alloc")]
 extern crate alloc;
 
+mod answering;
+#[cfg(feature = "alloc")]
+mod batch;
 mod check;
 mod clock;
 #[cfg(feature = "alloc")]
@@ -70,6 +73,9 @@ mod trees;
 mod verifying;
 mod walk;
 
+pub use answering::{answer_batch, answer_room, Sending, Waiting};
+#[cfg(feature = "alloc")]
+pub use batch::{Batch, SLOT};
 pub use check::{check_response, may_use, same_delegation, Checked, Window};
 pub use clock::{Clock, Servers, Time, CLOCK_SERVERS};
 #[cfg(feature = "alloc")]

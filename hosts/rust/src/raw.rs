@@ -7,7 +7,7 @@
 //! written.
 //!
 //! Why the safe functions of this package are sound: the library only reads its inputs, only writes
-//! within `out` and a state or a walk's pile that it is lent, and keeps no pointer. A Rust slice's
+//! within `out` and whatever else it is lent to be written, and keeps no pointer. A Rust slice's
 //! pointer is never null, also where the slice is empty; what it leads to is initialised; and a
 //! mutable one, or a new array that is filled with zeros first, overlaps no other.
 
@@ -119,6 +119,19 @@ pub struct tb_wrote {
     pub at: u64,
     /// How many bytes were written: 0 on a refusal.
     pub length: u64,
+}
+
+/// What [`tb_answer_batch`] answers.
+#[repr(C)]
+#[derive(Clone, Copy, Debug, PartialEq, Eq)]
+pub struct tb_batch {
+    /// 0, or a refusal.
+    pub code: u32,
+    /// The byte of the value of CERT at which it is bad, with codes 4 to 7; else 0, and beside the 7
+    /// for a RADI of 0.
+    pub at: u64,
+    /// How many packets were answered: 0 on a refusal.
+    pub answered: u64,
 }
 
 /// What [`tb_signed_parts`] answers.
@@ -470,6 +483,27 @@ extern "C" {
         out: *mut u8,
         out_len: usize,
     ) -> tb_wrote;
+    /// Answers a batch. A place is one in the value of CERT.
+    pub fn tb_answer_batch(
+        packets: *const u8,
+        packets_len: usize,
+        slot: usize,
+        lengths: *const u32,
+        lengths_len: usize,
+        srv: &[u8; 32],
+        cert: *const u8,
+        cert_len: usize,
+        seed: &[u8; 32],
+        midp: u64,
+        radi: u32,
+        rows: *mut u8,
+        rows_len: usize,
+        out: *mut u8,
+        out_len: usize,
+        room: usize,
+        out_lengths: *mut u32,
+        out_lengths_len: usize,
+    ) -> tb_batch;
 
     /// Whether a signature of a text verifies under a key.
     pub fn tb_verify(

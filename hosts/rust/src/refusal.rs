@@ -81,6 +81,8 @@ pub enum Refusal {
     TooFew,
     /// no time lies in the windows of enough servers
     NoAgreement,
+    /// the seed's public key is not the PUBK of CERT
+    OtherKey,
 }
 
 impl Refusal {
@@ -122,6 +124,7 @@ impl Refusal {
             Refusal::ClockInput => 32,
             Refusal::TooFew => 33,
             Refusal::NoAgreement => 34,
+            Refusal::OtherKey => 35,
         }
     }
 
@@ -194,6 +197,7 @@ impl Refusal {
             }
             Refusal::TooFew => "no more servers are counted than may lie",
             Refusal::NoAgreement => "no time lies in the windows of enough servers",
+            Refusal::OtherKey => "the seed's public key is not the PUBK of CERT",
         }
     }
 
@@ -235,6 +239,7 @@ impl Refusal {
             32 => Refusal::ClockInput,
             33 => Refusal::TooFew,
             34 => Refusal::NoAgreement,
+            35 => Refusal::OtherKey,
             _ => return None,
         })
     }

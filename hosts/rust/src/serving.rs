@@ -106,7 +106,16 @@ pub fn write_response(reply: &Reply, out: &mut [u8]) -> Result<usize, PacketRefu
             out.len(),
         )
     });
-    // No value of CERT starts at its first byte: 0 beside 7 is no place.
-    let no_place = |why: &PacketRefusal| why.refusal == Refusal::Value && why.at == Some(0);
-    told.map_err(|why| if no_place(&why) { why.refusal.into() } else { why })
+    told.map_err(of_cert)
+}
+
+/// A refusal whose place is one in the value of CERT, or 0 beside the 7 for a RADI of 0. No value of
+/// CERT starts at its first byte, so that 0 beside 7 is no place.
+pub(crate) fn of_cert(why: PacketRefusal) -> PacketRefusal {
+    let no_place = why.refusal == Refusal::Value && why.at == Some(0);
+    if no_place {
+        why.refusal.into()
+    } else {
+        why
+    }
 }

@@ -43,6 +43,11 @@ impl SigningKey {
         SigningKey { seed: *seed }
     }
 
+    /// The seed, for a call that signs.
+    pub(crate) fn seed(&self) -> &[u8; 32] {
+        &self.seed
+    }
+
     /// The public key, under which what is signed verifies. It is made anew at each call, which
     /// takes nearly half as long as a signature.
     #[must_use]

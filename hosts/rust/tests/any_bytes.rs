@@ -11,6 +11,8 @@ mod support;
 
 #[path = "support/any_answers.rs"]
 mod any_answers;
+#[path = "support/any_batches.rs"]
+mod any_batches;
 #[path = "support/any_clocks.rs"]
 mod any_clocks;
 #[path = "support/any_exports.rs"]

@@ -13,7 +13,7 @@ mod support;
 
 use independent::write::padded_request;
 use server::{now, Server};
-use serving::{Batch, Delegated};
+use serving::{delegated, RADI};
 use std::collections::HashMap;
 use std::net::{SocketAddr, UdpSocket};
 use std::sync::atomic::{AtomicU64, Ordering};
@@ -21,7 +21,7 @@ use std::time::{Duration, Instant};
 use std::{fs, thread};
 use support::Xorshift;
 use trawlbeacon::{
-    response_length, PacketRefusal, Refusal, SigningKey, Window, CERT_LENGTH, LONGEST_PACKET,
+    response_length, Batch, PacketRefusal, SigningKey, Window, CERT_LENGTH, LONGEST_PACKET,
     LONGEST_TEXT, REQUEST_LENGTH,
 };
 
@@ -45,17 +45,17 @@ const SENT: u64 = (REQUESTS + CROWDS * ROUNDS) as u64;
 /// How long a round waits for its answers.
 const PATIENCE: Duration = Duration::from_millis(100);
 
-/// A key to sign with for some time, and the long-term public key that delegates to it.
-fn delegated() -> (Delegated, [u8; 32]) {
+/// What a server answers with for some time, and the long-term public key.
+fn batch() -> (Batch, [u8; 32]) {
     let long_term = SigningKey::new(&[1; 32]);
     let times = (now() - 60, now() + 3_600);
-    let delegated = Delegated::new(&long_term, SigningKey::new(&[2; 32]), times);
-    (delegated.expect("there is room"), long_term.public_key())
+    let batch = delegated(&long_term, SigningKey::new(&[2; 32]), times);
+    (batch.expect("there is room"), long_term.public_key())
 }
 
 fn server() -> (Server, [u8; 32]) {
-    let (delegated, key) = delegated();
-    (Server::start(&key, delegated).expect("there is a free port"), key)
+    let (batch, key) = batch();
+    (Server::start(batch).expect("there is a free port"), key)
 }
 
 /// A request with any nonce, and so many zeros behind it.
@@ -332,16 +332,18 @@ fn no_answer_is_longer_than_its_request() {
 /// short. Those beside it are answered.
 #[test]
 fn in_a_large_batch_a_short_request_has_no_answer() {
-    let ((delegated, key), mut random) = (delegated(), Xorshift::new(6));
+    let ((mut batch, key), mut random) = (batch(), Xorshift::new(6));
     let long = response_length(10 * 32, CERT_LENGTH);
     let padding = |place: usize| if place % 10 == 3 { 500 + 4 * (place / 10) } else { PADDING };
-    let requests: Vec<Vec<u8>> =
-        (0..1_000).map(|place| request(&mut random, &key, padding(place))).collect();
-    let packets = requests.iter().map(|request| &request[..]);
-    let batch = Batch::sign(&delegated, now(), packets).expect("the batch is not too large");
-    let mut out = [0; LONGEST_PACKET];
-    for (place, request) in requests.iter().enumerate() {
-        let due = if request.len() < long { Err(Refusal::ResponseLength) } else { Ok(long) };
-        assert_eq!(batch.answer(place, request, &mut out).map_err(Refusal::from), due);
+    let mut due = Vec::new();
+    for place in 0..1_000 {
+        let request = request(&mut random, &key, padding(place));
+        batch.push(&request).expect("the batch is not too large");
+        if request.len() >= long {
+            due.push((place, long));
+        }
     }
+    assert_eq!(batch.answer(now(), RADI), Ok(due.len()));
+    assert!(due.len() > 900 && due.len() < 1_000);
+    assert!(batch.answers().map(|(place, answer)| (place, answer.len())).eq(due));
 }

@@ -13,12 +13,11 @@ mod written;
 
 use independent::appendix::{self, Entry};
 use openssl::{by_the_parts, text, verifies, Signer};
-use serving::{is_meant, Batch, Delegated};
+use serving::{delegated, RADI};
 use std::thread;
 use support::Xorshift;
 use trawlbeacon::{
-    raw, Pair, Pile, Record, Refusal, Run, SigningKey, LONGEST_PACKET, RECORD_LENGTH,
-    REQUEST_LENGTH,
+    raw, Batch, Pair, Pile, Record, Refusal, Run, SigningKey, RECORD_LENGTH, REQUEST_LENGTH,
 };
 
 /// How many threads sign, how many seeds each has, and how many texts each seed signs: 100,000
@@ -172,32 +171,24 @@ fn ours_and_openssl_sign_alike() {
 }
 
 /// The response to each of 900 requests, all of one batch.
-fn responses(key: &[u8; 32], delegated: &Delegated, midp: u64) -> Vec<Vec<u8>> {
-    let request = |client: usize| {
-        let mut request = vec![0; REQUEST_LENGTH];
+fn responses(key: &[u8; 32], batch: &mut Batch, midp: u64) -> Vec<Vec<u8>> {
+    for client in 0..900_usize {
+        let mut request = [0; REQUEST_LENGTH];
         let nonce = trawlbeacon::leaf(&client.to_le_bytes());
         trawlbeacon::write_request(key, &nonce, &mut request).expect("there is room");
-        assert!(is_meant(&request, &trawlbeacon::srv_value(key)));
-        request
-    };
-    let requests: Vec<Vec<u8>> = (0..900).map(request).collect();
-    let batch = Batch::sign(delegated, midp, requests.iter().map(Vec::as_slice));
-    let batch = batch.expect("so many fit into one");
-    let respond = |(place, request): (usize, &Vec<u8>)| {
-        let mut out = [0; LONGEST_PACKET];
-        let length = batch.answer(place, request, &mut out).expect("it is no longer");
-        out[..length].to_vec()
-    };
-    requests.iter().enumerate().map(respond).collect()
+        batch.push(&request).expect("so many fit into one");
+    }
+    assert_eq!(batch.answer(midp, RADI), Ok(900));
+    batch.answers().map(|(_, response)| response.to_vec()).collect()
 }
 
 #[test]
 fn openssl_verifies_every_response_to_a_batch() {
     let (long_term, midp) = (SigningKey::new(&[1; 32]), 1_773_685_571);
     let times = (midp - 60, midp + 60);
-    let delegated = Delegated::new(&long_term, SigningKey::new(&[2; 32]), times);
-    let (key, delegated) = (long_term.public_key(), delegated.expect("there is room"));
-    let responses = responses(&key, &delegated, midp);
+    let batch = delegated(&long_term, SigningKey::new(&[2; 32]), times);
+    let (key, mut batch) = (long_term.public_key(), batch.expect("there is room"));
+    let responses = responses(&key, &mut batch, midp);
     for response in &responses {
         assert_eq!(by_the_parts(&key, response), (true, true));
     }

@@ -6,7 +6,7 @@ use super::keys;
 use super::measuring::Measured;
 use super::relay::{Relay, ONE_IN};
 use super::server::{self, Server};
-use super::serving::Delegated;
+use super::serving::delegated;
 use super::teller::Teller;
 use super::words;
 use std::error::Error;
@@ -45,8 +45,7 @@ fn server() -> Result<(Server, [u8; 32]), Ended> {
     let long_term = keys::new()?;
     let (key, now) = (long_term.public_key(), server::now());
     let times = (now.saturating_sub(DAY), now + DAY);
-    let delegated = Delegated::new(&long_term, keys::new()?, times)?;
-    Ok((Server::start(&key, delegated)?, key))
+    Ok((Server::start(delegated(&long_term, keys::new()?, times)?)?, key))
 }
 
 impl Scene {

@@ -2,8 +2,8 @@
 //!
 //!     cargo run --release -p trawlbeacon --example server [TIME]
 //!
-//! delegates a key, looks which of 1,000 packets are requests to it, takes these 900 into one batch,
-//! signs once, writes a response to each, and then does what 900 clients do: each verifies both
+//! delegates a key, takes 1,000 packets into one batch, answers the 900 of them that are requests to
+//! it, in one call and with one signature, and then does what 900 clients do: each verifies both
 //! signatures and checks the response against its own request. TIME is in seconds since 1970;
 //! without it the clock of the machine is asked.
 //!
@@ -15,11 +15,11 @@ mod serving;
 #[path = "../time/told.rs"]
 mod told;
 
-use serving::{is_meant, Batch, Delegated};
+use serving::{delegated, RADI};
 use std::process::ExitCode;
 use std::time::{SystemTime, UNIX_EPOCH};
 use told::told;
-use trawlbeacon::{PacketRefusal, SigningKey, LONGEST_PACKET, REQUEST_LENGTH};
+use trawlbeacon::{PacketRefusal, SigningKey, REQUEST_LENGTH};
 
 /// How many requests one batch has, and how many others come with them.
 const BATCH: usize = 900;
@@ -45,21 +45,21 @@ fn packets(key: &[u8; 32]) -> Result<Vec<Vec<u8>>, PacketRefusal> {
 fn serve(now: u64) -> Result<String, PacketRefusal> {
     let long_term = SigningKey::new(&[1; 32]);
     let (key, times) = (long_term.public_key(), (now, now.saturating_add(DAY)));
-    let delegated = Delegated::new(&long_term, SigningKey::new(&[2; 32]), times)?;
-    let srv = trawlbeacon::srv_value(&key);
+    let mut batch = delegated(&long_term, SigningKey::new(&[2; 32]), times)?;
+    let packets = packets(&key)?;
+    for packet in &packets {
+        batch.push(packet)?;
+    }
     // What names another server is not for this one to answer (draft 19, section 5.2).
-    let requests: Vec<Vec<u8>> =
-        packets(&key)?.into_iter().filter(|packet| is_meant(packet, &srv)).collect();
-    let batch = Batch::sign(&delegated, now, requests.iter().map(Vec::as_slice))?;
-    let (mut response, mut learnt) = ([0; LONGEST_PACKET], Vec::new());
-    for (place, request) in requests.iter().enumerate() {
-        let length = batch.answer(place, request, &mut response)?;
-        let checked = trawlbeacon::check_signed(&key, request, &response[..length])?;
-        learnt.push((length, checked.window));
+    let count = batch.answer(now, RADI)?;
+    let mut learnt = Vec::new();
+    for (place, response) in batch.answers() {
+        let checked = trawlbeacon::check_signed(&key, &packets[place], response)?;
+        learnt.push((response.len(), checked.window));
     }
     learnt.dedup();
     let [(bytes, window)] = learnt[..] else { panic!("one SREP has one window") };
-    let (count, low, high) = (requests.len(), window.low, window.high);
+    let (low, high) = (window.low, window.high);
     Ok(format!("{count} responses of {bytes} bytes are valid: the time is from {low} to {high}"))
 }
 

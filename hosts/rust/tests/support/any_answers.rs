@@ -80,6 +80,13 @@ impl From<raw::tb_wrote> for Answer {
     }
 }
 
+impl From<raw::tb_batch> for Answer {
+    fn from(told: raw::tb_batch) -> Self {
+        let raw::tb_batch { code, at, answered } = told;
+        Answer::code(code).at(at).numbers(&[answered])
+    }
+}
+
 impl From<raw::tb_parts> for Answer {
     fn from(told: raw::tb_parts) -> Self {
         let raw::tb_parts { code, at, signature, delegation, pubk } = told;

@@ -5,7 +5,7 @@
 //! to this call alone, of as many bytes as the length or the array beside it says.
 
 use crate::any_trial::Trial;
-use crate::{any_clocks, any_hashes, any_header, any_packets, any_piles};
+use crate::{any_batches, any_clocks, any_hashes, any_header, any_packets, any_piles};
 use crate::{any_servers, any_signing, any_texts, any_walks};
 use std::collections::BTreeSet;
 
@@ -17,6 +17,7 @@ pub enum Stack {
     Tree,
     Verify,
     Sign,
+    Batch,
     Text,
 }
 
@@ -26,6 +27,7 @@ impl Stack {
             Stack::Tree => "TB_TREE_STACK",
             Stack::Least | Stack::Verify => "TB_VERIFY_STACK",
             Stack::Sign => "TB_SIGN_STACK",
+            Stack::Batch => "TB_BATCH_STACK",
             Stack::Text => "TB_TEXT_STACK",
         })
     }
@@ -72,6 +74,7 @@ pub fn all() -> impl Iterator<Item = &'static Export> {
         any_packets::EXPORTS,
         any_signing::EXPORTS,
         any_servers::EXPORTS,
+        any_batches::EXPORTS,
         any_piles::EXPORTS,
         any_texts::EXPORTS,
         any_walks::EXPORTS,

@@ -121,7 +121,11 @@ impl<'a> Trial<'a> {
     }
 
     pub fn word(&mut self, used: Use, word: u32) -> Id {
-        let id = self.lend(used, word.to_ne_bytes().to_vec());
+        self.words(used, &[word])
+    }
+
+    pub fn words(&mut self, used: Use, words: &[u32]) -> Id {
+        let id = self.lend(used, words.iter().flat_map(|word| word.to_ne_bytes()).collect());
         self.lent[id.0].numbers = true;
         id
     }

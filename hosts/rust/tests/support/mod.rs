@@ -5,6 +5,7 @@
 #![allow(dead_code)]
 
 pub mod answers;
+pub mod batch_calls;
 pub mod clocks;
 pub mod cut_answers;
 pub mod damage;

@@ -260,7 +260,7 @@ impl Call {
 }
 
 /// MIDP, MINT and MAXT, in order or not.
-fn times(random: &mut Xorshift, outside: bool) -> (u64, u64, u64) {
+pub fn times(random: &mut Xorshift, outside: bool) -> (u64, u64, u64) {
     let mut times = [number(random), number(random), number(random)];
     times.sort_unstable();
     let [first, second, third] = times;
@@ -315,7 +315,7 @@ fn zeros_behind(request: &[u8]) -> usize {
 }
 
 /// The value of CERT with its DELE, with these of their faults, and which frames are wrong in it.
-fn cert(
+pub fn cert(
     random: &mut Xorshift,
     faults: &[Fault],
     mint: u64,
