@@ -83,7 +83,8 @@ module _ (p : List ℕ) (k : ℕ) (rows : List ℕ) (d : ℕ) (said : Said) (cer
         let tail = behindBytes (said .root) (said .midp) (said .radi) cert k in
         let w1 =
         puts-one head 168
-        (front ∙ ap₂ (λ (l : List ℕ) (m : ℕ). pasted o 0 (frontBytes (said .signature) l m c)) nonce-is (wide ∙ sym long))
+        (front ∙ ap₂ (λ (l : List ℕ) (m : ℕ). pasted o 0 (frontBytes (said .signature) l m c)) nonce-is
+        (wide ∙ sym long))
         (omega (arith, length-front (said .signature) (nonceOf a) (length path) c s64 (sized .nonce-long)))
         (omega arith) in
         let size = puts-length w1 in

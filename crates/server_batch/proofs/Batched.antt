@@ -63,7 +63,8 @@ meant-good srv p e =
     not-true (requestBad p)
     (and-left (not (requestBad p)) (not (has (body p) SRV) || same (valueOf (body p) SRV) srv) e .0)
 
-pub meant-parts : (b : Batch) (i : ℕ) → meantAt b i ≡ true → (sizeAt b i ≤ b .slot) × (requestBad (packetAt b i) ≡ false)
+pub meant-parts : (b : Batch) (i : ℕ) → meantAt b i ≡ true → (sizeAt b i ≤ b .slot) ×
+    (requestBad (packetAt b i) ≡ false)
 unfolding meantAt
 meant-parts b i e =
     let both = and-left (leb (sizeAt b i) (b .slot)) (meantFor (b .srv) (packetAt b i)) e in

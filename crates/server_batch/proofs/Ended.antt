@@ -23,9 +23,11 @@ use Rattle.wire_packet.proofs.RequestCodes.{lent-body}
 use Rattle.server_response.specs.Response.{reply, responseBytes}
 use Rattle.server_response.proofs.Pieces.{length-response}
 use Rattle.server_batch.specs.Answering.{rowsLeft, outLeft, lengthsLeft, outAfter, signatureOver}
-use Rattle.server_batch.specs.Batch.{Batch, count, answeredAt, answers, placeOf, leaves, depthIn, rootIn, answerAt, packetAt}
+use Rattle.server_batch.specs.Batch.{Batch, count, answeredAt, answers, placeOf, leaves, depthIn, rootIn}
+use Rattle.server_batch.specs.Batch.{answerAt, packetAt}
 use Rattle.server_batch.specs.Picking.{howMany, picked}
-use Rattle.server_batch.specs.Steps.{stayAt, lengthIn, markAt, answersIn, answerIn, saidOf, PutLeaves, Served, leafIn, Left}
+use Rattle.server_batch.specs.Steps.{stayAt, lengthIn, markAt, answersIn, answerIn, saidOf, PutLeaves, Served}
+use Rattle.server_batch.specs.Steps.{leafIn, Left}
 use Rattle.server_batch.proofs.Batched.{many-same, picked-same, out-same, meant-parts}
 use Rattle.server_batch.proofs.Finished.{answered-meant}
 use Rattle.server_batch.proofs.Picked.{many-below}
@@ -52,7 +54,8 @@ out-none : (p : ℕ → Bool) (f : ℕ → List ℕ) (room : ℕ) (o : List ℕ)
 unfolding outAfter
 out-none p f room o zero h = refl
 out-none p f room o (suc n) h =
-    ap (λ (t : Bool). cond t (pasted (outAfter p f room o n) (room * n) (f n)) (outAfter p f room o n)) (h n (omega arith))
+    ap (λ (t : Bool). cond t (pasted (outAfter p f room o n) (room * n) (f n)) (outAfter p f room o n))
+    (h n (omega arith))
     ∙ out-none p f room o n (λ i g. h i (omega arith))
 
 -- the two replies are the same
@@ -86,7 +89,8 @@ module _ (b : Batch) (m : ℕ) (cert seed : List ℕ) (midp radi room : ℕ) (o 
 
   module _ {k : ℕ} {r : List ℕ} (put : PutLeaves st leaf (count b) rows r k) (is : k ≡ answers b m) where
     -- no packet is answered
-    pub ended-none : {lengths : List ℕ} → k ≡ 0 → lengths ≡ fronted (upto (lengthIn marks (b .lengths) m 0) (count b)) marks
+    pub ended-none : {lengths : List ℕ} → k ≡ 0 → lengths ≡ fronted
+        (upto (lengthIn marks (b .lengths) m 0) (count b)) marks
         → Left b m cert seed midp radi room rows out o r out lengths 0
     unfolding rowsLeft outLeft lengthIn flat
     ended-none z e =
@@ -164,11 +168,14 @@ module _ (b : Batch) (m : ℕ) (cert seed : List ℕ) (midp radi room : ℕ) (o 
       unfolding answerAt
       answer-long i h t =
           let good = meant-parts b i (answered-meant b m i t) .1 in
-          let path = left-length xs k whole sized some few rows r r2 (put .puts) (served .laid) space (howMany st i) (below i h t) in
-          let read = left-path xs k whole sized some few rows r r2 (put .puts) (served .laid) space (howMany st i) (below i h t) in
+          let path = left-length xs k whole sized some few rows r r2 (put .puts) (served .laid) space
+          (howMany st i) (below i h t) in
+          let read = left-path xs k whole sized some few rows r r2 (put .puts) (served .laid) space (howMany st i)
+          (below i h t) in
           let bytes : length (flat (pathOf (leaves b m) (depthIn b m) (placeOf b m i))) ≡ 32 * d =
           ap length (sym (path-is i h t)) ∙ ap (λ (l : List (List ℕ)). length (flat l)) read ∙ path in
-          let a = reply (packetAt b i) (placeOf b m i) (rootIn b m) (flat (pathOf (leaves b m) (depthIn b m) (placeOf b m i)))
+          let a = reply (packetAt b i) (placeOf b m i) (rootIn b m)
+          (flat (pathOf (leaves b m) (depthIn b m) (placeOf b m i)))
           midp radi cert signature in
           length-response a (record {
             nonce-long = lent-body (packetAt b i) refl good .1 .nonc-long;

@@ -74,7 +74,8 @@ module _ (b : Batch) (c : ℕ) (o marks : List ℕ) (few : count b ≤ most) {ro
   pub counted : howMany (stayAt marks (b .lengths) m) (count b) ≡ answers b m
   counted = many-same (stayAt marks (b .lengths) m) (answeredAt b m) (count b) same
 
-  pub picked-are : picked (stayAt marks (b .lengths) m) (leafIn (b .packets) (b .slot) (b .lengths)) (count b) ≡ leaves b m
+  pub picked-are : picked (stayAt marks (b .lengths) m) (leafIn (b .packets) (b .slot) (b .lengths))
+      (count b) ≡ leaves b m
   picked-are = picked-same (stayAt marks (b .lengths) m) (answeredAt b m) _ (count b) same
 
   -- room for all
@@ -93,7 +94,8 @@ module _ (b : Batch) (c : ℕ) (o marks : List ℕ) (few : count b ≤ most) {ro
   unfolding longest
   can-serve {k} e some =
       let is : k ≡ answers b m = e ∙ counted in
-      let deep = depth-mono k (howMany (meantAt b) (count b)) (omega (arith, is, answers-few)) (omega (arith, meant-few)) in
+      let deep = depth-mono k (howMany (meantAt b) (count b)) (omega (arith, is, answers-few))
+      (omega (arith, meant-few)) in
       let wide = depth-mono k (count b) (omega (arith, is, answers-few, meant-few)) few in
       record {
         some = omega arith;

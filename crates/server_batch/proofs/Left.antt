@@ -85,7 +85,8 @@ module _ (xs : List (List ℕ)) (k : ℕ) (w : Whole xs) (n : length xs ≡ k) (
   is = all .is
 
   long : (level j : ℕ) → length (nodeAt xs level j) ≡ 32
-  long = tree-long xs (subst (λ (l : List (List ℕ)). (j : ℕ) → length (nodeAt l 0 j) ≡ 32) back (leaves-long k (flat xs) (omega (arith, bytes))))
+  long = tree-long xs (subst (λ (l : List (List ℕ)). (j : ℕ) → length (nodeAt l 0 j) ≡ 32) back
+      (leaves-long k (flat xs) (omega (arith, bytes))))
 
   -- their last node is the root,
   pub left-root : nodeIn c (nodesOf d - 1) ≡ rootOf xs d

@@ -9,3 +9,4 @@ pub mod Left
 pub mod Finished
 pub mod Ended
 pub mod Told
+pub mod Once

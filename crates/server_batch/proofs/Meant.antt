@@ -65,7 +65,8 @@ module _ (packets : List ℕ) (slot : ℕ) (lengths marks : List ℕ) (held : He
   marked = stay-marked marks lengths least i is holds
 
   pub stay-inside : slot * i + getD lengths i 0 ≤ length packets
-  stay-inside = slot-inside slot (length packets) i (length lengths) _ (held .whole) below (held .inside i below (marked .0))
+  stay-inside = slot-inside slot (length packets) i (length lengths) _ (held .whole) below
+      (held .inside i below (marked .0))
 
   pub stay-good : requestBad (packetIn packets slot lengths i) ≡ false
   stay-good = held .good i below (marked .0)

@@ -68,7 +68,8 @@ module _ (n c packets slot rows out room lengths : ℕ) (some : 0 < n) where
   short-cert h =
       sym
       (any-later _ _
-      (any-later _ _ (any-later _ _ (any-later _ _ (any-here _ (lt-ltb room (264 + 32 * depthOf n + c) (omega arith)))))))
+      (any-later _ _ (any-later _ _ (any-later _ _ (any-here _
+      (lt-ltb room (264 + 32 * depthOf n + c) (omega arith)))))))
 
   pub short-answer : {w : ℕ} → slot ≤ packets / n → 32 * nodesOf (depthOf n) ≤ rows → room ≤ out / n → n ≤ lengths
       → c ≤ room → w ≡ depthOf n → Short (ltb (room - c) (264 + 32 * w))

@@ -1,4 +1,5 @@
--- What the call answers and leaves (draft 19, 5.2 and 5.3; the order of the codes is 7, 4 to 7 of CERT, 35, 11, 20, 19).
+-- What the call answers and leaves (draft 19, 5.2 and 5.3; the order of the codes is 7, 4 to 7 of CERT, 35, 11, 20,
+-- 19).
 use mathlib.Core.Bool.{Bool, not, cond}
 use mathlib.Core.List.{List, [], _∷_}
 use mathlib.Core.Path.{_≡_}
@@ -37,7 +38,8 @@ otherKey seed cert = not (same (publicOf seed) (valueOf (deleOf cert) PUBK))
 unfoldable pub countWrong : ℕ → Bool
 countWrong n = any (eqb n 0 ∷ ltb most n ∷ [])
 
--- 19: of n packets, the slots, the rows, the slots of the answers or the lengths are too few, or a slot is too short for
+-- 19: of n packets, the slots, the rows, the slots of the answers or the lengths are too few, or a slot is too short
+-- for
 -- an answer with the path of n leaves and a CERT of c bytes
 unfoldable pub roomShort : ℕ → ℕ → ℕ → ℕ → ℕ → ℕ → ℕ → ℕ → Bool
 roomShort n c packets slot rows out room lengths =

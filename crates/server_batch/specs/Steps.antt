@@ -1,4 +1,5 @@
--- What private functions ask and promise. No operation is stated by it. Where a function is lent the marks, it speaks of
+-- What private functions ask and promise. No operation is stated by it. Where a function is lent the marks, it speaks
+-- of
 -- these and not of the SRV value by which they were made.
 use mathlib.Core.Bool.{Bool, cond, false, _&&_}
 use mathlib.Core.List.{List, []}
@@ -81,7 +82,8 @@ pub record CanAnswer (p : List ℕ) (place : ℕ) (rows : List ℕ) (d : ℕ) (s
 -- the answer to packet i, at place k of the tree whose rows are lent
 unfoldable pub answerIn : List ℕ → ℕ → List ℕ → ℕ → Said → List ℕ → List ℕ
 answerIn packet k rows d said cert =
-    responseBytes (reply packet k (said .root) (flat (pathIn rows d k)) (said .midp) (said .radi) cert (said .signature))
+    responseBytes (reply packet k (said .root) (flat (pathIn rows d k)) (said .midp) (said .radi) cert
+    (said .signature))
 
 -- answers can be written, each of them at most `least` bytes: the rows have all nodes of a tree of depth d, and out has
 -- n slots of `room` bytes, of which each has room for an answer
@@ -140,7 +142,8 @@ pub record Served (packets : List ℕ) (slot : ℕ) (lengths marks : List ℕ) (
   pub laid : Puts rows 0 (flat (levels (nodesIn k rows) (depthOf k) 0)) rows-after (32 * nodesOf (depthOf k))
   pub answered : out-after
       ≡ outAfter (stayAt marks lengths least)
-      (answersIn packets slot lengths marks least rows-after (depthOf k) (saidOf rows-after (depthOf k) seed midp radi) cert)
+      (answersIn packets slot lengths marks least rows-after (depthOf k)
+      (saidOf rows-after (depthOf k) seed midp radi) cert)
       room out (length lengths)
 
 -- what is left of a batch, where nothing is refused: r packets are answered

@@ -63,7 +63,8 @@ pub length-rest : (path root : List ℕ) (midp radi : ℕ) (cert : List ℕ) (in
     → length (restBytes path root midp radi cert indx) ≡ 96 + length path + length cert
 unfolding restBytes
 length-rest path root midp radi cert indx r32 =
-    length-append path (behindBytes root midp radi cert indx) ∙ omega (arith, length-behind root midp radi cert indx r32)
+    length-append path (behindBytes root midp radi cert indx) ∙ omega
+    (arith, length-behind root midp radi cert indx r32)
 
 -- ---- the response
 

@@ -114,7 +114,8 @@ rows-over {o} {b} {c} {e} p n d is l h fits t =
     let u : Puts b 0 r c e = puts-as (ap (λ (xs : List (List ℕ)). flat (levels xs d 0)) same) t in
     let long = u .ends in
     record {
-      is = u .is ∙ ap (λ (x : List ℕ). r ++ x) (ap (drop (0 + length r)) is ∙ pasted-behind o p 0 (omega arith) (0 + length r) (omega arith));
+      is = u .is ∙ ap (λ (x : List ℕ). r ++ x) (ap (drop (0 + length r)) is ∙ pasted-behind o p 0 (omega arith)
+          (0 + length r) (omega arith));
       ends = long;
       fits = fits;
     }
@@ -170,7 +171,8 @@ module _ (s : List ℕ) (count d : ℕ) (can : CanFill s count d) where
   -- a parent more,
   pub heaped-parent : {b next v : List ℕ} (i : ℕ) → i + 1 < 2 ^ d
       → Puts s 0 (bytesOf row (2 ^ d + i)) b (32 * (2 ^ d + i))
-      → v ≡ parentOf (nodeIn b (2 * i)) (nodeIn b (2 * i + 1)) → Puts b (32 * (2 ^ d + i)) v next (32 * (2 ^ d + i) + 32)
+      → v ≡ parentOf (nodeIn b (2 * i)) (nodeIn b (2 * i + 1)) → Puts b (32 * (2 ^ d + i)) v next
+      (32 * (2 ^ d + i) + 32)
       → Puts s 0 (bytesOf row (2 ^ d + (i + 1))) next (32 * (2 ^ d + (i + 1)))
   heaped-parent i h p e t =
       let q : 2 ^ d + i + 1 ≡ 2 ^ d + (i + 1) = omega arith in
@@ -183,6 +185,7 @@ module _ (s : List ℕ) (count d : ℕ) (can : CanFill s count d) where
   heaped-last {n = n} h p =
       puts-as
       (ap flat
-      (ext-getD [] (upto (λ j. getD row j []) n) row (upto-length (λ j. getD row j []) n ∙ h ∙ sym (levels-length xs d 0))
+      (ext-getD [] (upto (λ j. getD row j []) n) row (upto-length (λ j. getD row j []) n ∙ h ∙ sym
+      (levels-length xs d 0))
       (λ i g. upto-at (λ j. getD row j []) n i [] (rw upto-length at g))))
       p

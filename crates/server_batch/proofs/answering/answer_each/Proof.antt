@@ -1,4 +1,5 @@
--- `server_batch::answering::answer_each` meets its contract. The loop keeps: what is promised, of the first `i` packets,
+-- `server_batch::answering::answer_each` meets its contract. The loop keeps: what is promised, of the first `i`
+-- packets,
 -- of which `k` are answered.
 use mathlib.Core.List.{List}
 use mathlib.Core.Path.{_≡_, refl, ap, _∙_}

@@ -95,10 +95,13 @@ returns c =
     let written = at-write .write-answer .ensures in
     let size = written .1 in
     let put =
-    part-front (now (a .out)) (answerIn (now (p .packet .result)) (a .k) (now (a .rows)) (a .d) (a .said) (now (a .cert))) begin
+    part-front (now (a .out)) (answerIn (now (p .packet .result)) (a .k) (now (a .rows)) (a .d) (a .said)
+    (now (a .cert))) begin
     (begin + a .room - begin) (omega (arith, inside t)) (omega (arith, size, pre .longest, pre .enough)) (written .0) in
-    let told : now (p .packet .result) ≡ packetIn (now (a .packets)) (a .slot) (now (a .lengths)) (a .i) = packet-is p in
-    rw told at (one-put (is t) (answerIn (now (p .packet .result)) (a .k) (now (a .rows)) (a .d) (a .said) (now (a .cert))) begin
+    let told : now (p .packet .result) ≡ packetIn (now (a .packets)) (a .slot) (now (a .lengths))
+    (a .i) = packet-is p in
+    rw told at (one-put (is t) (answerIn (now (p .packet .result)) (a .k) (now (a .rows)) (a .d) (a .said)
+    (now (a .cert))) begin
     (now (a .out)) (a .k) (i .if1 .taken) (omega (arith, size, pre .longest, pre .enough, inside t)) put)
 
 returns-2 : tie.Need-returns-2

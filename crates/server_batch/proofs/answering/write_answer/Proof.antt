@@ -1,3 +1,4 @@
+-- `server_batch::answering::write_answer` meets its contract. The pieces are put one after the other.
 use mathlib.Core.List.{List}
 use mathlib.Core.Path.{_≡_, refl, ap, _∙_}
 use Prim.Native.Nat.{ℕ, _+_, _*_, _-_}

@@ -1,4 +1,5 @@
--- `server_batch::batch::answer_all` meets its contract. What is known on the way stands in Finished, and what is left in
+-- `server_batch::batch::answer_all` meets its contract. What is known on the way stands in Finished, and what is left
+-- in
 -- Ended.
 use mathlib.Core.Path.{_≡_, sym, ap, _∙_}
 use Prim.Native.Nat.{ℕ, _+_, _*_}
@@ -36,7 +37,8 @@ answer-length-requires c κs =
     let deep = depth-mono (m .mark .result) (length (now (s .args .lengths))) n (s .pre .1) in
     (omega (arith, n, s .pre .1), omega (arith, deep, s .pre .2 .of-room, s .fits))
 
-least-is : (l : tie.After-answer-length) → l .answer-length .result ≡ longest (b (marked l)) (length (now (start (marked l) .args .cert)))
+least-is : (l : tie.After-answer-length) → l .answer-length .result ≡ longest (b (marked l))
+    (length (now (start (marked l) .args .cert)))
 unfolding longest
 least-is l =
     let m = marked l in
@@ -65,19 +67,22 @@ returns c =
     let is = put .many ∙ counted (b m) _ _ _ (s .pre .1) (s .pre .2) made _ (least-is l) in
     rw (sym (least-is l))
     (ended-none (b m) _ (now (a .cert)) (a .seed) (a .midp) (a .radi) (a .room) _ _ (now (a .rows)) (now (a .out)) made
-    (same (b m) _ _ _ (s .pre .1) (s .pre .2) made _ (least-is l)) put is (c .before .before .before .before .if1 .taken) (c .before .before .put-lengths .ensures))
+    (same (b m) _ _ _ (s .pre .1) (s .pre .2) made _ (least-is l)) put is
+    (c .before .before .before .before .if1 .taken) (c .before .before .put-lengths .ensures))
 
 -- where some packets stay, they can be answered
 can : (p : tie.After-put-leaves) → (p .put-leaves .result ≡ 0 → ⊥) → let l = p .before .before .before in
     let a = start (marked l) .args in
-    CanServe (stayAt (marked l .mark .last .1 .1 .1 .1 .0) (now (a .lengths)) (l .answer-length .result)) (p .put-leaves .result)
+    CanServe (stayAt (marked l .mark .last .1 .1 .1 .1 .0) (now (a .lengths)) (l .answer-length .result))
+    (p .put-leaves .result)
     (length (now (a .lengths))) (length (now (a .cert))) (l .answer-length .result) (length (now (a .rows)))
     (length (now (a .out))) (a .room)
 can p some =
     let l = p .before .before .before in
     let m = marked l in
     let s = start m in
-    can-serve (b m) _ _ _ (s .pre .1) (s .pre .2) (m .mark .ensures .1) _ (least-is l) (p .put-leaves .ensures .many) some
+    can-serve (b m) _ _ _ (s .pre .1) (s .pre .2) (m .mark .ensures .1) _ (least-is l)
+    (p .put-leaves .ensures .many) some
 
 serve-requires : tie.Need-serve-requires
 serve-requires c κs =
@@ -105,7 +110,8 @@ cast-put-lengths c =
     let s = start m in
     let fine = can p (c .before .before .before .before .before .before .before .before .before .if1 .left) in
     let whole = held (b m) _ _ _ (s .pre .1) (s .pre .2) (m .mark .ensures .1) _ (least-is l) in
-    let short = some-short _ _ _ _ whole (l .answer-length .result) (length (now (s .args .lengths))) (omega arith) (rw (← fine .all) (fine .some)) in
+    let short = some-short _ _ _ _ whole (l .answer-length .result) (length (now (s .args .lengths))) (omega arith)
+    (rw (← fine .all) (fine .some)) in
     omega (arith, c .answer-length2 .ensures, fine .longest, short)
 
 put-lengths-requires-2 : tie.Need-put-lengths-requires-2
@@ -129,7 +135,8 @@ returns-2 c =
     rw (sym (least-is l))
     (ended-some (b m) _ (now (a .cert)) (a .seed) (a .midp) (a .radi) (a .room) _ _ (now (a .rows)) (now (a .out)) made
     (same (b m) _ _ _ (s .pre .1) (s .pre .2) made _ (least-is l)) put is (fine .some) (fine .few) (fine .held)
-    (c .before .before .before .before .before .before .before .before .before .serve .ensures) (c .before .before .before .before .answer-length2 .ensures) (c .before .before .put-lengths2 .ensures))
+    (c .before .before .before .before .before .before .before .before .before .serve .ensures)
+    (c .before .before .before .before .answer-length2 .ensures) (c .before .before .put-lengths2 .ensures))
 
 pub answer-all-spec : {M : Type 1} → statement M
 answer-all-spec =

@@ -10,7 +10,8 @@ use Rattle.server_batch.proofs.batch.answer_batch.Tie as tie
 returns : tie.Need-returns
 unfolding batchCode
 returns c =
-    told-refused _ _ _ _ _ _ _ _ _ (says-more refusals _ (c .before .before .keys-code .ensures) (c .if1 .taken)) (c .if1 .taken)
+    told-refused _ _ _ _ _ _ _ _ _ (says-more refusals _ (c .before .before .keys-code .ensures) (c .if1 .taken))
+    (c .if1 .taken)
 
 returns-2 : tie.Need-returns-2
 unfolding batchCode
@@ -33,7 +34,8 @@ returns-3 c =
     let i = z .before in
     told-answered _ _ _ _ _ _ _ _ _
     (says-0 refusals _ _ (i .before .before .keys-code .ensures) (i .if1 .left)
-    (is-last refusals (z .sizes-code .ensures))) (j .if2 .left) (c .before .before .before .before .before .before .answer-all .ensures)
+    (is-last refusals (z .sizes-code .ensures))) (j .if2 .left)
+    (c .before .before .before .before .before .before .answer-all .ensures)
 
 pub answer-batch-spec : {M : Type 1} → statement M
 answer-batch-spec =

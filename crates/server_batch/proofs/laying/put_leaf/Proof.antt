@@ -51,7 +51,8 @@ returns c =
     ∙ ap leafOf
     (at-leaf .before .packet .ensures
     ∙ ap (λ (n : ℕ). take n (drop (a .slot * a .i) (now (a .packets)))) (t .before .before .wide .ensures)) in
-    leaf-put (is t) (leafIn (now (a .packets)) (a .slot) (now (a .lengths)) (a .i)) (a .k) (i .if1 .taken) (length-leaf _)
+    leaf-put (is t) (leafIn (now (a .packets)) (a .slot) (now (a .lengths)) (a .i)) (a .k) (i .if1 .taken)
+    (length-leaf _)
     (at-put .put .ensures ∙ ap (λ (l : List ℕ). pasted (now (a .rows)) (32 * a .k) l) node) (start t .pre .2)
 
 returns-2 : tie.Need-returns-2

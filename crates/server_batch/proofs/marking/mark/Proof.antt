@@ -27,8 +27,10 @@ unfolding howMany upto
 loop-holds c = (omega arith, refl, refl)
 
 -- the marks are as many as they were
-long : (l : tie.At-loop Inv-loop μ-loop) → length (l .loop .marks) ≡ length (l .before .before .before .before .args .marks .now)
-long l = front-length _ _ _ (omega (arith, l .loop .inv .0, l .before .before .before .before .pre .1)) (l .loop .inv .2)
+long : (l : tie.At-loop Inv-loop μ-loop) → length (l .loop .marks) ≡ length
+    (l .before .before .before .before .args .marks .now)
+long l = front-length _ _ _ (omega (arith, l .loop .inv .0, l .before .before .before .before .pre .1))
+    (l .loop .inv .2)
 
 slice-write-marks : tie.Need-slice-write-marks Inv-loop μ-loop
 slice-write-marks c =

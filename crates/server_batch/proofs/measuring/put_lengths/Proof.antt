@@ -24,7 +24,8 @@ unfolding upto
 loop-holds c = (omega arith, refl)
 
 -- the marks are as many as they were
-long : (l : tie.At-loop Inv-loop μ-loop) → length (l .loop .marks) ≡ length (l .before .before .before .args .marks .now)
+long : (l : tie.At-loop Inv-loop μ-loop) → length (l .loop .marks) ≡ length
+    (l .before .before .before .args .marks .now)
 long l = front-length _ _ _ (omega (arith, l .loop .inv .0, l .before .before .before .pre)) (l .loop .inv .1)
 
 slice-read-length-of : tie.Need-slice-read-length-of Inv-loop μ-loop

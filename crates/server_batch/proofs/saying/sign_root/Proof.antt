@@ -19,7 +19,8 @@ returns c =
     let s = p .before .before in
     let a = s .args in
     let long = length-srep (a .root) (a .midp) (a .radi) (omega (arith, s .good)) in
-    let whole = p .put-srep .ensures ∙ pasted-end (replicate 92 0) (srepBytes (a .root) (a .midp) (a .radi)) 0 (omega (arith, long)) in
+    let whole = p .put-srep .ensures ∙ pasted-end (replicate 92 0) (srepBytes (a .root) (a .midp) (a .radi)) 0
+    (omega (arith, long)) in
     c .sign-parts .ensures ∙ ap (signatureParts (a .seed) responseContext) whole
 
 pub sign-root-spec : {M : Type 1} → statement M

@@ -10,7 +10,8 @@ use Rattle.server_batch.proofs.serving.serve.Statement.{statement}
 use Rattle.server_batch.proofs.serving.serve.Tie as tie
 
 -- the depth is that of the definition, and the rows have room
-held : (c : tie.After-depth) → let s = c .before .before .before .before .before .before .before in 32 * nodesOf (c .depth .result) ≤ length (now (s .args .rows))
+held : (c : tie.After-depth) → let s = c .before .before .before .before .before .before .before in 32 * nodesOf
+    (c .depth .result) ≤ length (now (s .args .rows))
 held c =
     let s = c .before .before .before .before .before .before .before in
     rw (c .depth .ensures .0) (s .pre .1 .held)

@@ -26,9 +26,11 @@ returns c =
     let at = a .at in
     let cert = now (a .cert) in
     let n = length-srep (a .root) (a .midp) (a .radi) (omega (arith, s .good)) in
-    let w1 = puts-one (srepBytes (a .root) (a .midp) (a .radi)) (at + 92) (p1 .put-srep .ensures) (omega arith) (omega arith) in
+    let w1 = puts-one (srepBytes (a .root) (a .midp) (a .radi)) (at + 92) (p1 .put-srep .ensures) (omega arith)
+    (omega arith) in
     let w2 = puts-put cert (at + 92 + length cert) w1 (p2 .put .ensures) (omega arith) (omega arith) in
-    let w3 = puts-put (words (a .indx ∷ [])) (at + 96 + length cert) w2 (p3 .put-words .ensures) (omega arith) (omega arith) in
+    let w3 = puts-put (words (a .indx ∷ [])) (at + 96 + length cert) w2 (p3 .put-words .ensures) (omega arith)
+    (omega arith) in
     puts-as (sym (behind-is (a .root) (a .midp) (a .radi) cert (a .indx))) w3 .is
 
 pub put-behind-spec : {M : Type 1} → statement M

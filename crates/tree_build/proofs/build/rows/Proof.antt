@@ -46,8 +46,10 @@ returns-3 c =
     let d = at-depth .depth .ensures .0 in
     let size = at-bytes .bytes .ensures in
     let whole = count-whole _ n (there .if1 .left) in
-    let less : 32 * (there .before .count-of .result) ≤ 32 * nodesOf (at-depth .depth .result) = omega (arith, at-depth .depth .ensures .2, pow-pos (at-depth .depth .result)) in
-    let puts = rows-over _ _ _ (at-put .put .ensures) whole less (omega arith) (c .before .before .fill-rows .ensures) in
+    let less : 32 * (there .before .count-of .result) ≤ 32 * nodesOf (at-depth .depth .result) = omega
+    (arith, at-depth .depth .ensures .2, pow-pos (at-depth .depth .result)) in
+    let puts = rows-over _ _ _ (at-put .put .ensures) whole less (omega arith)
+    (c .before .before .fill-rows .ensures) in
     (rows-written n d (there .if1 .left) size (omega arith), rows-left _ n d puts)
 
 pub rows-spec : {M : Type 1} → statement M
