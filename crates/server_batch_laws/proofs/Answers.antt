@@ -22,6 +22,8 @@ use Rattle.laws.proofs.Holds.{both}
 use Rattle.server_batch.specs.Answering.{signatureOver}
 use Rattle.server_batch.specs.Batch.{count, meantAt, longest, answeredAt, answers, placeOf, leaves, answerAt}
 use Rattle.server_batch.specs.Picking.{howMany}
+use Rattle.server_batch.proofs.Finished.{depth-mono}
+use Rattle.server_batch.proofs.Left.{picked-length, picked-whole}
 use Rattle.server_batch.proofs.Picked.{many-most, many-below}
 use Rattle.server_laws.specs.Answerable.{Typed}
 use Rattle.server_laws.proofs.Granting.{Granted, granted-exactly}
@@ -46,8 +48,7 @@ use Rattle.wire_request.specs.Texts.{delegationContext, responseContext}
 use Rattle.wire_request.proofs.Answered.{done-exactly}
 use Rattle.server_batch_laws.specs.Call.{Call, Taken, packet, leastOf, answered, answer, replyTo}
 use Rattle.server_batch_laws.specs.Claims.{Writes, Passes}
-use Rattle.server_batch_laws.proofs.Depths.{depth-rises}
-use Rattle.server_batch_laws.proofs.Picking.{picked-length, picked-at, picked-whole, many-fewer}
+use Rattle.server_batch_laws.proofs.Picking.{picked-at, many-fewer}
 use Rattle.server_batch_laws.proofs.Taken.{Lent, Kept, lent, kept, there, packet-long, meant-good}
 
 -- node k leads to the root of the tree over n nodes, by the siblings there; these have their 32 bytes each, and so has
@@ -143,7 +144,7 @@ module _ (c : Call) (t : Taken c) (i : ℕ) (holds : answered c i ≡ true) wher
 
   short : length (responseBytes a) ≤ length (packet c i)
   unfolding longest
-  short = omega (arith, long, depth-rises _ _ fewer few, stays .long, packet-long c ok i stays)
+  short = omega (arith, long, depth-mono _ _ fewer few, stays .long, packet-long c ok i stays)
 
   pub granted : Granted a
   granted =
@@ -179,7 +180,7 @@ module _ (c : Call) (t : Taken c) (i : ℕ) (holds : answered c i ≡ true) wher
   unfolding answerAt
   answer-fits =
       let all = many-most (meantAt (c .batch)) (count (c .batch)) in
-      omega (arith, long, depth-rises n (count (c .batch)) (omega (arith, fewer, all)) (ok .few), ok .room)
+      omega (arith, long, depth-mono n (count (c .batch)) (omega (arith, fewer, all)) (ok .few), ok .room)
 
   -- ---- its signatures
 

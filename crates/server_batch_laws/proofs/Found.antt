@@ -14,9 +14,9 @@ use Rattle.laws.proofs.Pasted.{length-pasted}
 use Rattle.laws.proofs.Pieces.{drop-take}
 use Rattle.laws.proofs.Split.{split}
 use Rattle.laws.proofs.Upto.{upto-length, upto-at}
-use Rattle.server_batch.specs.Answering.{outAfter, outLeft, lengthsLeft}
+use Rattle.server_batch.specs.Answering.{outAfter, outLeft, lengthsLeft, LeftBy}
 use Rattle.server_batch.specs.Batch.{count}
-use Rattle.server_batch_laws.specs.Call.{Call, Taken, answered, answer, outOf, lengthsOf}
+use Rattle.server_batch_laws.specs.Call.{Call, Taken, answered, answer}
 use Rattle.server_batch_laws.specs.Claims.{Finds}
 use Rattle.server_batch_laws.proofs.Answers.{answer-fits}
 use Rattle.server_batch_laws.proofs.Taken.{lent, kept, there}
@@ -92,36 +92,33 @@ module _ (holds : ℕ → Bool) (answer : ℕ → List ℕ) (room : ℕ) (out : 
           ∙ e
       earlier false n inside before e = e
 
--- ---- what the call leaves
+-- ---- what the call leaves, where it refuses nothing
 
-module _ (c : Call) (t : Taken c) where
+module _ (c : Call) (t : Taken c) {rows out lengths rows-after out-after lengths-after : List ℕ}
+    (left : LeftBy (c .batch) (c .cert) (c .seed) (c .midp) (c .radi) (c .room) rows out lengths 0 rows-after out-after
+    lengths-after) where
   -- entry i of the lengths
-  length-at : (lengths : List ℕ) (i : ℕ) → i < count (c .batch)
-      → getD (lengthsOf c lengths) i 0 ≡ cond (answered c i) (length (answer c i)) 0
+  length-at : (i : ℕ) → i < count (c .batch) → getD lengths-after i 0 ≡ cond (answered c i) (length (answer c i)) 0
   unfolding lengthsLeft
-  length-at lengths i h =
+  length-at i h =
       let size : ℕ → ℕ = λ j. cond (answered c j) (length (answer c j)) 0 in
       let long = upto-length size (count (c .batch)) in
-      List·getD-append (upto size (count (c .batch))) _ 0 i (omega (arith, long))
+      ap (λ (l : List ℕ). getD l i 0) (left .of-lengths)
+      ∙ List·getD-append (upto size (count (c .batch))) _ 0 i (omega (arith, long))
       ∙ upto-at size (count (c .batch)) i 0 h
 
   -- The answer to a packet is found in its own slot,
-  pub answer-found : (i : ℕ) → answered c i ≡ true → (out lengths : List ℕ) → length out ≡ c .out
-      → Finds (answer c i) i (c .room) (outOf c out) (lengthsOf c lengths)
+  pub answer-found : length out ≡ c .out → (i : ℕ) → answered c i ≡ true
+      → Finds (answer c i) i (c .room) out-after lengths-after
   unfolding outLeft
-  answer-found i holds out lengths is =
-      let in-batch = there c i (kept c i holds) in
-      let size : getD (lengthsOf c lengths) i 0 ≡ length (answer c i) = length-at lengths i in-batch ∙ rw holds in
+  answer-found is i holds =
+      let inside = there c i (kept c i holds) in
+      let size : getD lengths-after i 0 ≡ length (answer c i) = length-at i inside ∙ rw holds in
       let slots : c .room * count (c .batch) ≤ length out = omega (arith, lent c t .slots) in
-      record {
-        size = size;
-        bytes =
-            rw size
-            (slot-found (answered c) (answer c) (c .room) out (answer-fits c t) i holds (count (c .batch)) in-batch
-            slots);
-      }
+      let bytes =
+      slot-found (answered c) (answer c) (c .room) out (answer-fits c t) i holds (count (c .batch)) inside slots in
+      record { size = size; bytes = rw (size, left .of-out) bytes }
 
   -- and to a packet that is not answered none is.
-  pub none-found : (i : ℕ) → i < count (c .batch) → answered c i ≡ false → (lengths : List ℕ)
-      → getD (lengthsOf c lengths) i 0 ≡ 0
-  none-found i h fails lengths = length-at lengths i h ∙ rw fails
+  pub none-found : (i : ℕ) → i < count (c .batch) → answered c i ≡ false → getD lengths-after i 0 ≡ 0
+  none-found i h fails = length-at i h ∙ rw fails

@@ -1,4 +1,4 @@
--- Picking: the places at which a test holds. Depths: trees of more leaves are not less deep. Taken: what a call that
+-- Picking: the places at which a test holds. Depths: how deep the tree of a batch can be. Taken: what a call that
 -- refuses nothing was lent. Answers: each answer is what `write_response` writes, passes, and is not longer than its
 -- request. Meant: which packets are answered. Alone: what the other packets change of an answer. Found: where a host
 -- finds the answers. Single: that there are such calls.

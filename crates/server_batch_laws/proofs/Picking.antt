@@ -1,29 +1,18 @@
--- Laws of the places at which a test holds: what is picked there, in its order, and a test that holds more rarely.
+-- Laws of the places at which a test holds: what is picked at one of them, and a test that holds more rarely.
 use mathlib.Core.Bool.{Bool, true, false, cond, true≢false}
 use mathlib.Core.List.{List, [], _∷_, _++_}
 use mathlib.Core.Path.{_≡_, refl, sym, ap, _∙_}
 use Prim.Native.Nat.{ℕ, zero, suc, _+_, _≤_, _<_}
 use native.Mathlib.Omega.{arith}
-use lib.ListN.{length, getD, length-append, List·getD-append}
+use lib.ListN.{length, getD, List·getD-append}
 use lib.Seq.{getD-append-add}
 use Rattle.laws.proofs.Split.{split}
 use Rattle.server_batch.specs.Picking.{howMany, picked}
+use Rattle.server_batch.proofs.Left.{picked-length}
 use Rattle.server_batch.proofs.Picked.{many-below}
-use Rattle.tree.proofs.Nodes.{Whole, whole-append}
 
--- as many are picked as there are places,
-pub picked-length : {A : Type 0} (p : ℕ → Bool) (f : ℕ → A) (n : ℕ) → length (picked p f n) ≡ howMany p n
-unfolding picked howMany
-picked-length p f zero = refl
-picked-length p f (suc n) = by (p n) (picked-length p f n)
-  where
-    by : (t : Bool) → length (picked p f n) ≡ howMany p n
-        → length (cond t (picked p f n ++ (f n ∷ [])) (picked p f n)) ≡ cond t (suc (howMany p n)) (howMany p n)
-    by true e = length-append (picked p f n) (f n ∷ []) ∙ omega (arith, e)
-    by false e = e
-
--- and what is picked at a place stands behind what is picked before it
-pub picked-at : {A : Type 0} (p : ℕ → Bool) (f : ℕ → A) (i : ℕ) (d : A) → p i ≡ true → (n : ℕ) → i < n
+-- what is picked at a place stands behind what is picked before it
+pub picked-at : (p : ℕ → Bool) (f : ℕ → List ℕ) (i : ℕ) (d : List ℕ) → p i ≡ true → (n : ℕ) → i < n
     → getD (picked p f n) (howMany p i) d ≡ f i
 unfolding picked
 picked-at p f i d holds zero h = absurd (omega arith)
@@ -47,16 +36,6 @@ picked-at p f i d holds (suc n) h =
         (omega (arith, picked-length p f n, many-below p i holds n g))
         ∙ e
     earlier false n g e = e
-
--- nodes are picked where f says nodes
-pub picked-whole : (p : ℕ → Bool) (f : ℕ → List ℕ) → ((i : ℕ) → length (f i) ≡ 32) → (n : ℕ) → Whole (picked p f n)
-unfolding picked
-picked-whole p f long zero = tt
-picked-whole p f long (suc n) = by (p n) (picked-whole p f long n)
-  where
-    by : (t : Bool) → Whole (picked p f n) → Whole (cond t (picked p f n ++ (f n ∷ [])) (picked p f n))
-    by true w = whole-append (picked p f n) (f n ∷ []) w (long n, tt)
-    by false w = w
 
 -- where a test implies another, it holds at no more places
 pub many-fewer : (p q : ℕ → Bool) → ((i : ℕ) → p i ≡ true → q i ≡ true) → (n : ℕ) → howMany p n ≤ howMany q n

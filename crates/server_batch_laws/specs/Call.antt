@@ -6,7 +6,7 @@ use Prim.Native.Nat.{ℕ, _^_, _<_}
 use lib.ListN.{length}
 use Rattle.laws.specs.Flat.{flat}
 use Rattle.tree.specs.Tree.{pathOf}
-use Rattle.server_batch.specs.Answering.{batchCode, signatureOver, outLeft, lengthsLeft}
+use Rattle.server_batch.specs.Answering.{batchCode, signatureOver}
 use Rattle.server_batch.specs.Batch.{Batch, packetAt, longest, answeredAt, placeOf, leaves, depthIn, rootIn, answerAt}
 use Rattle.server_response.specs.Response.{Reply, reply}
 
@@ -56,10 +56,3 @@ replyTo c i =
     let n = leastOf c in
     reply (packet c i) (placeOf b n i) (rootIn b n) (flat (pathOf (leaves b n) (depthIn b n) (placeOf b n i))) (c .midp)
     (c .radi) (c .cert) (signatureIn c)
-
--- what the call leaves in the buffer for the answers and among the lengths
-abbrev pub outOf : Call → List ℕ → List ℕ
-outOf c out = outLeft (c .batch) (leastOf c) (c .cert) (signatureIn c) (c .midp) (c .radi) (c .room) out
-
-abbrev pub lengthsOf : Call → List ℕ → List ℕ
-lengthsOf c lengths = lengthsLeft (c .batch) (leastOf c) (c .cert) (signatureIn c) (c .midp) (c .radi) lengths
