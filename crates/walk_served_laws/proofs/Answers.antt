@@ -14,14 +14,14 @@ use Rattle.check_response.proofs.Lent.{by-valid}
 use Rattle.check_signatures.specs.SignatureAnswers.{delegated, responded}
 use Rattle.ed25519_sign.specs.Signing.{publicOf}
 use Rattle.laws.proofs.Any.{any-not, any-none}
-use Rattle.laws.proofs.First.{test-false, is-last, quiet-of}
+use Rattle.laws.proofs.First.{test-false, is-last, is-empty, quiet-of, none-quiet, says-0}
 use Rattle.refusal.specs.Refusal.{refusals}
 use Rattle.server_signed_laws.specs.Signer.{Signer, PassesFor}
 use Rattle.server_signed_laws.proofs.Served.{alone-served}
 use Rattle.walk.specs.Standing.{InStep}
 use Rattle.walk.specs.Starting.{serversIn}
 use Rattle.walk.specs.State.{overOf, Going, keyAt, keyOf, serverOf, requestNow}
-use Rattle.walk.specs.Taking.{clockWrong, responseCodeNow, takeCode}
+use Rattle.walk.specs.Taking.{clockWrong, stepCode, responseCodeNow, takeCode}
 use Rattle.walk.specs.declared.Walk.{Walk}
 use Rattle.walk.proofs.Ending.{key-front}
 use Rattle.walk.proofs.Lengths.{length-request-now, server-below}
@@ -82,13 +82,19 @@ module _ {keys nonce : List ℕ} {most : ℕ} (t : Tour keys most) (w : Walk) (b
       any-not _ (le-ltb (t .received (w .step)) (t .sent (w .step)) (t .order (w .step)))
       (any-not _ (le-ltb (t .sent (w .step)) (w .last) since) any-none)
 
-  pub answer-taken : takeCode w (heardIn t w) (answerIn t w) (length b) .code ≡ 0
-  unfolding takeCode responseCodeNow
-  answer-taken =
+  -- nothing refuses it before it is looked at,
+  before-quiet : stepCode w (heardIn t w) (length b) .code ≡ 0
+  unfolding stepCode
+  before-quiet =
       let h = t .quick (w .step) in
-      quiet-of refusals
+      none-quiet refusals
+      (sym
       (test-false refusals _ _ refl (goes-on w g)
       (test-false refusals _ _ refl (le-ltb (length b) (8192 * w .count) (st .room))
       (test-false refusals _ _ refl in-order
-      (test-false refusals _ _ refl (le-ltb (w .most) _ (rw (st .allowed) h)) (is-last refusals refl)))))
-      (valid .0)
+      (test-false refusals _ _ refl (le-ltb (w .most) _ (rw (st .allowed) h)) (is-empty refusals refl))))))
+
+  -- and nothing then
+  pub answer-taken : takeCode w (heardIn t w) (answerIn t w) (length b) .code ≡ 0
+  unfolding takeCode responseCodeNow
+  answer-taken = quiet-of refusals (says-0 refusals _ _ refl before-quiet (is-last refusals refl)) (valid .0)

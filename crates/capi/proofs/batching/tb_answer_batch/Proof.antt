@@ -8,7 +8,7 @@ use Rattle.capi.proofs.batching.tb_answer_batch.Tie as tie
 
 returns : tie.Need-returns
 returns c =
-    let called = c .before .before .before .answer-batch in
+    let called = c .before .before .before .before .before .before .before .answer-batch in
     let is = c .batch-told .ensures in
     (is ∙ ap tbBatch (called .ensures .0), rw (is, batch-code (called .result)) (called .ensures .1))
 
@@ -18,5 +18,7 @@ tb-answer-batch-spec =
     (tie.spec
     (λ c κs. search needs)
     (λ c κs. search needs)
+    (λ c. search needs)
+    (λ c. search needs)
     (λ c. search needs)
     returns)
