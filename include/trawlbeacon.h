@@ -18,9 +18,9 @@
  * their own, so that threads may call them at once; an answer is a value of its own. Inputs may
  * overlap each other, but not such a state or pile.
  *
- * The functions of hashes, those that sign and tb_answers write the whole of out, and they and
- * those that answer with a bool cannot fail, but for tb_sha512_take. That one and every other take
- * any bytes and answer with a code: 0 where it passed, or else the first that applies of those that
+ * The functions of hashes, tb_public_key, tb_sign, tb_sign_parts and tb_answers write the whole of
+ * out, and they and those that answer with a bool cannot fail, but for tb_sha512_take. That one and
+ * every other take any bytes and answer with a code: 0 where it passed, or else the first that applies of those that
  * it names, in the order in which it names them. Of a response, 4 to 7 are judged for its outermost
  * message, then SREP, then CERT, then DELE, and 8 comes after them all. A RADI of 0 is a 7 of SREP.
  * 8 is given where TYPE or SREP's VER is not 1, or VERS lacks SREP's VER; where a request is lent,
@@ -253,7 +253,8 @@ static inline const char *tb_code_text(uint32_t code) {
  * 4,840, measured on x86-64. hosts/c/stack.c measures them anew. */
 #define TB_SIGN_STACK 8192
 
-/* Bytes of stack that are enough for tb_answer_batch. hosts/c/stack.c measures it. */
+/* Bytes of stack that are enough for tb_answer_batch. It takes 6,040, measured on x86-64.
+ * hosts/c/stack.c measures it anew. */
 #define TB_BATCH_STACK 16384
 
 /* Bytes of stack that are enough for tb_cut_text and tb_cut_signed_text, which hold sixteen records
@@ -594,7 +595,7 @@ void tb_sign_parts(const uint8_t seed[32], const uint8_t *context, size_t contex
  *   1. As above.
  *   2. Of each packet that comes: tb_read_request. What is refused is ignored; so is what names
  *      another server, that is, has with_srv 1 and an srv that is not tb_srv_value of the long-term
- *      key (draft 19, 5.2). No writer below looks at that. A server with several long-term keys
+ *      key (draft 19, 5.2). tb_write_response does not look at that. A server with several long-term keys
  *      takes the key that srv names, and ignores what has with_srv 0.
  *   3. For each batch of the others: tb_leaf of each, tb_rows, and the root, which is the last 32
  *      of tb_laid.length bytes; tb_write_srep once; sign TB_RESPONSE_CONTEXT and then those bytes
@@ -657,7 +658,8 @@ struct tb_batch {
  * of CERT, seed that of the delegated key, midp the time and radi its radius.
  *
  * Meant for this server is a packet that is no longer than its slot, that tb_read_request takes,
- * and that has no SRV or this one (draft 19, 5.2). Where m are, each of them is answered that has
+ * and that has no SRV or this one (draft 19, 5.2). So the call is for a server with one long-term
+ * key: one with several must ignore a packet without SRV, and takes such out before. Where m are, each of them is answered that has
  * at least 264 + 32 * d + cert_len bytes, d being the depth of a tree of m leaves, which is the
  * least with 2^d >= m: no answer is longer than its request, whoever else is answered. The tree is
  * that of the answered packets in their order.
@@ -670,7 +672,7 @@ struct tb_batch {
  *
  * Each answer is what tb_write_response writes of the same, and passes tb_check_signed for its
  * request, if CERT is signed by the long-term key, of which nothing is asked here. rows, out and
- * out_lengths overlap nothing. The seed is treated as tb_sign_parts treats it; its public key, which
+ * out_lengths overlap nothing. What signs is what tb_sign_parts calls; the seed's public key, which
  * is no secret, is compared with PUBK.
  *
  * The codes are 7, where radi is 0; 4 to 7 of CERT, then of its DELE; 35, where PUBK of CERT is not

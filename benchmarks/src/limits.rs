@@ -63,6 +63,8 @@ pub const LIMITS: &[Limit] = &[
           "see `verifications` below"),
     limit("walks", 0.70 + RUNS, 0.70, "a step of a walk by the independent one",
           "as runs"),
+    limit("walk_step", 1.08, 1.03, "a verified step of a walk by two verifications and the response check",
+          "asked is 1.02; a step also hashes the response for the next nonce, and writes its record"),
     limit("servers", 0.65 + RUNS, 0.65, "a server's batch of 900 by the independent one",
           "as runs"),
     limit("batch", 1.15, 0.0, "a batch of 900 in one call by its hashing and one signature",

@@ -26,7 +26,7 @@ pub enum Side {
     Hashing,
     /// Ours too, all rows of the same tree.
     Rows,
-    /// Ours too, a batch in steps.
+    /// Ours too, in steps: a batch, or what a step of a walk cannot do without.
     Steps,
     /// Ours too, over the whole message at once.
     Whole,

@@ -6,7 +6,7 @@
 
 use crate::run::Run;
 use crate::sides::{work, Side, Subject, Work};
-use crate::table::{count, Table, MICROSECONDS};
+use crate::table::{count, Columns, Table, MICROSECONDS};
 use independent::ed25519::Ed25519;
 use independent::making::Link;
 use independent::pile::RECORD;
@@ -22,6 +22,9 @@ const PILE: usize = 2 * MOST_SERVERS * RECORD;
 
 /// What every next nonce is blinded with.
 const RAND: [u8; 32] = [9; 32];
+
+/// The step that is held to what it cannot do without: as short a response as there is.
+const HELD: &str = "a step, no siblings";
 
 /// When every request was sent and every response received.
 const WHEN: u64 = 100;
@@ -120,7 +123,23 @@ impl Step {
         let theirs = self.independents(|walk, response, pile| {
             walk.take_signed(&servers.ed25519, &arrived(response), pile)
         });
-        self.subject("verified", [self.ours(take_signed), theirs], "signed")
+        let mut subject = self.subject("verified", [self.ours(take_signed), theirs], "signed");
+        subject.works.push((Side::Steps, self.checked()));
+        match self.name {
+            HELD => subject.held(Side::Steps, "walk_step"),
+            _ => subject,
+        }
+    }
+
+    /// What a verified step cannot do without: the response check, and two verifications.
+    fn checked(&self) -> Work<'_> {
+        let key = self.walk.servers[self.walk.accepted as usize % MOST_SERVERS];
+        let request = write::request(&key, &self.walk.nonce);
+        work(move || {
+            let response = black_box(&self.response);
+            let said = trawlbeacon::answers(&key, response);
+            (said, trawlbeacon::check_response(&request, response, true, true))
+        })
     }
 
     fn subject<'a>(&self, how: &str, works: [Work<'a>; 2], limit: &'static str) -> Subject<'a> {
@@ -140,16 +159,19 @@ fn take_signed(mut state: tb_walk, response: &[u8], pile: &mut [u8]) -> tb_took 
     state.take_signed([WHEN, WHEN], &RAND, response, pile)
 }
 
+const COLUMNS: Columns =
+    Columns { sides: &[Side::Ours, Side::Independent, Side::Steps], ..MICROSECONDS };
+
 /// A step with a response as short as it can be and with one as full, and the last with full ones.
 pub fn part(run: &mut Run) {
     let servers = Servers::new();
     let (last, full) = (2 * MOST_SERVERS - 1, (32, packet::MOST));
     let steps = [
-        Step::after(&servers, "a step, no siblings", 3, (0, 0)),
+        Step::after(&servers, HELD, 3, (0, 0)),
         Step::after(&servers, "a step, 32 siblings", 3, full),
         Step::after(&servers, "the last, 32 siblings", last, full),
     ];
     let subjects = steps.iter().flat_map(|step| [step.lent(), step.signed(&servers)]).collect();
     let title = "a response that is taken by a walk over eight servers";
-    run.table(Table::new("walks", title, &["Step of a walk"]), &MICROSECONDS, subjects);
+    run.table(Table::new("walks", title, &["Step of a walk"]), &COLUMNS, subjects);
 }
