@@ -39,7 +39,7 @@ pub struct Lent<'a> {
     pub lengths: &'a [u32],
     /// Bytes for the rows of the tree.
     pub rows: usize,
-    /// Bytes for all answers, and for each.
+    /// Bytes for all answers.
     pub out: usize,
     /// The same for each.
     pub room: usize,
@@ -260,7 +260,7 @@ mod tests {
         assert_eq!(answered.rows.len(), 7 * 32);
     }
 
-    /// Two that are meant have a sibling each, though only one of them is long enough.
+    /// Where two are meant, an answer could have a sibling, though only one of them is long enough.
     #[test]
     fn a_request_is_as_long_as_any_answer_could_be() {
         let ed25519 = Ed25519::new();

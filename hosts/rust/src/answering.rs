@@ -50,7 +50,8 @@ pub struct Sending<'a> {
 ///
 /// Meant for this server is a good request that has no SRV or this one (draft 19, 5.2). Each of
 /// those is answered that is no shorter than the longest answer would be in a tree of them all; so
-/// no answer is longer than its request. What does not hold an answer stays, but for the lengths.
+/// no answer is longer than its request. What does not hold an answer stays, but for the lengths and
+/// the rows. It is for a server with one long-term key.
 ///
 /// The refusals are 7, where RADI is 0; 4 to 7 of CERT, then of its DELE; 35, where PUBK there is
 /// not the key's public one; 11; 20; 19; and then all stays. A place is one in the value of CERT,

@@ -192,7 +192,7 @@ fn a_batch_is_filled_and_answered_again_and_again() {
             let mut request = [0; REQUEST_LENGTH];
             let nonce = trawlbeacon::leaf(&[round, place as u8, (place >> 8) as u8]);
             trawlbeacon::write_request(&key, &nonce, &mut request).expect("there is room");
-            // Every third is not to be answered: too long, cut off, or too short for its slot.
+            // Every third is not to be answered: too long, cut off, or said to be longer than its slot.
             match place % 9 {
                 2 => batch.push(&[0; SLOT + 1]).expect("there is room"),
                 5 => batch.push(&request[..1000]).expect("there is room"),

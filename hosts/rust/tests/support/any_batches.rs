@@ -17,7 +17,7 @@ pub const EXPORTS: &[Export] = &[export(
 /// The seed of the delegated key.
 const SEED: [u8; 32] = [7; 32];
 
-/// Slots with packets, their lengths, and the SRV value that the first of them names.
+/// Slots with packets, their lengths, and the SRV value that the last of them names.
 fn slots(t: &mut Trial, slot: usize, count: usize) -> (Vec<u8>, Vec<u32>, [u8; 32]) {
     let (mut packets, mut lengths) = (t.make.bytes(slot * count), Vec::new());
     let mut srv = t.make.array();
@@ -34,7 +34,8 @@ fn slots(t: &mut Trial, slot: usize, count: usize) -> (Vec<u8>, Vec<u32>, [u8; 3
     (packets, lengths, srv)
 }
 
-/// How many packets there are: few, none, or too many, of which nothing but lengths is lent.
+/// How many packets there are: few, none, as many as may be, or too many, of which nothing but
+/// lengths is lent.
 fn count(t: &mut Trial) -> usize {
     let few = 1 + t.make.random.below(6);
     let many = t.make.random.pick(&[0, 1024, 1025, 1030]);
