@@ -8,6 +8,7 @@ use lib.Dec.{ltb}
 use lib.ListN.{length, replicate}
 use Rattle.ed25519.specs.Verification.{verifiesParts}
 use Rattle.ed25519_sign.specs.Signing.{publicOf, signatureOf, signatureParts}
+use Rattle.ed25519_sign.proofs.Steps.{parts-whole}
 use Rattle.ed25519_sign_laws.specs.Signed.{SignedParts}
 use Rattle.ed25519_sign_laws.proofs.Verifying.{signature-long, signed-verifies}
 
@@ -24,13 +25,9 @@ module _ (seed context value : List ℕ) where
     within : ltb (64 + (length context + length value)) (2 ^ 64) ≡ true
     within = lt-ltb _ (2 ^ 64) few
 
-    whole : signatureParts seed context value ≡ signatureOf seed (context ++ value)
-    unfolding signatureParts
-    whole = rw within
-
     verified : verifiesParts (publicOf seed) context value (signatureParts seed context value) ≡ true
     unfolding verifiesParts
-    verified = rw (whole, within) (signed-verifies seed (context ++ value))
+    verified = rw (parts-whole seed context value few, within) (signed-verifies seed (context ++ value))
 
     pub signed-parts : SignedParts seed context value
-    signed-parts = record { whole = whole; verified = verified }
+    signed-parts = record { whole = parts-whole seed context value few; verified = verified }

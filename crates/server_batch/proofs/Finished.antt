@@ -40,7 +40,8 @@ many-step true false a c h g = absurd (true≢false (sym (h refl)))
 many-step false true a c h g = omega arith
 many-step false false a c h g = g
 
-many-less : (p q : ℕ → Bool) → ((i : ℕ) → p i ≡ true → q i ≡ true) → (n : ℕ) → howMany p n ≤ howMany q n
+-- where a test implies another, it holds at no more places
+pub many-less : (p q : ℕ → Bool) → ((i : ℕ) → p i ≡ true → q i ≡ true) → (n : ℕ) → howMany p n ≤ howMany q n
 unfolding howMany
 many-less p q h zero = omega arith
 many-less p q h (suc n) = many-step (p n) (q n) (howMany p n) (howMany q n) (h n) (many-less p q h n)

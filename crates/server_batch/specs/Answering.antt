@@ -39,8 +39,7 @@ unfoldable pub countWrong : ℕ → Bool
 countWrong n = any (eqb n 0 ∷ ltb most n ∷ [])
 
 -- 19: of n packets, the slots, the rows, the slots of the answers or the lengths are too few, or a slot is too short
--- for
--- an answer with the path of n leaves and a CERT of c bytes
+-- for an answer with the path of n leaves and a CERT of c bytes
 unfoldable pub roomShort : ℕ → ℕ → ℕ → ℕ → ℕ → ℕ → ℕ → ℕ → Bool
 roomShort n c packets slot rows out room lengths =
     any
@@ -51,7 +50,7 @@ roomShort n c packets slot rows out room lengths =
     ∷ ltb room (264 + 32 * depthOf n + c)
     ∷ [])
 
--- 7 for RADI 0; 4 to 7 for CERT and its DELE; 35; 11; 20; 19
+-- what concerns the keys: 7 for RADI 0; 4 to 7 for CERT and its DELE; 35; 11
 unfoldable pub keysCode : List ℕ → List ℕ → ℕ → ℕ → Refusal
 keysCode cert seed midp radi =
     first

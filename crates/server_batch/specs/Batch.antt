@@ -46,8 +46,7 @@ packetAt b i = packetIn (b .packets) (b .slot) (b .lengths) i
 -- ---- Which of them are answered
 
 -- a request is meant for the server with this SRV value: it is a good one, and has no SRV, or this one (5.2: of
--- another,
--- "the server MUST ignore the request"; this server has one long-term key)
+-- another, "the server MUST ignore the request"; this server has one long-term key)
 unfoldable pub meantFor : List ℕ → List ℕ → Bool
 meantFor srv p = not (requestBad p) && (not (has (body p) SRV) || same (valueOf (body p) SRV) srv)
 

@@ -1,6 +1,5 @@
 -- What private functions ask and promise. No operation is stated by it. Where a function is lent the marks, it speaks
--- of
--- these and not of the SRV value by which they were made.
+-- of these and not of the SRV value by which they were made.
 use mathlib.Core.Bool.{Bool, cond, false, _&&_}
 use mathlib.Core.List.{List, []}
 use mathlib.Core.Path.{_≡_}

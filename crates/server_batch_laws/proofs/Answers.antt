@@ -48,7 +48,8 @@ use Rattle.wire_request.specs.Texts.{delegationContext, responseContext}
 use Rattle.wire_request.proofs.Answered.{done-exactly}
 use Rattle.server_batch_laws.specs.Call.{Call, Taken, packet, leastOf, answered, answer, replyTo}
 use Rattle.server_batch_laws.specs.Claims.{Writes, Passes}
-use Rattle.server_batch_laws.proofs.Picking.{picked-at, many-fewer}
+use Rattle.server_batch.proofs.Finished.{many-less}
+use Rattle.server_batch_laws.proofs.Picking.{picked-at}
 use Rattle.server_batch_laws.proofs.Taken.{Lent, Kept, lent, kept, there, packet-long, meant-good}
 
 -- node k leads to the root of the tree over n nodes, by the siblings there; these have their 32 bytes each, and so has
@@ -99,7 +100,7 @@ module _ (c : Call) (t : Taken c) (i : ℕ) (holds : answered c i ≡ true) wher
   -- the answered are no more than those that are meant for the server, and these no more than all
   fewer : n ≤ howMany (meantAt (c .batch)) (count (c .batch))
   unfolding answeredAt
-  fewer = many-fewer (answered c) (meantAt (c .batch)) (λ j e. both _ _ e .0) (count (c .batch))
+  fewer = many-less (answered c) (meantAt (c .batch)) (λ j e. both _ _ e .0) (count (c .batch))
 
   few : howMany (meantAt (c .batch)) (count (c .batch)) ≤ most
   few = omega (arith, many-most (meantAt (c .batch)) (count (c .batch)), ok .few)

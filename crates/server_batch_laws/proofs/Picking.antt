@@ -1,8 +1,8 @@
--- Laws of the places at which a test holds: what is picked at one of them, and a test that holds more rarely.
-use mathlib.Core.Bool.{Bool, true, false, cond, true≢false}
+-- What is picked at a place at which a test holds.
+use mathlib.Core.Bool.{Bool, true, false, cond}
 use mathlib.Core.List.{List, [], _∷_, _++_}
-use mathlib.Core.Path.{_≡_, refl, sym, ap, _∙_}
-use Prim.Native.Nat.{ℕ, zero, suc, _+_, _≤_, _<_}
+use mathlib.Core.Path.{_≡_, sym, ap, _∙_}
+use Prim.Native.Nat.{ℕ, zero, suc, _+_, _<_}
 use native.Mathlib.Omega.{arith}
 use lib.ListN.{length, getD, List·getD-append}
 use lib.Seq.{getD-append-add}
@@ -36,16 +36,3 @@ picked-at p f i d holds (suc n) h =
         (omega (arith, picked-length p f n, many-below p i holds n g))
         ∙ e
     earlier false n g e = e
-
--- where a test implies another, it holds at no more places
-pub many-fewer : (p q : ℕ → Bool) → ((i : ℕ) → p i ≡ true → q i ≡ true) → (n : ℕ) → howMany p n ≤ howMany q n
-unfolding howMany
-many-fewer p q imply zero = omega arith
-many-fewer p q imply (suc n) = by (p n) (q n) (imply n) (many-fewer p q imply n)
-  where
-    by : (s t : Bool) → (s ≡ true → t ≡ true) → howMany p n ≤ howMany q n
-        → cond s (suc (howMany p n)) (howMany p n) ≤ cond t (suc (howMany q n)) (howMany q n)
-    by true true f h = omega arith
-    by true false f h = absurd (true≢false (sym (f refl)))
-    by false true f h = omega arith
-    by false false f h = h

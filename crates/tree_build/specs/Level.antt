@@ -1,5 +1,5 @@
 -- What private functions promise of a level that is kept as an array of nodes, and of the way up from level to level,
--- and what they ask. No public contract cites it.
+-- and what they ask. No operation is stated by it.
 use mathlib.Core.Path.{_≡_}
 use mathlib.Core.List.{List, [], _∷_, _++_}
 use Prim.Native.Nat.{ℕ, zero, suc, _+_, _*_, _/_, _≤_, _<_, _^_}

@@ -12,7 +12,6 @@ use Rattle.server_batch.specs.Steps.{stayAt, answerIn}
 use Rattle.server_batch.proofs.Answered.{part-front, one-put, one-left}
 use Rattle.server_batch.proofs.Meant.{slot-inside, stay-inside, stay-good, stay-short}
 use borrow.Author.Needs.{needs}
-use borrow.Author.Needs.{needs}
 use Rattle.server_batch.proofs.answering.answer_one.Statement.{statement}
 use Rattle.server_batch.proofs.answering.answer_one.Tie as tie
 

@@ -9,7 +9,6 @@ use Rattle.wire_message.specs.Values.{valueOf}
 use Rattle.wire_packet.proofs.RequestCodes.{lent-body}
 use Rattle.server_batch.proofs.Answered.{answer-whole, answer-length}
 use borrow.Author.Needs.{needs}
-use borrow.Author.Needs.{needs}
 use Rattle.server_batch.proofs.answering.write_answer.Statement.{statement}
 use Rattle.server_batch.proofs.answering.write_answer.Tie as tie
 
