@@ -67,6 +67,19 @@ fn answer_length(siblings: usize, cert: usize) -> usize {
     12 + 56 + 64 + 32 + 4 + 92 + 4 + 32 * siblings + cert
 }
 
+/// The least number of siblings that is enough: those of the packets that are no shorter than an
+/// answer with so many make a tree that is no deeper. Who is too short for an answer is not
+/// counted, and makes nobody else's longer.
+fn siblings(packets: &[Option<&[u8]>], cert: usize) -> usize {
+    let no_shorter = |siblings: &usize| {
+        let least = answer_length(*siblings, cert);
+        packets.iter().flatten().filter(|packet| packet.len() >= least).count()
+    };
+    (0..)
+        .find(|siblings| depth(no_shorter(siblings)) <= *siblings)
+        .expect("no tree is deeper than one over all packets")
+}
+
 impl Desk<'_> {
     /// The delegation, where all is right with what the server is to say.
     fn delegation(&self) -> Result<Dele<'_>, Unwritten> {
@@ -98,8 +111,7 @@ impl Desk<'_> {
         self.delegation()?;
         lent.check(self.cert.len())?;
         let packets: Vec<Option<&[u8]>> = lent.meant(|packet| self.is_meant(packet));
-        let asked = packets.iter().flatten().count();
-        let longest = answer_length(depth(asked), self.cert.len());
+        let longest = answer_length(siblings(&packets, self.cert.len()), self.cert.len());
         let answered: Vec<Option<&[u8]>> = packets
             .into_iter()
             .map(|packet| packet.filter(|packet| packet.len() >= longest))
@@ -260,20 +272,37 @@ mod tests {
         assert_eq!(answered.rows.len(), 7 * 32);
     }
 
-    /// Where two are meant, an answer could have a sibling, though only one of them is long enough.
-    #[test]
-    fn a_request_is_as_long_as_any_answer_could_be() {
+    /// How many of these packets are answered, by how many bytes each has.
+    fn answered(lengths: &[usize]) -> Vec<bool> {
         let ed25519 = Ed25519::new();
         let keys = keys(&ed25519);
         let cert = respond::cert(&keys.delegated.public, 900, 1100, &[5; 64]);
-        let least = 264 + 32 + 152;
-        for (padding, answered) in [(least - 84, 1), (least - 88, 0)] {
-            let packets = [without_srv(padding), without_srv(0)];
-            let (bytes, lengths) = slots(&packets);
-            let told = desk(&keys, &cert).answer(&ed25519, &lent(&bytes, &lengths)).unwrap();
-            assert_eq!(told.answers.iter().flatten().count(), answered, "{}", lengths[0]);
-            assert_eq!(told.rows.len(), 32 * answered);
+        let packets: Vec<Vec<u8>> = lengths.iter().map(|length| without_srv(length - 84)).collect();
+        assert!(packets.iter().map(Vec::len).eq(lengths.iter().copied()));
+        let (bytes, lengths) = slots(&packets);
+        let told = desk(&keys, &cert).answer(&ed25519, &lent(&bytes, &lengths)).unwrap();
+        for (packet, answer) in packets.iter().zip(&told.answers) {
+            assert!(answer.as_ref().map_or(true, |answer| answer.len() <= packet.len()));
         }
+        told.answers.iter().map(Option::is_some).collect()
+    }
+
+    /// An answer with our CERT has 416 bytes, and 32 more for each sibling.
+    #[test]
+    fn whoever_is_too_short_disturbs_nobody() {
+        // One that is too short for any answer, beside one that is just long enough.
+        assert_eq!(answered(&[416, 412]), [true, false]);
+        assert_eq!(answered(&[412, 412, 412, 416]), [false, false, false, true]);
+        // Two have a sibling each, for which one of them has room, or both.
+        assert_eq!(answered(&[416, 448]), [false, true]);
+        assert_eq!(answered(&[448, 448]), [true, true]);
+        assert_eq!(answered(&[416, 416]), [false, false]);
+        // Of three two have room for a sibling: no third is counted with them.
+        assert_eq!(answered(&[448, 444, 448]), [true, false, true]);
+        // Three that have room for one sibling need two, for which one of them has room.
+        assert_eq!(answered(&[448, 448, 480]), [false, false, true]);
+        assert_eq!(answered(&[480, 448, 480]), [true, false, true]);
+        assert_eq!(answered(&[480, 480, 480]), [true, true, true]);
     }
 
     /// Each reason by itself, and then with all that come after it.

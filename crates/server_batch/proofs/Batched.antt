@@ -1,5 +1,5 @@
 -- From the marks to the batch: what the parts promise by the marks is what the definitions say of the batch.
-use mathlib.Core.Bool.{Bool, true, false, not, cond, _&&_, _||_, true≢false}
+use mathlib.Core.Bool.{Bool, true, false, not, cond, _&&_, _||_}
 use mathlib.Core.List.{List, [], _∷_, _++_}
 use mathlib.Core.Path.{_≡_, refl, sym, ap, ap₂, _∙_}
 use Prim.Native.Nat.{ℕ, zero, suc, _+_, _*_, _≤_, _<_}
@@ -9,6 +9,7 @@ use lib.Dec.{eqb, leb}
 use lib.ListN.{length, drop, getD, length-append, List·getD-append}
 use Rattle.laws.specs.Pasted.{pasted, fronted}
 use Rattle.laws.specs.Upto.{upto}
+use Rattle.laws.proofs.Holds.{both}
 use Rattle.laws.proofs.Upto.{upto-length, upto-at}
 use Rattle.laws.specs.Same.{same}
 use Rattle.wire_message.specs.Tags.{SRV}
@@ -52,23 +53,24 @@ module _ (p q : ℕ → Bool) where
 
 -- ---- The marks
 
-and-left : (a c : Bool) → (a && c) ≡ true → (a ≡ true) × (c ≡ true)
-and-left true c q = (refl, q)
-and-left false c q = absurd (true≢false (sym q))
-
 -- a packet that is meant for the server is within its slot and a good request
 meant-good : (srv p : List ℕ) → meantFor srv p ≡ true → requestBad p ≡ false
 unfolding meantFor
 meant-good srv p e =
     not-true (requestBad p)
-    (and-left (not (requestBad p)) (not (has (body p) SRV) || same (valueOf (body p) SRV) srv) e .0)
+    (both (not (requestBad p)) (not (has (body p) SRV) || same (valueOf (body p) SRV) srv) e .0)
 
 pub meant-parts : (b : Batch) (i : ℕ) → meantAt b i ≡ true → (sizeAt b i ≤ b .slot) ×
     (requestBad (packetAt b i) ≡ false)
 unfolding meantAt
 meant-parts b i e =
-    let both = and-left (leb (sizeAt b i) (b .slot)) (meantFor (b .srv) (packetAt b i)) e in
+    let both = both (leb (sizeAt b i) (b .slot)) (meantFor (b .srv) (packetAt b i)) e in
     (leb-true (sizeAt b i) (b .slot) (both .0), meant-good (b .srv) (packetAt b i) (both .1))
+
+-- an answered packet is meant for the server
+pub answered-meant : (b : Batch) (m i : ℕ) → answeredAt b m i ≡ true → meantAt b i ≡ true
+unfolding answeredAt
+answered-meant b m i e = both (meantAt b i) _ e .0
 
 mark-one : (t : Bool) → _≡_ {A = ℕ} (cond t 1 0) 1 → t ≡ true
 mark-one true e = refl

@@ -28,8 +28,7 @@ use Rattle.server_batch.specs.Batch.{answerAt, packetAt}
 use Rattle.server_batch.specs.Picking.{howMany, picked}
 use Rattle.server_batch.specs.Steps.{stayAt, lengthIn, markAt, answersIn, answerIn, saidOf, PutLeaves, Served}
 use Rattle.server_batch.specs.Steps.{leafIn, Left}
-use Rattle.server_batch.proofs.Batched.{many-same, picked-same, out-same, meant-parts}
-use Rattle.server_batch.proofs.Finished.{answered-meant}
+use Rattle.server_batch.proofs.Batched.{many-same, picked-same, out-same, meant-parts, answered-meant}
 use Rattle.server_batch.proofs.Picked.{many-below}
 use Rattle.server_batch.proofs.Left.{picked-length, picked-whole, left-rows, left-root, left-path, left-length}
 

@@ -20,7 +20,7 @@ use Rattle.tree_build.specs.Leaves.{most, countOf}
 use Rattle.tree_build.proofs.AllRows.{path-laid, root-laid}
 use Rattle.tree_build.proofs.Built.{path-bytes}
 use Rattle.tree_build.proofs.Depths.{depth-holds}
-use Rattle.tree_build.proofs.Heaped.{rows-over}
+use Rattle.tree_build.proofs.AllRows.{rows-over}
 use Rattle.server_batch.specs.Picking.{howMany, picked}
 
 -- ---- The leaves that are picked

@@ -5,6 +5,8 @@ pub mod Laid
 pub mod Answered
 pub mod Rooms
 pub mod Batched
+pub mod Depths
+pub mod Fits
 pub mod Left
 pub mod Finished
 pub mod Ended

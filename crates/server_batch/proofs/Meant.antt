@@ -1,5 +1,5 @@
 -- Which packets are meant for the server, by each way out.
-use mathlib.Core.Bool.{Bool, true, false, _&&_, true≢false}
+use mathlib.Core.Bool.{Bool, true, false}
 use mathlib.Core.List.{List}
 use mathlib.Core.Path.{_≡_, refl, sym, ap, _∙_}
 use Prim.Native.Nat.{ℕ, _+_, _*_, _≤_, _<_}
@@ -9,6 +9,7 @@ use borrow.Author.Tests.{le-leb, lt-leb, leb-true, eqb-true}
 use lib.ListN.{length, drop, getD, length-drop}
 use lib.Seq.{length-take-le}
 use Rattle.laws.specs.Same.{same}
+use Rattle.laws.proofs.Holds.{both}
 use Rattle.wire_message.specs.Tags.{SRV}
 use Rattle.wire_message.specs.Values.{has, valueOf}
 use Rattle.wire_packet.specs.Packet.{body}
@@ -47,12 +48,8 @@ pub stay-marked : (marks lengths : List ℕ) (least i : ℕ) {t : Bool} → t �
     → (getD marks i 0 ≡ 1) × (least ≤ getD lengths i 0)
 unfolding stayAt
 stay-marked marks lengths least i e y =
-    let both = and-true _ _ (sym e ∙ y) in
+    let both = both _ _ (sym e ∙ y) in
     (eqb-true (getD marks i 0) 1 (both .0), leb-true least (getD lengths i 0) (both .1))
-  where
-    and-true : (a c : Bool) → (a && c) ≡ true → (a ≡ true) × (c ≡ true)
-    and-true true c q = (refl, q)
-    and-true false c q = absurd (true≢false (sym q))
 
 -- what is at the front of slot i is inside
 pub slot-inside : (slot all i k n : ℕ) → slot * k ≤ all → i < k → n ≤ slot → slot * i + n ≤ all

@@ -12,7 +12,8 @@ use Rattle.server_batch.proofs.batch.answer_batch.Reads as batch-reads
 module _ (b : Batch) (cert seed : List ℕ) (midp radi room : ℕ) (rows out lengths : List ℕ) where
   left-once : {n m : ℕ} {r o l r' o' l' : List ℕ} → n ≡ m
       → LeftBy b cert seed midp radi room rows out lengths n r o l
-      → LeftBy b cert seed midp radi room rows out lengths m r' o' l' → _≡_ {A = List ℕ × List ℕ × List ℕ} (r, o, l) (r', o', l')
+      → LeftBy b cert seed midp radi room rows out lengths m r' o' l'
+      → _≡_ {A = List ℕ × List ℕ × List ℕ} (r, o, l) (r', o', l')
   left-once e p q =
       let p' = rw e at p in
       let of-rows = p' .of-rows ∙ sym (q .of-rows) in

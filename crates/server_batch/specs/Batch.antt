@@ -5,6 +5,7 @@ use Prim.Native.Nat.{ℕ, _+_, _*_}
 use lib.Dec.{leb}
 use lib.ListN.{length, take, drop, getD}
 use Rattle.laws.specs.Flat.{flat}
+use Rattle.laws.specs.Least.{least}
 use Rattle.laws.specs.Same.{same}
 use Rattle.hash.specs.Hashes.{leafOf}
 use Rattle.tree.specs.Tree.{depthOf, rootOf, pathOf}
@@ -43,7 +44,8 @@ packetIn packets slot lengths i = take (getD lengths i 0) (drop (slot * i) packe
 abbrev pub packetAt : Batch → ℕ → List ℕ
 packetAt b i = packetIn (b .packets) (b .slot) (b .lengths) i
 
--- ---- Which of them are answered
+-- ---- Which of them are answered: a packet is, exactly where it is a good request, its SRV is the server's or absent,
+-- and it has at least `longest` bytes, which no answer exceeds
 
 -- a request is meant for the server with this SRV value: it is a good one, and has no SRV, or this one (5.2: of
 -- another, "the server MUST ignore the request"; this server has one long-term key)
@@ -54,37 +56,45 @@ meantFor srv p = not (requestBad p) && (not (has (body p) SRV) || same (valueOf 
 unfoldable pub meantAt : Batch → ℕ → Bool
 meantAt b i = leb (sizeAt b i) (b .slot) && meantFor (b .srv) (packetAt b i)
 
--- the most bytes that an answer has, where CERT has c: were all that are meant for the server in one tree, with the
--- path of its depth
-unfoldable pub longest : Batch → ℕ → ℕ
-longest b c = 264 + 32 * depthOf (howMany (meantAt b) (count b)) + c
-
--- packet i is answered: it is meant for the server and at least so long, so that no answer is longer than its request
+-- packet i is answered, where an answer may have as many bytes as `size`: it is meant for the server and at least so
+-- long, so that no answer is longer than its request
 unfoldable pub answeredAt : Batch → ℕ → ℕ → Bool
-answeredAt b least i = meantAt b i && leb least (sizeAt b i)
+answeredAt b size i = meantAt b i && leb size (sizeAt b i)
 
--- ---- With what: `least` is how long a packet must be that is answered
+-- Who is answered hangs on how long an answer is (9.7: no longer than its request), and that, by the depth of the tree,
+-- on how many are answered. With d siblings and a CERT of c bytes an answer has 264 + 32 d + c; these are enough where
+-- the packets that are at least so long make a tree no deeper than d. A packet that is too short even for an answer
+-- with no sibling is never counted, so that it disturbs no other
+unfoldable pub enoughWith : Batch → ℕ → ℕ → Bool
+enoughWith b c d = leb (depthOf (howMany (answeredAt b (264 + 32 * d + c)) (count b))) d
+
+-- the most bytes that an answer has: with the least number of siblings that is enough. The depth of a tree over all
+-- packets is always enough, so that none above it is tried
+unfoldable pub longest : Batch → ℕ → ℕ
+longest b c = 264 + 32 * least (enoughWith b c) (depthOf (count b)) + c
+
+-- ---- With what: `size` is how long a packet must be that is answered
 
 -- how many are answered, and how many before packet i: that is its place among the leaves, and its INDX (5.2.7)
 abbrev pub answers : Batch → ℕ → ℕ
-answers b least = howMany (answeredAt b least) (count b)
+answers b size = howMany (answeredAt b size) (count b)
 
 abbrev pub placeOf : Batch → ℕ → ℕ → ℕ
-placeOf b least i = howMany (answeredAt b least) i
+placeOf b size i = howMany (answeredAt b size) i
 
 -- the leaves of the tree (5.3), its depth, and its root
 abbrev pub leaves : Batch → ℕ → List (List ℕ)
-leaves b least = picked (answeredAt b least) (λ i. leafOf (packetAt b i)) (count b)
+leaves b size = picked (answeredAt b size) (λ i. leafOf (packetAt b i)) (count b)
 
 abbrev pub depthIn : Batch → ℕ → ℕ
-depthIn b least = depthOf (answers b least)
+depthIn b size = depthOf (answers b size)
 
 abbrev pub rootIn : Batch → ℕ → List ℕ
-rootIn b least = rootOf (leaves b least) (depthIn b least)
+rootIn b size = rootOf (leaves b size) (depthIn b size)
 
 -- the answer to packet i: its own place and path, and what is the same for all
 unfoldable pub answerAt : Batch → ℕ → ℕ → ℕ → List ℕ → List ℕ → ℕ → List ℕ
-answerAt b least midp radi cert signature i =
+answerAt b size midp radi cert signature i =
     responseBytes
-    (reply (packetAt b i) (placeOf b least i) (rootIn b least)
-    (flat (pathOf (leaves b least) (depthIn b least) (placeOf b least i))) midp radi cert signature)
+    (reply (packetAt b i) (placeOf b size i) (rootIn b size)
+    (flat (pathOf (leaves b size) (depthIn b size) (placeOf b size i))) midp radi cert signature)

@@ -17,7 +17,7 @@ use Rattle.tree_build.specs.Level.{CanRead}
 use Rattle.wire_packet.specs.Request.{requestBad}
 use Rattle.server_response.specs.Response.{reply, responseBytes}
 use Rattle.server_batch.specs.Answering.{signatureOver, outAfter, rowsLeft, outLeft, lengthsLeft}
-use Rattle.server_batch.specs.Batch.{Batch, count, packetIn, meantAt, answers, rootIn, longest}
+use Rattle.server_batch.specs.Batch.{Batch, count, packetIn, meantAt, answers, rootIn}
 use Rattle.server_batch.specs.Picking.{howMany, picked}
 use Rattle.server_batch.specs.declared.Said.{Said}
 
@@ -37,6 +37,10 @@ stayTest mark n least = eqb mark 1 && leb least n
 -- packet i is
 unfoldable pub stayAt : List ℕ → List ℕ → ℕ → ℕ → Bool
 stayAt marks lengths least i = stayTest (getD marks i 0) (getD lengths i 0) least
+
+-- d siblings are enough, where CERT has c bytes
+unfoldable pub enoughIn : List ℕ → List ℕ → ℕ → ℕ → Bool
+enoughIn marks lengths c d = leb (depthOf (howMany (stayAt marks lengths (264 + 32 * d + c)) (length lengths))) d
 
 -- the length of its answer, where each has size bytes
 unfoldable pub lengthIn : List ℕ → List ℕ → ℕ → ℕ → ℕ → ℕ

@@ -101,8 +101,8 @@ pub fn answer_each(
     ensures { λ _. ⌜
         now (out .exit)
         ≡ outAfter (stayAt (now (marks .entry)) (now (lengths .entry)) least)
-        (answersIn (now (packets .entry)) slot (now (lengths .entry)) (now (marks .entry)) least (now (rows .entry)) d said
-        (now (cert .entry)))
+        (answersIn (now (packets .entry)) slot (now (lengths .entry)) (now (marks .entry)) least (now (rows .entry)) d
+        said (now (cert .entry)))
         room (now (out .entry)) (length (now (lengths .entry)))
         ⌝ }
 {

@@ -2,31 +2,20 @@
 ghost use mathlib.Core.Path.{_≡_};
 ghost use Prim.Native.Nat.{_+_, _*_, _^_, _≤_, _<_};
 ghost use lib.ListN.{length};
-ghost use Rattle.tree.specs.Tree.{depthOf};
 ghost use Rattle.tree_build.specs.Leaves.{most};
 ghost use Rattle.server_batch.specs.Batch.{batch, longest};
 ghost use Rattle.server_batch.specs.Answering.{batchCode, batchAnswer, batchNumber, LeftBy};
 ghost use Rattle.server_batch.specs.Steps.{Enough, Left};
 use super::BatchAnswer;
+use super::fitting::answer_length;
+use super::fitting::shortest;
 use super::laying::put_leaves;
 use super::marking::mark;
-use super::marking::wide;
 use super::measuring::put_lengths;
 use super::refusing::keys_code;
 use super::refusing::sizes_code;
 use super::serving::serve;
 use tree_build::depth;
-
-// How many bytes an answer has with the path of n leaves and a CERT of c bytes.
-fn answer_length(n: usize, c: usize) -> usize
-    requires { ⌜ (n ≤ most) × (264 + 32 * depthOf n + c < 2 ^ 64) ⌝ }
-    ensures { λ r. ⌜ r ≡ 264 + 32 * depthOf n + c ⌝ }
-{
-    if n == 0 {
-        return 264 + c;
-    }
-    264 + 32 * wide(depth(n)) + c
-}
 
 // The answers to a batch of which nothing is refused. Answers how many there are.
 pub fn answer_all(
@@ -56,8 +45,8 @@ pub fn answer_all(
         (now (rows .exit)) (now (out .exit)) (now (marks .exit)) r
         ⌝ }
 {
-    let n = mark(packets, slot, lengths, srv, marks);
-    let least = answer_length(n, cert.len());
+    mark(packets, slot, lengths, srv, marks);
+    let least = shortest(lengths, marks, cert.len());
     let k = put_leaves(packets, slot, lengths, marks, least, rows);
     if k == 0 {
         put_lengths(lengths, least, 0, marks);
@@ -78,7 +67,7 @@ pub fn answer_all(
         out,
         room,
     );
-    let size = answer_length(k, cert.len());
+    let size = answer_length(depth(k), cert.len());
     put_lengths(lengths, least, size as u32, marks);
     k
 }

@@ -5,7 +5,6 @@ ghost use lib.ListN.{length, take, drop};
 ghost use Rattle.laws.specs.Pasted.{fronted};
 ghost use Rattle.laws.specs.Upto.{upto};
 ghost use Rattle.server_batch.specs.Batch.{batch, meantFor, meantAt};
-ghost use Rattle.server_batch.specs.Picking.{howMany};
 ghost use Rattle.server_batch.specs.Steps.{Slots, markAt};
 use octets::equal;
 use wire_message::has_tag;
@@ -70,25 +69,19 @@ fn mark_at(packets: &[u8], slot: usize, lengths: &[u32], srv: [u8; 32], i: usize
     }
 }
 
-// 1 for each packet that is, and 0 for the others, at the front of marks. Answers how many are.
-pub fn mark(packets: &[u8], slot: usize, lengths: &[u32], srv: [u8; 32], marks: &mut [u32]) -> usize
+// 1 for each packet that is, and 0 for the others, at the front of marks.
+pub fn mark(packets: &[u8], slot: usize, lengths: &[u32], srv: [u8; 32], marks: &mut [u32])
     requires { ⌜ Slots (batch (now packets) slot (now lengths) srv) × (length (now lengths) ≤ length (now marks)) ⌝ }
-    ensures { λ r. ⌜
-        (r
-        ≡ howMany (meantAt (batch (now (packets .entry)) slot (now (lengths .entry)) srv)) (length (now (lengths .entry))))
-        × (now (marks .exit)
+    ensures { λ _. ⌜
+        now (marks .exit)
         ≡ fronted
         (upto (markAt (batch (now (packets .entry)) slot (now (lengths .entry)) srv)) (length (now (lengths .entry))))
-        (now (marks .entry)))
+        (now (marks .entry))
         ⌝ }
 {
-    let mut n: usize = 0;
     let mut i: usize = 0;
     while i < lengths.len() {
-        let x = mark_at(packets, slot, lengths, srv, i);
-        marks[i] = x;
-        n += wide(x);
+        marks[i] = mark_at(packets, slot, lengths, srv, i);
         i += 1;
     }
-    n
 }

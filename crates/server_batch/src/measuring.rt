@@ -10,7 +10,7 @@ use super::laying::stays;
 use super::marking::wide;
 
 // The length of the answer to a packet with this mark and length: size, or 0 where there is none.
-fn length_of(mark: u32, n: usize, least: usize, size: u32) -> u32
+pub fn length_of(mark: u32, n: usize, least: usize, size: u32) -> u32
     ensures { λ r. ⌜ r ≡ cond (stayTest mark n least) size 0 ⌝ }
 {
     if stays(mark, n, least) { size } else { 0 }
@@ -21,7 +21,8 @@ pub fn put_lengths(lengths: &[u32], least: usize, size: u32, marks: &mut [u32])
     requires { ⌜ length (now lengths) ≤ length (now marks) ⌝ }
     ensures { λ _. ⌜
         now (marks .exit)
-        ≡ fronted (upto (lengthIn (now (marks .entry)) (now (lengths .entry)) least size) (length (now (lengths .entry))))
+        ≡ fronted
+        (upto (lengthIn (now (marks .entry)) (now (lengths .entry)) least size) (length (now (lengths .entry))))
         (now (marks .entry))
         ⌝ }
 {

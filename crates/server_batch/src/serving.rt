@@ -52,8 +52,8 @@ pub fn serve(
         (length (now rows)) (length (now out)) room
         ⌝ }
     ensures { λ _. ⌜
-        Served (now (packets .entry)) slot (now (lengths .entry)) (now (marks .entry)) least k (now (cert .entry)) seed midp
-        radi room (now (rows .entry)) (now (out .entry)) (now (rows .exit)) (now (out .exit))
+        Served (now (packets .entry)) slot (now (lengths .entry)) (now (marks .entry)) least k (now (cert .entry)) seed
+        midp radi room (now (rows .entry)) (now (out .entry)) (now (rows .exit)) (now (out .exit))
         ⌝ }
 {
     let d = depth(k);

@@ -18,11 +18,9 @@ use Rattle.ed25519_sign_laws.proofs.Verifying.{signed-verifies}
 use Rattle.hash.specs.Hashes.{leafOf}
 use Rattle.hash.proofs.Lengths.{length-leaf}
 use Rattle.laws.specs.Flat.{flat}
-use Rattle.laws.proofs.Holds.{both}
 use Rattle.server_batch.specs.Answering.{signatureOver}
-use Rattle.server_batch.specs.Batch.{count, meantAt, longest, answeredAt, answers, placeOf, leaves, answerAt}
-use Rattle.server_batch.specs.Picking.{howMany}
-use Rattle.server_batch.proofs.Finished.{depth-mono}
+use Rattle.server_batch.specs.Batch.{count, answers, placeOf, leaves, answerAt}
+use Rattle.server_batch.proofs.Fits.{longest-within, longest-enough}
 use Rattle.server_batch.proofs.Left.{picked-length, picked-whole}
 use Rattle.server_batch.proofs.Picked.{many-most, many-below}
 use Rattle.server_laws.specs.Answerable.{Typed}
@@ -48,7 +46,6 @@ use Rattle.wire_request.specs.Texts.{delegationContext, responseContext}
 use Rattle.wire_request.proofs.Answered.{done-exactly}
 use Rattle.server_batch_laws.specs.Call.{Call, Taken, packet, leastOf, answered, answer, replyTo}
 use Rattle.server_batch_laws.specs.Claims.{Writes, Passes}
-use Rattle.server_batch.proofs.Finished.{many-less}
 use Rattle.server_batch_laws.proofs.Picking.{picked-at}
 use Rattle.server_batch_laws.proofs.Taken.{Lent, Kept, lent, kept, there, packet-long, meant-good}
 
@@ -97,13 +94,8 @@ module _ (c : Call) (t : Taken c) (i : ℕ) (holds : answered c i ≡ true) wher
 
   -- ---- the tree
 
-  -- the answered are no more than those that are meant for the server, and these no more than all
-  fewer : n ≤ howMany (meantAt (c .batch)) (count (c .batch))
-  unfolding answeredAt
-  fewer = many-less (answered c) (meantAt (c .batch)) (λ j e. both _ _ e .0) (count (c .batch))
-
-  few : howMany (meantAt (c .batch)) (count (c .batch)) ≤ most
-  few = omega (arith, many-most (meantAt (c .batch)) (count (c .batch)), ok .few)
+  few : n ≤ most
+  few = omega (arith, many-most (answered c) (count (c .batch)), ok .few)
 
   below : k < n
   below = many-below (answered c) i holds (count (c .batch)) (there c i stays)
@@ -115,7 +107,7 @@ module _ (c : Call) (t : Taken c) (i : ℕ) (holds : answered c i ≡ true) wher
   many = picked-length (answered c) leaf (count (c .batch))
 
   tree : Led (nodeIn (flat xs) k) xs n k
-  tree = led xs n k whole many (omega (arith, fewer, few)) below
+  tree = led xs n k whole many few below
 
   -- the leaf at its place is its own
   leaf-is : nodeIn (flat xs) k ≡ leaf i
@@ -130,7 +122,7 @@ module _ (c : Call) (t : Taken c) (i : ℕ) (holds : answered c i ≡ true) wher
   unfolding signatureOver
   typed =
       record {
-        indx = omega (arith, below, fewer, few);
+        indx = omega (arith, below, few);
         root = tree .root-long;
         midp = t .midp;
         radi = t .radi;
@@ -144,8 +136,9 @@ module _ (c : Call) (t : Taken c) (i : ℕ) (holds : answered c i ≡ true) wher
   long = length-response a (sized a (typed .root) (typed .signature) good) ∙ omega (arith, tree .path-long)
 
   short : length (responseBytes a) ≤ length (packet c i)
-  unfolding longest
-  short = omega (arith, long, depth-mono _ _ fewer few, stays .long, packet-long c ok i stays)
+  short =
+      let enough = longest-enough (c .batch) (length (c .cert)) (ok .few) in
+      omega (arith, long, enough, stays .long, packet-long c ok i stays)
 
   pub granted : Granted a
   granted =
@@ -180,8 +173,8 @@ module _ (c : Call) (t : Taken c) (i : ℕ) (holds : answered c i ≡ true) wher
   pub answer-fits : length (answer c i) ≤ c .room
   unfolding answerAt
   answer-fits =
-      let all = many-most (meantAt (c .batch)) (count (c .batch)) in
-      omega (arith, long, depth-mono n (count (c .batch)) (omega (arith, fewer, all)) (ok .few), ok .room)
+      let enough = longest-enough (c .batch) (length (c .cert)) (ok .few) in
+      omega (arith, long, enough, longest-within (c .batch) (length (c .cert)), ok .room)
 
   -- ---- its signatures
 

@@ -3,7 +3,7 @@ use mathlib.Core.Path.{_≡_, refl}
 use Prim.Native.Nat.{ℕ, _≤_}
 use native.Mathlib.Omega.{arith}
 use Rattle.laws.specs.Least.{least}
-use Rattle.server_batch.proofs.Finished.{depth-mono}
+use Rattle.server_batch.proofs.Depths.{depth-mono}
 use Rattle.tree.specs.Tree.{depthOf}
 use Rattle.tree_build.specs.Leaves.{most}
 

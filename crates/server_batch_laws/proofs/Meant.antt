@@ -13,9 +13,8 @@ use Rattle.laws.specs.Same.{same}
 use Rattle.laws.proofs.Bytes.{bytes-drop, bytes-take}
 use Rattle.laws.proofs.Holds.{both}
 use Rattle.laws.proofs.Same.{same-refl, same-true}
-use Rattle.server_batch.specs.Batch.{count, sizeAt, packetIn, meantFor, meantAt, longest, answeredAt}
-use Rattle.server_batch.specs.Picking.{howMany}
-use Rattle.server_batch.proofs.Picked.{many-most}
+use Rattle.server_batch.specs.Batch.{count, sizeAt, packetIn, meantFor, meantAt, answeredAt}
+use Rattle.server_batch.proofs.Fits.{longest-within}
 use Rattle.tree_build.specs.Leaves.{most}
 use Rattle.wire_message.specs.Tags.{SRV}
 use Rattle.wire_message.specs.Values.{has}
@@ -74,10 +73,7 @@ answered-meant c i bytes holds =
 module _ (c : Call) (i : ℕ) (bytes : Bytes (c .batch .packets)) (few : count (c .batch) ≤ most)
     (long : 264 + 320 + length (c .cert) ≤ sizeAt (c .batch) i) where
   not-longer : leastOf c ≤ sizeAt (c .batch) i
-  unfolding longest
-  not-longer =
-      let n = howMany (meantAt (c .batch)) (count (c .batch)) in
-      omega (arith, depth-ten n (omega (arith, many-most (meantAt (c .batch)) (count (c .batch)))))
+  not-longer = omega (arith, longest-within (c .batch) (length (c .cert)), depth-ten (count (c .batch)) few)
 
   enough : sizeAt (c .batch) i ≤ c .batch .slot → Meant (c .batch .srv) (packet c i) → answered c i ≡ true
   unfolding answeredAt meantAt

@@ -18,8 +18,8 @@ use Rattle.laws.proofs.First.{says-0, test-false, is-last, is-empty, none-quiet
 use Rattle.laws.proofs.Same.{same-refl}
 use Rattle.refusal.specs.Refusal.{passed, shifted, refusals}
 use Rattle.server_batch.specs.Answering.{otherKey, countWrong, roomShort, keysCode, sizesCode, batchCode}
-use Rattle.server_batch.specs.Batch.{packetIn, meantFor, meantAt, longest, answeredAt}
-use Rattle.server_batch.specs.Picking.{howMany}
+use Rattle.server_batch.specs.Batch.{packetIn, meantFor, meantAt, answeredAt}
+use Rattle.server_batch.proofs.Fits.{longest-within}
 use Rattle.server_laws.specs.Answerable.{Delegates}
 use Rattle.server_laws.proofs.Delegated.{cert-delegates}
 use Rattle.server_laws.proofs.Exactly.{good-cert}
@@ -30,7 +30,7 @@ use Rattle.tree.specs.Tree.{depthOf}
 use Rattle.wire_message.proofs.Codes.{code-passed}
 use Rattle.wire_packet.specs.Tables.{deleTable}
 use Rattle.wire_request.specs.Texts.{delegationContext}
-use Rattle.server_batch_laws.specs.Call.{Call, Taken, packet, answered}
+use Rattle.server_batch_laws.specs.Call.{Call, Taken, packet, leastOf, answered}
 use Rattle.server_batch_laws.specs.Single.{single}
 
 -- a tree of one leaf is the leaf
@@ -134,6 +134,8 @@ module _ (s : Signer) (midp radi : ℕ) (time : InTime s midp radi) where
 
     -- and answers the packet.
     pub single-answered : answered c 0 ≡ true
-    unfolding answeredAt longest howMany
+    unfolding answeredAt
     single-answered =
-        rw (meant-here, le-leb (264 + 32 * depthOf 1 + length (certFor s)) n (omega (arith, one-deep, cert-long)))
+        let within = longest-within (c .batch) (length (certFor s)) in
+        let short : leastOf c ≤ n = omega (arith, within, one-deep, cert-long) in
+        rw (meant-here, le-leb (leastOf c) n short)

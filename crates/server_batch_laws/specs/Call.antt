@@ -6,8 +6,10 @@ use Prim.Native.Nat.{ℕ, _^_, _<_}
 use lib.ListN.{length}
 use Rattle.laws.specs.Flat.{flat}
 use Rattle.tree.specs.Tree.{pathOf}
-use Rattle.server_batch.specs.Answering.{batchCode, signatureOver}
+use Rattle.refusal.specs.declared.Refusal.{Refusal}
+use Rattle.server_batch.specs.Answering.{batchAnswer, batchCode, batchNumber, signatureOver, LeftBy}
 use Rattle.server_batch.specs.Batch.{Batch, packetAt, longest, answeredAt, placeOf, leaves, depthIn, rootIn, answerAt}
+use Rattle.server_batch.specs.declared.BatchAnswer.{BatchAnswer}
 use Rattle.server_response.specs.Response.{Reply, reply}
 
 -- what the call is lent: the batch, the value of CERT, the delegated seed, MIDP and RADI; how many bytes there are for
@@ -23,10 +25,22 @@ pub record Call : Type 0 where
   pub room : ℕ
   pub lengths : ℕ
 
+-- its code, 0 where nothing is refused
+abbrev pub codeOf : Call → Refusal
+codeOf c =
+    batchCode (c .batch) (c .cert) (c .seed) (c .midp) (c .radi) (c .rows) (c .out) (c .room) (c .lengths)
+
+-- what `answer_batch` says, r, and leaves, by its contract, of the buffers that it is lent
+pub record Called (c : Call) (rows out lengths : List ℕ) (r : BatchAnswer)
+    (rows-after out-after lengths-after : List ℕ) : Type 0 where
+  pub of-out : c .out ≡ length out
+  pub says : r ≡ batchAnswer (c .batch) (c .cert) (codeOf c)
+  pub left : LeftBy (c .batch) (c .cert) (c .seed) (c .midp) (c .radi) (c .room) rows out lengths (batchNumber r)
+      rows-after out-after lengths-after
+
 -- nothing is refused, and the numbers have the width of their types
 pub record Taken (c : Call) : Type 0 where
-  pub passes :
-      batchCode (c .batch) (c .cert) (c .seed) (c .midp) (c .radi) (c .rows) (c .out) (c .room) (c .lengths) .code ≡ 0
+  pub passes : codeOf c .code ≡ 0
   pub midp : c .midp < 2 ^ 64
   pub radi : c .radi < 2 ^ 32
 

@@ -4,13 +4,17 @@ use mathlib.Core.List.{List, [], _∷_, _++_}
 use Prim.Native.Nat.{ℕ, zero, suc, _+_, _*_, _-_, _/_, _^_, _≤_, _<_}
 use native.Mathlib.Nat.{zero-add}
 use native.Mathlib.Omega.{arith}
-use lib.ListN.{length, getD, length-append, List·getD-append}
+use lib.ListN.{length, take, drop, getD, length-append, length-drop, List·getD-append}
 use lib.Pow.{pow-pos}
-use lib.Seq.{getD-append-add}
+use lib.Seq.{getD-append-add, drop-append-le, take-append-le}
 use Rattle.laws.specs.Flat.{flat}
+use Rattle.laws.specs.Pasted.{pasted}
 use Rattle.laws.specs.Upto.{upto}
-use Rattle.laws.proofs.Upto.{upto-length, upto-at}
-use Rattle.tree.specs.Tree.{nodeIn, nodeAt, rootOf, beside, siblings, pathOf}
+use Rattle.laws.specs.Written.{Puts}
+use Rattle.laws.proofs.Pieces.{pasted-behind}
+use Rattle.laws.proofs.Upto.{upto-length, upto-at, upto-same}
+use Rattle.laws.proofs.Written.{puts-as}
+use Rattle.tree.specs.Tree.{nodeIn, nodesIn, nodeAt, rootOf, beside, siblings, pathOf}
 use Rattle.tree_build.specs.AllRows.{levels, nodesOf, levelStart, laidAt, pathIn}
 use Rattle.tree.proofs.Nodes.{Whole, whole-append, whole-upto, flat-length, flat-at}
 
@@ -25,7 +29,7 @@ start-is d (suc m) l e =
     rw q (omega (arith, start-is d m (suc l) (omega arith)))
 
 -- node j of the level m above level k
-pub levels-at : (xs : List (List ℕ)) (d k m j : ℕ) → m ≤ d → j < 2 ^ (d - m)
+levels-at : (xs : List (List ℕ)) (d k m j : ℕ) → m ≤ d → j < 2 ^ (d - m)
     → getD (levels xs d k) (levelStart d m + j) [] ≡ nodeAt xs (k + m) j
 unfolding levels
 levels-at xs zero k m j h g =
@@ -56,7 +60,7 @@ levels-at xs (suc d) k (suc m) j h g =
     ∙ levels-at xs d (suc k) m j (omega arith) (rw b at g)
     ∙ ap (λ (x : ℕ). nodeAt xs x j) e
 
-pub levels-length : (xs : List (List ℕ)) (d k : ℕ) → length (levels xs d k) ≡ nodesOf d
+levels-length : (xs : List (List ℕ)) (d k : ℕ) → length (levels xs d k) ≡ nodesOf d
 unfolding levels
 levels-length xs zero k = refl
 levels-length xs (suc d) k =
@@ -64,7 +68,7 @@ levels-length xs (suc d) k =
     ∙ omega (arith, upto-length (nodeAt xs k) (2 ^ suc d), levels-length xs d (suc k), pow-pos d)
 
 module _ (xs : List (List ℕ)) (long : (k j : ℕ) → length (nodeAt xs k j) ≡ 32) where
-  pub levels-whole : (d k : ℕ) → Whole (levels xs d k)
+  levels-whole : (d k : ℕ) → Whole (levels xs d k)
   unfolding levels
   levels-whole zero k = (long k 0, tt)
   levels-whole (suc d) k =
@@ -104,3 +108,28 @@ module _ (xs : List (List ℕ)) (long : (k j : ℕ) → length (nodeAt xs k j) �
       let b : d - d ≡ 0 = omega arith in
       let i : nodesOf d - 1 ≡ levelStart d d + 0 = omega (arith, start-is d d 0 (omega arith)) in
       ap (nodeIn (flat (levels xs d 0) ++ more)) i ∙ laid-at more d d 0 (omega arith) (rw b (omega arith))
+
+-- ---- Nodes that were put at the front of o, and the rows over them
+
+nodes-front : (n : ℕ) (p more : List ℕ) → 32 * n ≤ length p → nodesIn n (p ++ more) ≡ nodesIn n p
+unfolding nodesIn nodeIn
+nodes-front n p more h =
+    upto-same (nodeIn (p ++ more)) (nodeIn p) n
+    (λ k g.
+    ap (take 32) (drop-append-le (32 * k) p more (omega arith))
+    ∙ take-append-le 32 (drop (32 * k) p) more (simp length-drop (omega arith)))
+
+pub rows-over : {o b c : List ℕ} {e : ℕ} (p : List ℕ) (n d : ℕ) → b ≡ pasted o 0 p → length p ≡ 32 * n → 32 * n ≤ e
+    → e ≤ length o → Puts b 0 (flat (levels (nodesIn n b) d 0)) c e → Puts o 0 (flat (levels (nodesIn n p) d 0)) c e
+unfolding pasted
+rows-over {o} {b} {c} {e} p n d is l h fits t =
+    let same : nodesIn n b ≡ nodesIn n p = ap (nodesIn n) is ∙ nodes-front n p _ (omega arith) in
+    let r = flat (levels (nodesIn n p) d 0) in
+    let u : Puts b 0 r c e = puts-as (ap (λ (xs : List (List ℕ)). flat (levels xs d 0)) same) t in
+    let long = u .ends in
+    record {
+      is = u .is ∙ ap (λ (x : List ℕ). r ++ x) (ap (drop (0 + length r)) is ∙ pasted-behind o p 0 (omega arith)
+          (0 + length r) (omega arith));
+      ends = long;
+      fits = fits;
+    }

@@ -2,27 +2,34 @@
 -- above it: the tree over the array that holds it is the upper part of the tree. So one array may go on where another,
 -- of another size, ended.
 use mathlib.Core.Path.{_≡_, refl, sym, ap, ap₂, _∙_}
-use mathlib.Core.List.{List, [], _∷_, _++_}
+use mathlib.Core.List.{List, [], _∷_, _++_, append-assoc, append-nil}
 use Prim.Native.Nat.{ℕ, zero, suc, _+_, _*_, _-_, _/_, _^_, _≤_, _<_}
 use native.Mathlib.Nat.{le-of-suc-le-suc}
 use native.Mathlib.Omega.{arith}
 use lib.ListN.{length, getD}
+use lib.Pow.{pow-pos}
 use Rattle.laws.specs.Flat.{flat}
-use Rattle.laws.proofs.Written.{puts-as}
+use Rattle.laws.proofs.Flat.{flat-append}
+use Rattle.laws.specs.Upto.{upto}
+use Rattle.laws.specs.Written.{Puts}
+use Rattle.laws.proofs.Upto.{upto-same}
+use Rattle.laws.proofs.Written.{puts-more, puts-as}
 use Rattle.hash.specs.Hashes.{parentOf, emptyPlace}
 use Rattle.tree.specs.Tree.{nodeAt, rootOf, beside}
 use Rattle.tree.proofs.Width.{pow-half, exponent-lt}
+use Rattle.tree_build.specs.AllRows.{levels, nodesOf}
 use Rattle.tree_build.specs.Leaves.{most}
-use Rattle.tree_build.specs.Level.{Level, Halved, part, parts, CanPut, PutPart, Fits, Ascends}
+use Rattle.tree_build.specs.Level.{Level, Halved, part, parts, partsSize, CanPut, PutPart, Fits, Ascends}
 use Rattle.tree_build.specs.declared.Wanted.{Wanted}
-use Rattle.tree_build.specs.declared.Wanted.the-variants.{Nothing, Sibling}
+use Rattle.tree_build.specs.declared.Wanted.the-variants.{Nothing, Sibling, Row}
 use Rattle.tree_build.proofs.Writing.{Writing, writing-first, writing-room, writing-next, writing-rest, writing-done}
 
 -- the same is wanted of nodes that are the same
 part-same : (wanted : Wanted) (f g : ℕ → List ℕ) (n j : ℕ) → n ≡ 2 * (n / 2) → j < n
-    → ((i : ℕ) → i < n → f i ≡ g i) → part wanted f j ≡ part wanted g j
+    → ((i : ℕ) → i < n → f i ≡ g i) → part wanted f n j ≡ part wanted g n j
 part-same Nothing f g n j e l h = refl
 part-same Sibling f g n j e l h = ap (λ (x : List ℕ). x ∷ []) (h (beside j) (omega arith))
+part-same Row f g n j e l h = upto-same f g n h
 
 -- ---- A level is the leaves of what is above it
 
@@ -90,16 +97,18 @@ module _ {xs row : List (List ℕ)} {d place places left n start j at : ℕ} {wa
     twice = pow-half left n p (r .writing .wide) .0
 
     -- what is wanted of it can be written
-    pub ascending-can : CanPut wanted j (length row) at (length out)
+    pub ascending-can : CanPut wanted n j (length row) at (length out)
     ascending-can =
         record {
-          few = omega (arith, r .few, r .writing .inside);
-          held = omega (arith, twice, r .writing .inside, r .room, r .size);
+          pairs = twice;
+          held = omega (arith, r .room, r .size);
+          few = r .few;
+          inside = r .writing .inside;
           enough = writing-room (r .writing) p;
         }
 
     -- and is,
-    module _ {next : List ℕ} {e : ℕ} (t : PutPart wanted (λ i. getD row i []) j out at next e) where
+    module _ {next : List ℕ} {e : ℕ} (t : PutPart wanted (λ i. getD row i []) n j out at next e) where
       pub ascending-put : Writing wanted (nodeAt xs) d place o start (n / 2) (left - 1) (j / 2) e next
       ascending-put =
           let inside = r .writing .inside in
@@ -149,3 +158,31 @@ module _ {xs row : List (List ℕ)} {d place places left n start j at : ℕ} {wa
       let top : getD row 0 [] ≡ rootOf row left =
       rw z (getD-any row 0 [] emptyPlace (omega (arith, some, r .room, r .size))) in
       record { top = top ∙ top-is; puts = writing-done (r .writing) z }
+
+-- ---- All rows: those below the root have been written, and then the root is
+
+parts-rows : (xs : List (List ℕ)) (d k j t : ℕ) → k + d ≡ t
+    → parts Row (nodeAt xs) d k j ++ (nodeAt xs t 0 ∷ []) ≡ levels xs d k
+unfolding parts levels
+parts-rows xs zero k j t e =
+    let q : k ≡ t = omega arith in
+    rw q
+parts-rows xs (suc d) k j t e =
+    append-assoc (upto (nodeAt xs k) (2 ^ suc d)) _ _
+    ∙ ap (λ (l : List (List ℕ)). upto (nodeAt xs k) (2 ^ suc d) ++ l) (parts-rows xs d (suc k) (j / 2) t (omega arith))
+
+pub rows-puts : {xs : List (List ℕ)} {d place size : ℕ} {o out root last : List ℕ} → size ≡ 32 * nodesOf d
+    → Ascends xs d Row place o 0 out root → Puts out (size - 32) root last (size - 32 + 32)
+    → Puts o 0 (flat (levels xs d 0)) last size
+unfolding flat
+rows-puts {xs} {d} {place} {size} {root = root} e t p =
+    let below = parts Row (nodeAt xs) d 0 place in
+    let some : 1 ≤ nodesOf d = omega (arith, pow-pos d) in
+    let at : 0 + 32 * partsSize Row d ≡ size - 32 = omega arith in
+    let end : size - 32 + 32 ≡ size = omega arith in
+    let all : flat below ++ root ≡ flat (levels xs d 0) =
+    ap (λ (l : List ℕ). flat below ++ l) (sym (append-nil root))
+    ∙ sym (flat-append below (root ∷ []))
+    ∙ ap (λ (x : List ℕ). flat (below ++ (x ∷ []))) (t .top)
+    ∙ ap flat (parts-rows xs d 0 place d (omega arith)) in
+    rw end at (puts-as all (puts-more (rw at at (t .puts)) p))

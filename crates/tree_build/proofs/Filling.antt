@@ -1,5 +1,5 @@
--- What the loops over one level keep, and the laws of their turns: a row as it is padded, and as it is filled with
--- parents.
+-- What the loops over one level keep, and the laws of their turns: a row as it is padded, as it is filled with parents,
+-- and as it is put.
 use mathlib.Core.Path.{_≡_, refl, sym, _∙_}
 use mathlib.Core.List.{List, []}
 use Prim.Native.Nat.{ℕ, _+_, _*_, _≤_, _<_}
@@ -8,10 +8,12 @@ use lib.ListN.{length, set, getD, length-set}
 use lib.Seq.{getD-set-same, getD-set-other}
 use Rattle.laws.proofs.Fill.{fill-next}
 use Rattle.laws.proofs.Split.{split}
+use Rattle.laws.specs.Written.{Puts}
+use Rattle.laws.proofs.Written.{puts-more, puts-as}
 use Rattle.hash.specs.Hashes.{parentOf, emptyPlace}
 use Rattle.tree.specs.Tree.{nodeIn, nodesIn, nodeAt}
-use Rattle.tree.proofs.Nodes.{nodes-at, nodes-past}
-use Rattle.tree_build.specs.Level.{Level, Padded, Halved}
+use Rattle.tree.proofs.Nodes.{nodes-at, nodes-past, flat-more}
+use Rattle.tree_build.specs.Level.{Level, bytesOf, Padded, Halved}
 
 -- ---- A row as it is padded
 
@@ -51,3 +53,12 @@ halved-next {row} {up} {i} v t g e =
       size = simp length-set (t .size);
       parents = fill-next (λ j. parentOf (getD row (2 * j) []) (getD row (2 * j + 1) [])) [] up i v g (t .parents) e;
     }
+
+-- ---- A row as it is put from byte `at` on: its first i nodes are
+
+pub row-next : (row : List (List ℕ)) {o out next : List ℕ} {at : ℕ} (i : ℕ)
+    → Puts o at (bytesOf row i) out (at + 32 * i) → Puts out (at + 32 * i) (getD row i []) next (at + 32 * i + 32)
+    → Puts o at (bytesOf row (i + 1)) next (at + 32 * (i + 1))
+row-next row {at = at} i p t =
+    let e : at + 32 * i + 32 ≡ at + 32 * (i + 1) = omega arith in
+    puts-as (sym (flat-more (λ j. getD row j []) i)) (rw e at (puts-more p t))

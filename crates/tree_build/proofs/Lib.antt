@@ -8,7 +8,6 @@ pub mod Writing
 pub mod Ascending
 pub mod Reading
 pub mod AllRows
-pub mod Heaped
 pub mod BuildingLaws
 pub mod Built
 pub mod Served

@@ -34,4 +34,4 @@ module _ (rows : List ℕ) (first : ℕ) {d place n left j at : ℕ} {o out : Li
     rows-put is t =
         let level = start-is d (d - left) left (omega (arith, r .under)) in
         let number : first + i ≡ levelStart d (d - left) + i = omega (arith, start, level, r .wide) in
-        writing-next r p (sibling-put j refl e (puts-as (is ∙ ap (nodeIn rows) number) t))
+        writing-next r p (sibling-put n j refl e (puts-as (is ∙ ap (nodeIn rows) number) t))

@@ -6,6 +6,7 @@ use Prim.Native.Nat.{ℕ, zero, suc, _+_, _*_, _-_, _/_, _^_, _≤_, _<_}
 use native.Mathlib.Nat.{zero-add}
 use native.Mathlib.Omega.{arith}
 use lib.ListN.{length}
+use lib.Pow.{pow-pos}
 use Rattle.laws.specs.Flat.{flat}
 use Rattle.laws.proofs.Flat.{flat-append}
 use Rattle.laws.specs.Written.{Puts}
@@ -14,20 +15,25 @@ use Rattle.tree.specs.Tree.{beside, siblings}
 use Rattle.tree.proofs.Width.{pow-half}
 use Rattle.tree_build.specs.Level.{part, partSize, parts, partsSize, PutPart, Fits}
 use Rattle.tree_build.specs.declared.Wanted.{Wanted}
-use Rattle.tree_build.specs.declared.Wanted.the-variants.{Nothing, Sibling}
+use Rattle.tree_build.specs.declared.Wanted.the-variants.{Nothing, Sibling, Row}
 
 -- ---- What is wanted of a level and of those above it
 
-size-next : (wanted : Wanted) (l : ℕ) → 0 < l → partsSize wanted l ≡ partSize wanted + partsSize wanted (l - 1)
-size-next Nothing l p = refl
-size-next Sibling l p = omega arith
+size-next : (wanted : Wanted) (l n : ℕ) → 0 < l → n ≡ 2 ^ l
+    → partsSize wanted l ≡ partSize wanted n + partsSize wanted (l - 1)
+size-next Nothing l n p e = refl
+size-next Sibling l n p e = omega arith
+size-next Row l n p e =
+    let q : suc (l - 1) ≡ l = omega arith in
+    rw q (omega (arith, pow-pos (l - 1), pow-half l n p e))
 
 size-none : (wanted : Wanted) → partsSize wanted 0 ≡ 0
 size-none Nothing = refl
 size-none Sibling = refl
+size-none Row = refl
 
 parts-next : (wanted : Wanted) (node : ℕ → ℕ → List ℕ) (l k j : ℕ) → 0 < l
-    → parts wanted node l k j ≡ part wanted (node k) j ++ parts wanted node (l - 1) (suc k) (j / 2)
+    → parts wanted node l k j ≡ part wanted (node k) (2 ^ l) j ++ parts wanted node (l - 1) (suc k) (j / 2)
 unfolding parts
 parts-next wanted node zero k j p = absurd (omega arith)
 parts-next wanted node (suc l) k j p =
@@ -46,10 +52,10 @@ pub path-puts : (node : ℕ → ℕ → List ℕ) (d place : ℕ) {o out : List 
 path-puts node d place t = rw zero-add at (puts-as (ap flat (parts-path node d 0 place)) t)
 
 -- the sibling is put, number i of its level
-pub sibling-put : {wanted : Wanted} {node : ℕ → List ℕ} {i at : ℕ} {o out : List ℕ} (j : ℕ) → wanted ≡ Sibling
-    → i ≡ beside j → Puts o at (node i) out (at + 32) → PutPart wanted node j o at out (at + 32)
+pub sibling-put : {wanted : Wanted} {node : ℕ → List ℕ} {i at : ℕ} {o out : List ℕ} (n j : ℕ) → wanted ≡ Sibling
+    → i ≡ beside j → Puts o at (node i) out (at + 32) → PutPart wanted node n j o at out (at + 32)
 unfolding flat
-sibling-put j is e t = rw is (record { ends = omega arith; puts = rw (append-nil, ← e) t })
+sibling-put n j is e t = rw is (record { ends = omega arith; puts = rw (append-nil, ← e) t })
 
 -- ---- The level with `left` levels above it comes next, of which node j is on the way, and byte `at`
 
@@ -87,25 +93,27 @@ coming-next done s later whole e = append-assoc done s later ∙ ap (λ (t : Lis
 module _ {wanted : Wanted} {node : ℕ → ℕ → List ℕ} {d place start n left j at : ℕ} {o out : List ℕ}
     (r : Writing wanted node d place o start n left j at out) where
   -- there is room for what is wanted of the level,
-  pub writing-room : 0 < left → at + 32 * partSize wanted ≤ length out
-  writing-room p = omega (arith, size-next wanted left p, r .ends, r .enough)
+  pub writing-room : 0 < left → at + 32 * partSize wanted n ≤ length out
+  writing-room p = omega (arith, size-next wanted left n p (r .wide), r .ends, r .enough)
 
   -- which is put
-  pub writing-next : {next : List ℕ} {e : ℕ} → 0 < left → PutPart wanted (node (d - left)) j out at next e
+  pub writing-next : {next : List ℕ} {e : ℕ} → 0 < left → PutPart wanted (node (d - left)) n j out at next e
       → Writing wanted node d place o start (n / 2) (left - 1) (j / 2) e next
   writing-next {next} {e} p t =
       let k = d - left in
       let q : d - (left - 1) ≡ suc k = omega (arith, r .under) in
       let w = pow-half left n p (r .wide) in
-      let here = flat (part wanted (node k) j) in
+      let here = flat (part wanted (node k) n j) in
       let later = flat (parts wanted node (left - 1) (suc k) (j / 2)) in
       let level : flat (parts wanted node left k j) ≡ here ++ later =
-      ap flat (parts-next wanted node left k j p) ∙ flat-append (part wanted (node k) j) _ in
+      ap flat (parts-next wanted node left k j p)
+      ∙ flat-append (part wanted (node k) (2 ^ left) j) _
+      ∙ ap (λ (m : ℕ). flat (part wanted (node k) m j) ++ later) (sym (r .wide)) in
       record {
         under = omega (arith, r .under);
         wide = w .1;
         inside = omega (arith, r .inside, w .0);
-        ends = omega (arith, r .ends, size-next wanted left p, t .ends);
+        ends = omega (arith, r .ends, size-next wanted left n p (r .wide), t .ends);
         enough = omega (arith, r .enough, puts-length (t .puts));
         done = r .done ++ here;
         puts = puts-more (r .puts) (t .puts);

@@ -2,7 +2,7 @@
 -- and what they ask. No operation is stated by it.
 use mathlib.Core.Path.{_≡_}
 use mathlib.Core.List.{List, [], _∷_, _++_}
-use Prim.Native.Nat.{ℕ, zero, suc, _+_, _*_, _/_, _≤_, _<_, _^_}
+use Prim.Native.Nat.{ℕ, zero, suc, _+_, _*_, _-_, _/_, _≤_, _<_, _^_}
 use lib.ListN.{length, getD}
 use Rattle.laws.specs.Flat.{flat}
 use Rattle.laws.specs.Upto.{upto}
@@ -12,7 +12,7 @@ use Rattle.tree.specs.Tree.{nodeAt, rootOf, beside}
 use Rattle.tree_build.specs.AllRows.{nodesOf}
 use Rattle.tree_build.specs.Leaves.{most}
 use Rattle.tree_build.specs.declared.Wanted.{Wanted}
-use Rattle.tree_build.specs.declared.Wanted.the-variants.{Nothing, Sibling}
+use Rattle.tree_build.specs.declared.Wanted.the-variants.{Nothing, Sibling, Row}
 
 -- ---- A level
 
@@ -41,36 +41,42 @@ pub record Halved (row : List (List ℕ)) (n places : ℕ) (up : List (List ℕ)
 
 -- ---- What is wanted of each level, on the way up; the sibling is that of node j
 
--- of a level
-abbrev pub part : Wanted → (ℕ → List ℕ) → ℕ → List (List ℕ)
-part Nothing node j = []
-part Sibling node j = node (beside j) ∷ []
+-- of a level of n nodes
+abbrev pub part : Wanted → (ℕ → List ℕ) → ℕ → ℕ → List (List ℕ)
+part Nothing node n j = []
+part Sibling node n j = node (beside j) ∷ []
+part Row node n j = upto node n
 
-abbrev pub partSize : Wanted → ℕ
-partSize Nothing = 0
-partSize Sibling = 1
+abbrev pub partSize : Wanted → ℕ → ℕ
+partSize Nothing n = 0
+partSize Sibling n = 1
+partSize Row n = n
 
 -- of a level and those above it, but for the root, which is d levels above it; `node` says what each node is
 unfoldable pub parts : Wanted → (ℕ → ℕ → List ℕ) → ℕ → ℕ → ℕ → List (List ℕ)
 parts wanted node zero level j = []
-parts wanted node (suc d) level j = part wanted (node level) j ++ parts wanted node d (suc level) (j / 2)
+parts wanted node (suc d) level j = part wanted (node level) (2 ^ suc d) j ++ parts wanted node d (suc level) (j / 2)
 
 abbrev pub partsSize : Wanted → ℕ → ℕ
 partsSize Nothing d = 0
 partsSize Sibling d = d
+partsSize Row d = nodesOf d - 1
 
--- what is wanted of a level can be written: the sibling of node j is in one of the places, and there is room
-pub record CanPut (wanted : Wanted) (j places at room : ℕ) : Type 0 where
-  pub few : j < most
-  pub held : beside j < places
-  pub enough : at + 32 * partSize wanted ≤ room
+-- what is wanted of a level can be written: n of the places are its nodes, they are pairs, j is one of them, and there
+-- is room
+pub record CanPut (wanted : Wanted) (n j places at room : ℕ) : Type 0 where
+  pub pairs : n ≡ 2 * (n / 2)
+  pub held : n ≤ places
+  pub few : n ≤ most
+  pub inside : j < n
+  pub enough : at + 32 * partSize wanted n ≤ room
 
 -- it is written: the buffer o, once it has it from index at on, is out, and it ends before index e; `node` says what
 -- each node is
-pub record PutPart (wanted : Wanted) (node : ℕ → List ℕ) (j : ℕ) (o : List ℕ) (at : ℕ) (out : List ℕ) (e : ℕ)
+pub record PutPart (wanted : Wanted) (node : ℕ → List ℕ) (n j : ℕ) (o : List ℕ) (at : ℕ) (out : List ℕ) (e : ℕ)
     : Type 0 where
-  pub ends : e ≡ at + 32 * partSize wanted
-  pub puts : Puts o at (flat (part wanted node j)) out e
+  pub ends : e ≡ at + 32 * partSize wanted n
+  pub puts : Puts o at (flat (part wanted node n j)) out e
 
 -- what is wanted of a tree of depth d can be written: it has that place, and there is room
 pub record Fits (wanted : Wanted) (d place at room : ℕ) : Type 0 where
@@ -85,8 +91,8 @@ pub record CanBuild (s : List ℕ) (count d : ℕ) : Type 0 where
   pub whole : 32 * count ≤ length s
   pub deep : 2 ^ d ≤ most
 
--- the rows of a tree of depth d can be filled in place: it has place for count leaves and is not too large, and its
--- nodes have room
+-- the rows of a tree of depth d can be put over its leaves: it has place for count of them and is not too large, and
+-- its nodes have room
 pub record CanFill (s : List ℕ) (count d : ℕ) : Type 0 where
   pub few : count ≤ 2 ^ d
   pub deep : 2 ^ d ≤ most

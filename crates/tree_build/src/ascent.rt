@@ -1,11 +1,13 @@
 // The way up from the leaves to the root: what is wanted of a level is written, and then the level is halved.
-ghost use Prim.Native.Nat.{_≤_, _^_};
+ghost use Prim.Native.Nat.{_≤_, _<_, _^_};
 ghost use lib.ListN.{length};
 ghost use Rattle.tree.specs.Tree.{nodesIn};
+ghost use Rattle.tree_build.specs.Leaves.{most};
 ghost use Rattle.tree_build.specs.Level.{few, CanBuild, Fits, Ascends};
 use super::Wanted;
 use super::level::FEW;
 use super::level::Few;
+use super::level::Many;
 use super::level::halved_few;
 use super::level::halved_many;
 use super::level::narrowed;
@@ -33,7 +35,7 @@ fn ascend_few(
     let mut j = place;
     let mut at = start;
     while 0 < left {
-        at = put_part(wanted, &row, j, out, at);
+        at = put_part(wanted, &row, n, j, out, at);
         n = n / 2;
         j = j / 2;
         left -= 1;
@@ -41,6 +43,31 @@ fn ascend_few(
         row = up;
     }
     row[0]
+}
+
+// The same of a large level, from the front of out on: it goes over to a small one as soon as its nodes have place
+// there.
+fn ascend_many(level: Many, d: u32, wanted: Wanted, place: usize, out: &mut [u8]) -> [u8; 32]
+    requires { ⌜ (few < 2 ^ d) × (2 ^ d ≤ most) × Fits wanted d place 0 (length (now out)) ⌝ }
+    ensures { λ r. ⌜ Ascends level d wanted place (now (out .entry)) 0 (now (out .exit)) r ⌝ }
+{
+    let mut row = level;
+    let mut n = width(d);
+    let mut left = d;
+    let mut j = place;
+    let mut at: usize = 0;
+    loop {
+        at = put_part(wanted, &row, n, j, out, at);
+        n = n / 2;
+        j = j / 2;
+        left -= 1;
+        if n <= FEW {
+            let next = narrowed(row, n);
+            return ascend_few(next, left, wanted, j, out, at);
+        }
+        let up = halved_many(row, n);
+        row = up;
+    }
 }
 
 // The root of the tree of depth d over the leaves. What is wanted of it is written at the front of out: siblings are
@@ -58,7 +85,7 @@ pub fn ascend(
         Ascends (nodesIn count (now (leaves .entry))) d wanted place (now (out .entry)) 0 (now (out .exit)) r
         ⌝ }
 {
-    let mut n = width(d);
+    let n = width(d);
     if n <= FEW {
         let mut row = [[0u8; 32]; FEW];
         bottom(leaves, count, n, &mut row);
@@ -66,19 +93,23 @@ pub fn ascend(
     }
     let mut row = [[0u8; 32]; MOST];
     bottom(leaves, count, n, &mut row);
-    let mut left = d;
-    let mut j = place;
-    let mut at: usize = 0;
-    loop {
-        at = put_part(wanted, &row, j, out, at);
-        n = n / 2;
-        j = j / 2;
-        left -= 1;
-        if n <= FEW {
-            let next = narrowed(row, n);
-            return ascend_few(next, left, wanted, j, out, at);
-        }
-        let up = halved_many(row, n);
-        row = up;
+    ascend_many(row, d, wanted, place, out)
+}
+
+// The same over leaves that stand at the front of out: they are all in the bottom level before anything is written.
+pub fn ascend_over(out: &mut [u8], count: usize, d: u32, wanted: Wanted, place: usize) -> [u8; 32]
+    requires { ⌜ CanBuild (now out) count d × Fits wanted d place 0 (length (now out)) ⌝ }
+    ensures { λ r. ⌜
+        Ascends (nodesIn count (now (out .entry))) d wanted place (now (out .entry)) 0 (now (out .exit)) r
+        ⌝ }
+{
+    let n = width(d);
+    if n <= FEW {
+        let mut row = [[0u8; 32]; FEW];
+        bottom(out, count, n, &mut row);
+        return ascend_few(row, d, wanted, place, out, 0);
     }
+    let mut row = [[0u8; 32]; MOST];
+    bottom(out, count, n, &mut row);
+    ascend_many(row, d, wanted, place, out)
 }

@@ -10,7 +10,7 @@ use super::Rooted;
 use super::RowsAnswer;
 use super::Wanted;
 use super::ascent::ascend;
-use super::heap::fill_rows;
+use super::fill::fill_rows;
 use super::siblings::read_path;
 use super::size::bytes;
 use super::size::count_of;

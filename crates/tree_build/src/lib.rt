@@ -3,7 +3,7 @@
 // crate above; no other public function has a `requires`.
 mod ascent;
 mod build;
-mod heap;
+mod fill;
 mod level;
 mod part;
 mod row;
@@ -14,7 +14,7 @@ pub use build::path;
 pub use build::path_from;
 pub use build::root;
 pub use build::rows;
-pub use heap::fill_rows;
+pub use fill::fill_rows;
 use refusal::Refusal;
 pub use siblings::read_path;
 pub use size::MOST;
@@ -42,9 +42,10 @@ pub enum RowsAnswer {
     Refused(Refusal),
 }
 
-// What is written of each level of a tree as it is built: nothing, where the root is all that is wanted; or the sibling
-// of one node, for a path.
+// What is written of each level of a tree as it is built: nothing, where the root is all that is wanted; the sibling of
+// one node, for a path; or all nodes.
 enum Wanted {
     Nothing,
     Sibling,
+    Row,
 }

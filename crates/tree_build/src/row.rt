@@ -1,9 +1,12 @@
-// The nodes of a level, whatever its size, as a row that is lent: filled with the leaves, or made of the level below.
+// The nodes of a level, whatever its size, as a row that is lent: filled with the leaves, made of the level below, and
+// written out.
 ghost use mathlib.Core.Path.{_≡_};
-ghost use Prim.Native.Nat.{_*_, _≤_};
+ghost use Prim.Native.Nat.{_+_, _*_, _≤_};
 ghost use lib.ListN.{length};
+ghost use Rattle.laws.specs.Written.{Puts};
 ghost use Rattle.tree.specs.Tree.{nodesIn};
-ghost use Rattle.tree_build.specs.Level.{Level, Padded, Halved};
+ghost use Rattle.tree_build.specs.Level.{Level, Padded, Halved, bytesOf};
+use super::siblings::put_node;
 use hash::empty_place;
 use hash::parent;
 use octets::copy32;
@@ -49,6 +52,20 @@ pub fn parents(row: &[[u8; 32]], n: usize, up: &mut [[u8; 32]])
         let left = row[2 * i];
         let right = row[2 * i + 1];
         up[i] = parent(left, right);
+        i += 1;
+    }
+}
+
+// The first n nodes of row, from index at of out on.
+pub fn put_row(row: &[[u8; 32]], n: usize, out: &mut [u8], at: usize)
+    requires { ⌜ (n ≤ length (now row)) × (at + 32 * n ≤ length (now out)) ⌝ }
+    ensures { λ _. ⌜
+        Puts (now (out .entry)) at (bytesOf (now (row .entry)) n) (now (out .exit)) (at + 32 * n)
+        ⌝ }
+{
+    let mut i: usize = 0;
+    while i < n {
+        put_node(row[i], out, at + 32 * i);
         i += 1;
     }
 }

@@ -4,6 +4,8 @@
 
 mod support;
 
+use independent::tag::{NONC, TYPE, VER, ZZZZ};
+use independent::{message, packet};
 use std::thread;
 use support::answers::Both;
 use support::batch_calls::{BatchCall, House, Left, Wrong, OF_CERT, SHORT};
@@ -179,6 +181,54 @@ fn batch(now: u64) -> (Batch, [u8; 32]) {
     let signature = long_term.sign_dele(&dele);
     trawlbeacon::write_cert(&pubk, now, now, &signature, &mut cert).expect("there is room");
     (Batch::new(&long_term.public_key(), delegated, &cert), long_term.public_key())
+}
+
+/// A good request of so many bytes, with no SRV.
+fn request_of(length: usize) -> Vec<u8> {
+    let values = [
+        (VER, vec![1, 0, 0, 0]),
+        (NONC, vec![9; 32]),
+        (TYPE, vec![0; 4]),
+        (ZZZZ, vec![0; length - 84]),
+    ];
+    packet::encode(&message::encode(&values))
+}
+
+/// Which requests are answered, by how many bytes they have. An answer has 416, and 32 more for
+/// each sibling; how many it has hangs on how many are answered, of whom none gets an answer that
+/// is longer than his request.
+#[test]
+fn who_is_too_short_disturbs_nobody() {
+    let (mut batch, key) = batch(1_000);
+    for (lengths, due) in [
+        (vec![416], vec![0]),
+        (vec![412], vec![]),
+        // Too short for any answer: as if they were not there.
+        (vec![412, 416], vec![1]),
+        (vec![412, 412, 412, 412, 448, 448], vec![4, 5]),
+        // Two answers have a sibling each.
+        (vec![416, 448], vec![1]),
+        (vec![448, 448], vec![0, 1]),
+        (vec![416, 416], vec![]),
+        // Who has no room for a sibling is not counted among those that have.
+        (vec![448, 444, 448], vec![0, 2]),
+        // Three have two siblings each, for which one or two have room.
+        (vec![448, 448, 480], vec![2]),
+        (vec![480, 448, 480], vec![0, 2]),
+        (vec![480, 480, 480], vec![0, 1, 2]),
+    ] {
+        let requests: Vec<Vec<u8>> = lengths.iter().map(|length| request_of(*length)).collect();
+        for request in &requests {
+            batch.push(request).expect("there is room");
+        }
+        assert_eq!(batch.answer(1_000, 3), Ok(due.len()), "{lengths:?}");
+        assert!(batch.answers().map(|(place, _)| place).eq(due), "{lengths:?}");
+        for (place, response) in batch.answers() {
+            assert!(response.len() <= lengths[place]);
+            assert!(trawlbeacon::check_signed(&key, &requests[place], response).is_ok());
+        }
+        batch.clear();
+    }
 }
 
 /// The type that holds the slots: packets that are pushed or received, answered, and forgotten, as

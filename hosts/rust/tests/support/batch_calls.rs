@@ -116,10 +116,12 @@ impl House {
                 return random.bytes(length);
             }
             4 => return Vec::new(),
-            // About as long as an answer.
+            // About as long as an answer, or as one with fewer siblings.
             5..=8 => {
                 fields.others.clear();
-                fields.pad((needed + 32).saturating_sub(4 * random.below(17)).min(packet::MOST));
+                let fewer = random.below(68);
+                let length = (needed + 32).saturating_sub(4 * (fewer % 17) + 32 * (fewer / 17));
+                fields.pad(length.min(packet::MOST));
             }
             9..=13 => fields.pad(1036),
             _ => (),

@@ -4,7 +4,7 @@ use native.Mathlib.Omega.{arith}
 use lib.Pow.{pow-pos}
 use Rattle.tree_build.specs.AllRows.{nodesOf}
 use Rattle.tree_build.proofs.BuildingLaws.{rows-none, rows-short, rows-written, rows-left}
-use Rattle.tree_build.proofs.Heaped.{rows-over}
+use Rattle.tree_build.proofs.AllRows.{rows-over}
 use Rattle.tree_build.proofs.Leaves.{count-whole}
 use borrow.Author.Needs.{needs}
 use Rattle.tree_build.proofs.build.rows.Statement.{statement}

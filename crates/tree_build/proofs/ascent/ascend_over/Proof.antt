@@ -1,0 +1,44 @@
+-- `tree_build::ascent::ascend_over` meets its contract: the bottom level is a small one or a large one.
+use native.Mathlib.Omega.{arith}
+use Rattle.laws.proofs.Written.{puts-length}
+use Rattle.tree_build.proofs.Ascending.{ascending-first, ascending-rest}
+use borrow.Author.Needs.{needs}
+use Rattle.tree_build.proofs.ascent.ascend_over.Statement.{statement}
+use Rattle.tree_build.proofs.ascent.ascend_over.Tie as tie
+
+returns : tie.Need-returns
+returns c =
+    let at-few = c .before .before in
+    let at-bottom = at-few .before .before .before in
+    let at-width = at-bottom .before .before .before .before in
+    let s = at-width .before .before in
+    let level = at-bottom .bottom .ensures in
+    ascending-rest (ascending-first (at-width .width .ensures) (s .pre .0 .deep) (omega arith) level (s .pre .1))
+    (at-few .ascend-few .ensures)
+
+returns-2 : tie.Need-returns-2
+returns-2 c =
+    let at-many = c .before .before in
+    let at-bottom = at-many .before .before .before in
+    let at-width = at-bottom .before .before .before .before in
+    let s = at-width .before .before in
+    let deep = s .pre .0 .deep in
+    let level = at-bottom .bottom2 .ensures in
+    ascending-rest (ascending-first (at-width .width .ensures) deep deep level (s .pre .1))
+    (at-many .ascend-many .ensures)
+
+pub ascend-over-spec : {M : Type 1} → statement M
+ascend-over-spec =
+    tie.close
+    (tie.spec
+    (λ c κs. search needs)
+    (λ c. search needs)
+    (λ c κs. search needs)
+    (λ c κs. search needs)
+    (λ c. puts-length (returns c .puts))
+    returns
+    (λ c. search needs)
+    (λ c κs. search needs)
+    (λ c κs. search needs)
+    (λ c. puts-length (returns-2 c .puts))
+    returns-2)
