@@ -7,6 +7,7 @@ ghost use Rattle.laws.specs.Pick.{pick};
 ghost use Rattle.base64.specs.Alphabet.{sextetOf, isLetter};
 ghost use Rattle.base64.specs.Decode.{groupOf};
 use super::Group;
+use super::Triple;
 
 // Whether a byte is a letter.
 pub fn is_letter(b: u8) -> bool
@@ -39,16 +40,31 @@ fn number(b: u8) -> u8
     (n % 256) as u8
 }
 
-// What four letters stand for.
+// The three bytes that four letters stand for.
+pub fn triple_of(a: u8, b: u8, c: u8, d: u8) -> Triple
+    requires { ⌜
+        (isLetter a ≡ true) × ((isLetter b ≡ true) × ((isLetter c ≡ true) × (isLetter d ≡ true)))
+        ⌝ }
+    ensures { λ r. ⌜ Group.Three (r .x) (r .y) (r .z) ≡ groupOf a b c d ⌝ }
+{
+    let p = number(a);
+    let q = number(b);
+    let r = number(c);
+    let t = number(d);
+    Triple {
+        x: p * 4 + q / 16,
+        y: q % 16 * 16 + r / 4,
+        z: r % 4 * 64 + t,
+    }
+}
+
+// The same as a group.
 pub fn three_of(a: u8, b: u8, c: u8, d: u8) -> Group
     requires { ⌜
         (isLetter a ≡ true) × ((isLetter b ≡ true) × ((isLetter c ≡ true) × (isLetter d ≡ true)))
         ⌝ }
     ensures { λ r. ⌜ r ≡ groupOf a b c d ⌝ }
 {
-    let p = number(a);
-    let q = number(b);
-    let r = number(c);
-    let t = number(d);
-    Group::Three(p * 4 + q / 16, q % 16 * 16 + r / 4, r % 4 * 64 + t)
+    let t = triple_of(a, b, c, d);
+    Group::Three(t.x, t.y, t.z)
 }

@@ -8,6 +8,7 @@ pub use decoding::group_of;
 pub use encoding::encode;
 pub use letters::is_letter;
 pub use letters::three_of;
+pub use letters::triple_of;
 
 // What four characters stand for.
 pub enum Group {
@@ -15,6 +16,13 @@ pub enum Group {
     Two(u8, u8),
     One(u8),
     Bad,
+}
+
+// Three bytes.
+pub struct Triple {
+    pub x: u8,
+    pub y: u8,
+    pub z: u8,
 }
 
 // Fills the last group where it has fewer than three bytes.

@@ -60,6 +60,12 @@ lettered-four {a} {b} {c} {d} s k ea eb ec ed h e =
     by p q r t (suc (suc (suc zero))) g = t
     by p q r t (suc (suc (suc (suc i)))) g = absurd (omega arith)
 
+pub record Threes (g : Group) : Type 0 where
+  pub x : ℕ
+  pub y : ℕ
+  pub z : ℕ
+  pub is : g ≡ Three x y z
+
 -- four of them are a group
 module _ {s : List ℕ} {k : ℕ} (l : Lettered s k 1) where
   pub letter-first : isLetter (getD s k 0) ≡ true
@@ -75,11 +81,19 @@ module _ {s : List ℕ} {k : ℕ} (l : Lettered s k 1) where
       (reads-letter (omega arith) (letter-then 2 (omega arith)))
       (reads-letter (omega arith) (letter-then 3 (omega arith))) e
 
+  -- and it is one of three bytes
+  pub letters-three : Threes (groupOf (getD s k 0) (getD s (k + 1) 0) (getD s (k + 2) 0) (getD s (k + 3) 0))
+  letters-three = record {
+    x = _;
+    y = _;
+    z = _;
+    is = sym (group-letters (getD s k 0) (getD s (k + 1) 0) (getD s (k + 2) 0) (getD s (k + 3) 0) letter-first
+        (letter-then 1 (omega arith)) (letter-then 2 (omega arith)) (letter-then 3 (omega arith)) refl refl refl refl);
+  }
+
   one-group : (n : ℕ) → sizeOf (n + 3) (decode64 (contentAt s (k + 4))) ≡ sizeOf n (decode64 (contentAt s k))
   one-group n =
-      size-three n (grouped-letters refl)
-      (sym (group-letters (getD s k 0) (getD s (k + 1) 0) (getD s (k + 2) 0) (getD s (k + 3) 0) letter-first
-      (letter-then 1 (omega arith)) (letter-then 2 (omega arith)) (letter-then 3 (omega arith)) refl refl refl refl))
+      size-three n (grouped-letters refl) (letters-three .is)
 
 -- groups of them: three bytes each
 module _ {s : List ℕ} {at : ℕ} where
@@ -115,3 +129,15 @@ module _ {s : List ℕ} {at : ℕ} where
       by i b false q =
           let j = ltb-false i (4 * n) q in
           let f : k + (i - 4 * n) ≡ at + i = omega arith in rw f at (g (i - 4 * n) (omega arith))
+
+  pub lettered-next : {n k : ℕ} → k ≡ at + 4 * n → Lettered s at n → Lettered s k 1 → Lettered s at (n + 1)
+  lettered-next {n} {k} e l g = record {
+    inside = omega (arith, g .inside, l .inside);
+    letters = λ i b. by i b (ltb i (4 * n)) refl;
+  }
+    where
+      by : (i : ℕ) → i < 4 * (n + 1) → (b : Bool) → ltb i (4 * n) ≡ b → isLetter (getD s (at + i) 0) ≡ true
+      by i b true q = l .letters i (ltb-true _ _ q)
+      by i b false q =
+          let j = ltb-false i (4 * n) q in
+          let f : k + (i - 4 * n) ≡ at + i = omega arith in rw f at (g .letters (i - 4 * n) (omega arith))

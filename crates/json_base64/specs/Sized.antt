@@ -7,7 +7,9 @@ use lib.ListN.{length}
 use Rattle.json_tokens.specs.Scan.{Passes}
 use Rattle.json_strings.specs.Text.{contentAt}
 use Rattle.base64.specs.Alphabet.{isLetter}
+use Rattle.laws.specs.Pasted.{pasted}
 use Rattle.base64.specs.declared.Group.{Group}
+use Rattle.base64.specs.declared.Group.the-variants.{Three}
 use Rattle.base64.specs.Decode.{Decoded, bytes, none, groupOf, decode64}
 use Rattle.json_base64.specs.declared.Size.{Size}
 use Rattle.json_base64.specs.declared.Size.the-variants.{Of, Bad}
@@ -62,3 +64,11 @@ abbrev pub QuadOf : List ℕ → ℕ → Quad → Type 0
 QuadOf s k (Four g j) = Grouped s k g j
 QuadOf s k End = contentAt s k ≡ []
 QuadOf s k Fewer = decode64 (contentAt s k) ≡ none
+
+-- the bytes of the four letters at k stand from index n on
+pub record Tripled (s : List ℕ) (k : ℕ) (was : List ℕ) (n : ℕ) (out : List ℕ) : Type 0 where
+  pub x : ℕ
+  pub y : ℕ
+  pub z : ℕ
+  pub group : Grouped s k (Three x y z) (k + 4)
+  pub put : out ≡ pasted was n (x ∷ y ∷ z ∷ [])

@@ -6,16 +6,27 @@ ghost use mathlib.Core.Bool.{true};
 ghost use Rattle.json_strings.specs.Text.{contentAt};
 ghost use Rattle.base64.specs.Decode.{decode64};
 ghost use Rattle.laws.specs.Pasted.{fronted};
-ghost use Rattle.json_base64.specs.Sized.{good, plain};
+ghost use Rattle.json_base64.specs.Sized.{good, plain, Lettered, Tripled};
 use super::Quad;
 use super::Size;
 use super::groups::quad_of;
 use super::sizing::size_of;
+use super::stretches::four;
 use base64::Group;
 use octets::put;
 
+// The bytes of the four letters at a place, from index n of out on.
+fn put_three(s: &[u8], k: usize, out: &mut [u8], n: usize)
+    requires { ⌜ Lettered (now s) k 1 × (n + 3 ≤ length (now out)) ⌝ }
+    ensures { λ _. ⌜ Tripled (now (s .entry)) k (now (out .entry)) n (now (out .exit)) ⌝ }
+{
+    let t = base64::triple_of(s[k], s[k + 1], s[k + 2], s[k + 3]);
+    let three = [t.x, t.y, t.z];
+    put(out, n, &three);
+}
+
 // The bytes that the string whose characters start at a place stands for, at the front of out: the string is base64.
-fn fill(s: &[u8], at: usize, out: &mut [u8])
+pub fn fill(s: &[u8], at: usize, out: &mut [u8])
     requires { ⌜
         (good (decode64 (contentAt (now s) at)) ≡ true)
         × (length (plain (decode64 (contentAt (now s) at))) ≤ length (now out))
@@ -27,34 +38,40 @@ fn fill(s: &[u8], at: usize, out: &mut [u8])
     let mut k = at;
     let mut n = 0;
     loop {
-        match quad_of(s, k) {
-            Quad::End => {
-                return;
+        if four(s, k) {
+            put_three(s, k, out, n);
+            k += 4;
+            n += 3;
+        } else {
+            match quad_of(s, k) {
+                Quad::End => {
+                    return;
+                }
+                Quad::Fewer => {
+                    return;
+                }
+                Quad::Four(g, j) => match g {
+                    Group::Three(x, y, z) => {
+                        let three = [x, y, z];
+                        put(out, n, &three);
+                        k = j;
+                        n += 3;
+                    }
+                    Group::Two(x, y) => {
+                        let two = [x, y];
+                        put(out, n, &two);
+                        return;
+                    }
+                    Group::One(x) => {
+                        let one = [x];
+                        put(out, n, &one);
+                        return;
+                    }
+                    Group::Bad => {
+                        return;
+                    }
+                },
             }
-            Quad::Fewer => {
-                return;
-            }
-            Quad::Four(g, j) => match g {
-                Group::Three(x, y, z) => {
-                    let three = [x, y, z];
-                    put(out, n, &three);
-                    k = j;
-                    n += 3;
-                }
-                Group::Two(x, y) => {
-                    let two = [x, y];
-                    put(out, n, &two);
-                    return;
-                }
-                Group::One(x) => {
-                    let one = [x];
-                    put(out, n, &one);
-                    return;
-                }
-                Group::Bad => {
-                    return;
-                }
-            },
         }
     }
 }

@@ -7,6 +7,7 @@ mod stretches;
 
 use base64::Group;
 pub use decoding::decode;
+pub use decoding::fill;
 pub use sizing::size_of;
 
 // How many bytes a string stands for, if it is base64.

@@ -45,7 +45,7 @@ fn stretch(s: &[u8], at: usize) -> bool
 }
 
 // How many groups of four letters there are from a place on, as far as they come in stretches of sixteen.
-pub fn groups(s: &[u8], at: usize) -> usize
+fn in_stretches(s: &[u8], at: usize) -> usize
     ensures { λ r. ⌜ Lettered (now (s .entry)) at r ⌝ }
 {
     if s.len() < 64 {
@@ -60,6 +60,19 @@ pub fn groups(s: &[u8], at: usize) -> usize
         }
         k += 64;
         n += 16;
+    }
+    n
+}
+
+// The same, as far as they come.
+pub fn groups(s: &[u8], at: usize) -> usize
+    ensures { λ r. ⌜ Lettered (now (s .entry)) at r ⌝ }
+{
+    let mut n = in_stretches(s, at);
+    let mut k = at + 4 * n;
+    while four(s, k) {
+        k += 4;
+        n += 1;
     }
     n
 }

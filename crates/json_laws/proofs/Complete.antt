@@ -37,7 +37,7 @@ unfolding thenStep then
 steps-assoc (Past e) f p g = step-assoc (f e) p g
 steps-assoc Bad f p g = refl
 
-string-front : (x t : List ℕ) → Abnf.string x → front (x ++ t) ≡ 34
+pub string-front : (x t : List ℕ) → Abnf.string x → front (x ++ t) ≡ 34
 unfolding Abnf.string Abnf.quotation-mark
 string-front x t (join these c) = refl
 
@@ -90,7 +90,7 @@ literal-reads : (s w : List ℕ) → Reads s (octets w) Any (literalAt w s)
 unfolding literalAt
 literal-reads s w k x t these c h = if-true (Passes s t) Bad (rw (h .is) (starts-with w t)) (passes (rest-past w t h))
 
-number-front : (x t : List ℕ) → Abnf.number x → (45 ≤ front (x ++ t)) × (front (x ++ t) ≤ 57)
+pub number-front : (x t : List ℕ) → Abnf.number x → (45 ≤ front (x ++ t)) × (front (x ++ t) ≤ 57)
 unfolding Abnf.number Abnf.minus Abnf.int Abnf.zero Abnf.digit1-9 Abnf.DIGIT
 number-front x t (join (present these) r) = (omega arith, omega arith)
 number-front x t (join absent (join (left these) r)) = (omega arith, omega arith)
@@ -106,7 +106,7 @@ record Scalar (c : ℕ) : Type 0 where
 scalar-is : (c : ℕ) → blank c ≡ false → (c ≡ 123 → ⊥) → (c ≡ 91 → ⊥) → (c ≡ 93 → ⊥) → Scalar c
 scalar-is c a b d e = record { shown = a; object = b; array = d; close = e }
 
-no-blank : (c : ℕ) → 33 ≤ c → blank c ≡ false
+pub no-blank : (c : ℕ) → 33 ≤ c → blank c ≡ false
 unfolding either
 no-blank c h = rw (other 32 (omega arith), other 9 (omega arith), other 10 (omega arith), other 13 (omega arith)) refl
   where
@@ -189,11 +189,11 @@ kind d x (right (right (right (right (right (right v)))))) = scalar (right (righ
 scalar-first : (x t : List ℕ) → Abnf.value 0 x → front (trim (x ++ t)) ≡ 93 → ⊥
 scalar-first x t v e = let z = scalar-front x t v in z .close (ap front (sym (trim-front (x ++ t) (z .shown))) ∙ e)
 
-object-front : (W : Rule) (x t : List ℕ) → Abnf.object W x → front (trim (x ++ t)) ≡ 123
+pub object-front : (W : Rule) (x t : List ℕ) → Abnf.object W x → front (trim (x ++ t)) ≡ 123
 unfolding Abnf.object Abnf.begin-object either
 object-front W x t v = list-front 123 refl x t v
 
-array-front : (W : Rule) (x t : List ℕ) → Abnf.array W x → front (trim (x ++ t)) ≡ 91
+pub array-front : (W : Rule) (x t : List ℕ) → Abnf.array W x → front (trim (x ++ t)) ≡ 91
 unfolding Abnf.array Abnf.begin-array either
 array-front W x t v = list-front 91 refl x t v
 

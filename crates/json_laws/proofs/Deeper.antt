@@ -44,7 +44,8 @@ value-deeper (suc d) x (right (right (right (left p)))) =
 value-deeper (suc d) x (right (right (right (right (left p))))) =
     right (right (right (right (left (array-deeper (λ y. value-deeper d y) x p)))))
 value-deeper (suc d) x (right (right (right (right (right (left p)))))) = right (right (right (right (right (left p)))))
-value-deeper (suc d) x (right (right (right (right (right (right p)))))) = right (right (right (right (right (right p)))))
+value-deeper (suc d) x (right (right (right (right (right (right p)))))) =
+    right (right (right (right (right (right p)))))
 
 one-deeper : (d : ℕ) (x : List ℕ) → Abnf.JSON-text d x → Abnf.JSON-text (suc d) x
 unfolding Abnf.JSON-text

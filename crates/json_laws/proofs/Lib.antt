@@ -1,4 +1,4 @@
--- That the readers of json accept just what RFC 8259's grammar derives.
+-- That the readers of json accept just what RFC 8259's grammar derives, and find what it means.
 pub mod Spans
 pub mod SoundNumber
 pub mod SoundString
@@ -9,6 +9,11 @@ pub mod CompleteString
 pub mod Lists
 pub mod Complete
 pub mod Exactly
-pub mod Parts
+pub mod At
+pub mod Tree
+pub mod Paired
+pub mod Found
+pub mod Values
+pub mod Examples
 pub mod Deeper
 pub mod Refused

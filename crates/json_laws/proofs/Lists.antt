@@ -17,7 +17,7 @@ use Rattle.json_tokens.specs.Walk.{walked, starts}
 use Rattle.json_tokens.proofs.Turns.{Forth, walked-end, starts-more, starts-end}
 use Rattle.json_laws.specs.Rules.{Rule, these, _·_, join, left, right, *_, none, more, optional, absent, present}
 use Rattle.json_laws.specs.Abnf
-use Rattle.json_laws.specs.Parts.{furtherIn, listIn, partsIn}
+use Rattle.json_laws.specs.Tree.{furtherIn, listIn, partsIn}
 use Rattle.json_laws.proofs.Rest.{Rest, Passes, passes, front, if-is, if-not, rest-front, rest-next, rest-as}
 use Rattle.json_laws.proofs.Rest.{rest-blanks, Goes, goes, Stays, stays, walk-on, trim, trim-no, trim-ws}
 use Rattle.json_laws.proofs.Spans.{Mark}
@@ -64,6 +64,10 @@ ws-stops x t (more {y = y} (right (right (right these))) m) c = stops-low (0x0D 
 mark-stops : (a : ℕ) (c t : List ℕ) → ((l : List ℕ) → Stops (a ∷ l)) → Mark a c → Stops (c ++ t)
 mark-stops a c t n (join {x = v} p (join {y = w} these q)) =
     rw (append-assoc v (a ∷ w) t) (ws-stops v (a ∷ (w ++ t)) p (n (w ++ t)))
+
+comma-stops : (c t : List ℕ) → Abnf.value-separator c → Stops (c ++ t)
+unfolding Abnf.value-separator
+comma-stops c t i = mark-stops 44 c t (λ l. stops-low (44 ∷ l) (omega arith)) i
 
 -- a bracket that closes a list
 pub record Closes (a : ℕ) : Type 0 where
@@ -121,21 +125,23 @@ module _ {s : List ℕ} (a : ℕ) where
       closed i (stays r) = shut r i
 
 -- ---- Places.
--- at each place stands the text, but for blanks before it, with more behind it
-pub data Stand (s : List ℕ) : List ℕ → List (List ℕ) → Type 0 where
-  nothing : Stand s [] []
-  also : {k : ℕ} {ks x : List ℕ} {xs : List (List ℕ)} (t : List ℕ) → Rest s k (trim (x ++ t)) → Stand s ks xs
-      → Stand s (k ∷ ks) (x ∷ xs)
+-- at each place stands what W derives, but for blanks before it, with more behind it; `means` says what it means
+module _ {W : Rule} {A : Type 0} (s : List ℕ) (means : (x : List ℕ) → W x → A) where
+  pub data Stand : List ℕ → List A → Type 0 where
+    nothing : Stand [] []
+    also : {k : ℕ} {ks x : List ℕ} {l : List A} (t : List ℕ) (p : W x) → Stops t → Rest s k (trim (x ++ t))
+        → Stand ks l → Stand (k ∷ ks) (means x p ∷ l)
 
-stand-last : {s t : List ℕ} {x : Step} (f : ℕ → Step) (k : ℕ) (v u : List ℕ) → Rest s k (trim (v ++ u)) → x ≡ f k
-    → Shut s t x → Stand s (starts (suc (length s)) f k) (v ∷ [])
-stand-last {s} f k v u h e (shut r z) = rw (starts-end (length s) f k e refl) (also u h nothing)
+  stand-last : {t : List ℕ} {x : Step} (f : ℕ → Step) (k : ℕ) (v u : List ℕ) (p : W v) → Stops u
+      → Rest s k (trim (v ++ u)) → x ≡ f k → Shut s t x → Stand (starts (suc (length s)) f k) (means v p ∷ [])
+  stand-last f k v u p c h e (shut r z) = rw (starts-end (length s) f k e refl) (also u p c h nothing)
 
-stand-on : {s t : List ℕ} {x : Step} {xs : List (List ℕ)} (f : ℕ → Step) (forth : (k : ℕ) → Forth (length s) k (f k))
-    (k : ℕ) (v u : List ℕ) → Rest s k (trim (v ++ u)) → x ≡ f k → Goes s t x
-    → ((j : ℕ) → Rest s j t → Stand s (starts (suc (length s)) f j) xs) → Stand s (starts (suc (length s)) f k) (v ∷ xs)
-stand-on {s} f forth k v u h e (goes {j = j} r) g =
-    rw (starts-more (length s) f forth k e refl) (also u h (g j r))
+  stand-on : {t : List ℕ} {x : Step} {l : List A} (f : ℕ → Step) (forth : (k : ℕ) → Forth (length s) k (f k))
+      (k : ℕ) (v u : List ℕ) (p : W v) → Stops u → Rest s k (trim (v ++ u)) → x ≡ f k → Goes s t x
+      → ((j : ℕ) → Rest s j t → Stand (starts (suc (length s)) f j) l)
+      → Stand (starts (suc (length s)) f k) (means v p ∷ l)
+  stand-on f forth k v u p c h e (goes {j = j} r) g =
+      rw (starts-more (length s) f forth k e refl) (also u p c h (g j r))
 
 three-assoc : (x y z t : List ℕ) → x ++ y ++ z ++ t ≡ x ++ (y ++ (z ++ t))
 three-assoc x y z t = simp append-assoc
@@ -168,7 +174,7 @@ module _ (s : List ℕ) (W : Rule) (g : ℕ → Skip) (values : Values s W g)
       → Goes s (trim u) (f k)
   unfolding Abnf.value-separator either
   turn-goes k v c u p i h =
-      let before = values k v (c ++ u) p (mark-stops 44 c u (λ l. stops-low (44 ∷ l) (omega arith)) i) h in
+      let before = values k v (c ++ u) p (comma-stops c u i) h in
       rw (turn k) (lands-goes a c u (closes .comma) before (mark 44 c u refl i))
 
   turn-shut : (k : ℕ) (v e t : List ℕ) → W v → Mark a e → Rest s k (trim (v ++ (e ++ t))) → Shut s t (f k)
@@ -183,15 +189,6 @@ module _ (s : List ℕ) (W : Rule) (g : ℕ → Skip) (values : Values s W g)
       let r = rest-as (ap (λ l. trim (v ++ l)) (three-assoc c x y (e ++ t))) h in
       walk-on (Lands s t) f forth k refl (turn-goes k v c (x ++ (y ++ (e ++ t))) p i r)
       (λ l z. items-walk l x y e t j n q z)
-
-  -- the turns start where the parts stand
-  items-stand : (k : ℕ) (v m e t : List ℕ) → W v → (n : (* (Abnf.value-separator · W)) m) → Mark a e
-      → Rest s k (trim (v ++ (m ++ (e ++ t)))) → Stand s (starts (suc (length s)) f k) (v ∷ furtherIn n)
-  items-stand k v m e t p none q h = stand-last f k v (e ++ t) h refl (turn-shut k v e t p q h)
-  items-stand k v m e t p (more {y = y} (join {x = c} {y = x} i j) n) q h =
-      let r = rest-as (ap (λ l. trim (v ++ l)) (three-assoc c x y (e ++ t))) h in
-      stand-on f forth k v (c ++ (x ++ (y ++ (e ++ t)))) r refl (turn-goes k v c (x ++ (y ++ (e ++ t))) p i r)
-      (λ l z. items-stand l x y e t j n q z)
 
   none-lands : (k : ℕ) (e t : List ℕ) → Marked a e t → Rest s k (trim (e ++ t)) → Lands s t (inner s a f k)
   none-lands k e t (marked w m z) h =
@@ -211,23 +208,36 @@ module _ (s : List ℕ) (W : Rule) (g : ℕ → Skip) (values : Values s W g)
   list-lands o n k x t (join {x = b} p (join {x = i} {y = e} l q)) h =
       inner-lands (pastWhile blank s (k + 1)) i e t l q (opened o n k b (i ++ e) t p h)
 
-  none-stand : (k : ℕ) (e t : List ℕ) → Marked a e t → Rest s k (trim (e ++ t)) → Stand s (places s a f k) []
-  none-stand k e t (marked w m z) h = if-is (λ l. Stand s l []) _ (rest-front (rest-as z h)) nothing
+  -- ---- The turns start where the parts stand.
+  module _ {A : Type 0} (means : (x : List ℕ) → W x → A) where
+    items-stand : (k : ℕ) (v m e t : List ℕ) (p : W v) (n : (* (Abnf.value-separator · W)) m) → Mark a e
+        → Rest s k (trim (v ++ (m ++ (e ++ t))))
+        → Stand s means (starts (suc (length s)) f k) (means v p ∷ furtherIn means n)
+    items-stand k v m e t p none q h =
+        stand-last s means f k v (e ++ t) p (mark-stops a e t (closes .stops) q) h refl (turn-shut k v e t p q h)
+    items-stand k v m e t p (more {y = y} (join {x = c} {y = x} i j) n) q h =
+        let r = rest-as (ap (λ l. trim (v ++ l)) (three-assoc c x y (e ++ t))) h in
+        let u : List ℕ = x ++ (y ++ (e ++ t)) in
+        stand-on s means f forth k v (c ++ u) p (comma-stops c u i) r refl (turn-goes k v c u p i r)
+        (λ l z. items-stand l x y e t j n q z)
 
-  inner-stand : (k : ℕ) (x e t : List ℕ) (l : optional (W · * (Abnf.value-separator · W)) x) → Mark a e
-      → Rest s k (trim (x ++ e ++ t)) → Stand s (places s a f k) (listIn l)
-  inner-stand k x e t absent q h = none-stand k e t (mark a e t (closes .shown) q) h
-  inner-stand k x e t (present (join {x = v} {y = m} p i)) q h =
-      let r = rest-as (ap trim (three-assoc v m e t)) h in
-      if-not (λ l. Stand s l (v ∷ furtherIn i)) [] (λ c. first v (m ++ (e ++ t)) p (sym (rest-front r) ∙ c))
-      (items-stand k v m e t p i q r)
+    none-stand : (k : ℕ) (e t : List ℕ) → Marked a e t → Rest s k (trim (e ++ t)) → Stand s means (places s a f k) []
+    none-stand k e t (marked w m z) h = if-is (λ l. Stand s means l []) _ (rest-front (rest-as z h)) nothing
 
-  -- the places of the parts, and the parts
-  pub list-stand : (o : ℕ) → blank o ≡ false → (k : ℕ) (x t : List ℕ)
-      (z : (Mark o · optional (W · * (Abnf.value-separator · W)) · Mark a) x) → Rest s k (trim (x ++ t))
-      → Stand s (places s a f (pastWhile blank s (k + 1))) (partsIn z)
-  list-stand o n k x t (join {x = b} p (join {x = i} {y = e} l q)) h =
-      inner-stand (pastWhile blank s (k + 1)) i e t l q (opened o n k b (i ++ e) t p h)
+    inner-stand : (k : ℕ) (x e t : List ℕ) (l : optional (W · * (Abnf.value-separator · W)) x) → Mark a e
+        → Rest s k (trim (x ++ e ++ t)) → Stand s means (places s a f k) (listIn means l)
+    inner-stand k x e t absent q h = none-stand k e t (mark a e t (closes .shown) q) h
+    inner-stand k x e t (present (join {x = v} {y = m} p i)) q h =
+        let r = rest-as (ap trim (three-assoc v m e t)) h in
+        if-not (λ l. Stand s means l (means v p ∷ furtherIn means i)) []
+        (λ c. first v (m ++ (e ++ t)) p (sym (rest-front r) ∙ c)) (items-stand k v m e t p i q r)
+
+    -- the places of the parts, and what the parts mean
+    pub list-stand : (o : ℕ) → blank o ≡ false → (k : ℕ) (x t : List ℕ)
+        (z : (Mark o · optional (W · * (Abnf.value-separator · W)) · Mark a) x) → Rest s k (trim (x ++ t))
+        → Stand s means (places s a f (pastWhile blank s (k + 1))) (partsIn means z)
+    list-stand o n k x t (join {x = b} p (join {x = i} {y = e} l q)) h =
+        inner-stand (pastWhile blank s (k + 1)) i e t l q (opened o n k b (i ++ e) t p h)
 
 -- a list opens with its bracket
 pub list-front : {R : Rule} (o : ℕ) → blank o ≡ false → (x t : List ℕ) → (Mark o · R) x

@@ -1,2 +1,2 @@
-// RFC 8259's grammar (specs/), and that the readers of JSON accept just what it derives (proofs/). There is no code
-// here.
+// RFC 8259's grammar, and what a text means by it (specs/); that the readers of JSON accept just what the grammar
+// derives, and find what it means (proofs/). There is no code here.

@@ -8,6 +8,7 @@ mod unescaped;
 pub use strings::holds;
 pub use strings::string;
 pub use strings::unit_of;
+pub use unescaped::is_unescaped;
 
 // What stands at a place within a string: a character by its number, with the place past it; the closing quote; or what
 // no string may hold.

@@ -1,12 +1,13 @@
 // Strings (RFC 8259, section 7).
 ghost use mathlib.Core.Path.{_≡_};
-ghost use Prim.Native.Nat.{_+_, _≤_, _<_};
-ghost use lib.ListN.{length};
+ghost use Prim.Native.Nat.{_+_, _-_, _≤_, _<_};
+ghost use lib.ListN.{length, drop};
 ghost use Rattle.json_tokens.specs.Walk.{walked};
 ghost use Rattle.json_strings.specs.Text.{unitAt, unitStep, stringAt, contentAt, sameList};
 use super::Unit;
 use super::escapes::escape;
 use super::letters::wide;
+use super::unescaped::is_unescaped;
 use super::unescaped::unescaped_run;
 use json_tokens::Skip;
 use json_tokens::Step;
@@ -65,7 +66,7 @@ pub fn string(s: &[u8], at: usize) -> Skip
     if b != b'"' {
         return Skip::Bad;
     }
-    let mut k = at + 1;
+    let mut k = unescaped_run(s, at + 1);
     loop {
         match unit_step(s, k) {
             Step::More(n) => {
@@ -81,12 +82,36 @@ pub fn string(s: &[u8], at: usize) -> Skip
     }
 }
 
+// Past the bytes at a place that stand for themselves and are those of the word.
+fn alike(s: &[u8], at: usize, w: &[u8]) -> usize
+    ensures { λ r. ⌜
+        (sameList (contentAt (now (s .entry)) r) (drop (r - at) (now (w .entry)))
+        ≡ sameList (contentAt (now (s .entry)) at) (now (w .entry)))
+        × (at ≤ r)
+        ⌝ }
+{
+    let mut k = at;
+    let mut i = 0;
+    while i < w.len() {
+        let b = byte(s, k);
+        if b != w[i] {
+            return k;
+        }
+        if !is_unescaped(b) {
+            return k;
+        }
+        k += 1;
+        i += 1;
+    }
+    k
+}
+
 // The string whose characters start at a place holds the word, unescaped.
 pub fn holds(s: &[u8], at: usize, w: &[u8]) -> bool
     ensures { λ r. ⌜ r ≡ sameList (contentAt (now (s .entry)) at) (now (w .entry)) ⌝ }
 {
-    let mut k = at;
-    let mut i = 0;
+    let mut k = alike(s, at, w);
+    let mut i = k - at;
     loop {
         match unit_of(s, k) {
             Unit::Code(c, j) => {

@@ -9,7 +9,7 @@ ghost use Rattle.json_strings.specs.Text.{unescaped};
 use json_tokens::byte;
 
 // A character that stands for itself, and is one byte.
-fn is_unescaped(b: u8) -> bool
+pub fn is_unescaped(b: u8) -> bool
     ensures { λ r. ⌜ r ≡ unescaped b ⌝ }
 {
     (b != b'"') & (b != b'\\') & !(b < 0x20) & (b < 0x80)

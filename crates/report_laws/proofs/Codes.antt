@@ -19,7 +19,7 @@ use Rattle.report_read.proofs.Elements.{neither-left, neither-right}
 use Rattle.report_laws.specs.Reported.{ReportText, Small, all-small, small-then, RightAmount}
 use Rattle.report_laws.specs.Reported.{Big, big-request, big-response, big-later}
 use Rattle.report_laws.specs.Reported.{WrongAmount, no-entry, too-many, too-long, Amiss, Crowded, Readable}
-use Rattle.report_laws.proofs.Reported.{report-found, report-read}
+use Rattle.report_laws.proofs.Reported.{report-found, report-read, unread-exactly}
 
 -- ---- packets
 none-big : (es : List Entry) → anyBig es ≡ false → Small es
@@ -112,14 +112,9 @@ told : (s : List ℕ) (room : ℕ) → Told s room (readOf (entriesOf s) room)
 unfolding readOf
 told s room = by (entriesOf s) refl
   where
-    none-is : entriesOf s ≡ unread → (es : List Entry) → ReportText s es → ⊥
-    none-is e es r =
-        let same : unread ≡ these es = sym e ∙ report-read s es r in
-        let z : _≡_ {A = ℕ} 0 1 = cc in omega arith
-
     by : (x : Entries) → entriesOf s ≡ x → Told s room (readOf x room)
     by (these es) e = report-of es (report-found s es e) (case es room)
-    by unread e = no-report (none-is e)
+    by unread e = no-report (unread-exactly s .0 e)
 
 read-of : {s : List ℕ} (room : ℕ) {es : List Entry} → ReportText s es
     → readOf (entriesOf s) room ≡ readOf (these es) room

@@ -1,5 +1,4 @@
 -- What holds of reports in the public format.
-pub mod JustOne
 pub mod Reported
 pub mod Codes
 pub mod Bytes

@@ -1,53 +1,34 @@
 -- Laws for the writers of a record: areas filled with bytes and zeros, one after the other.
-use Prim.Native.Nat.{ℕ, zero, suc, _+_, _-_, _≤_}
+use Prim.Native.Nat.{ℕ, _+_, _-_, _≤_}
 use mathlib.Core.Path.{_≡_, refl, sym, _∙_, ap}
 use mathlib.Core.Bool.{Bool, true, false}
 use mathlib.Core.List.{List, _++_, append-assoc}
 use native.Mathlib.Omega.{arith}
 use lib.ListN.{length, take, drop, replicate, length-append, length-replicate, length-take, length-drop}
-use lib.Seq.{drop-drop}
-use borrow.Author.Tests.{le-ltb}
-use Rattle.laws.specs.Pick.{pick}
+use Rattle.laws.specs.Pick.{pick, either, both}
 use Rattle.laws.specs.Numbers.{leBytes}
 use Rattle.laws.specs.Pasted.{pasted, fronted}
 use Rattle.laws.proofs.Pasted.{pasted-two, drop-replicate}
 use Rattle.laws.proofs.Numbers.{length-leBytes}
-use Rattle.json_tokens.specs.declared.Skip.{Skip}
-use Rattle.json_tokens.specs.declared.Skip.the-variants.{Past, Bad}
 use Rattle.json_strings.specs.Text.{contentAt}
 use Rattle.base64.specs.Decode.{Decoded, bytes, none, decode64}
-use Rattle.json_base64.specs.Sized.{plain}
-use Rattle.report_read.specs.Entry.{Entry, textPlace, memberOf, held, entryAt, randName, keyName, requestName}
-use Rattle.report_read.specs.Entry.{responseName}
+use Rattle.json_base64.specs.Sized.{good, plain}
+use Rattle.report_read.specs.declared.Spot.{Spot}
+use Rattle.report_read.specs.Entry.{Entry, memberOf, held, is64, is32, randGood, hasAll, entryAt, randName, keyName}
+use Rattle.report_read.specs.Entry.{requestName, responseName}
+use Rattle.report_read.proofs.Elements.{both-left, both-right}
 use Rattle.pile.specs.Recording.{padded, headBytes, recordBytes}
 use Rattle.pile.proofs.Recorded.{length-padded, length-record}
 use Rattle.report_read.specs.Record.{recordOf}
-use Rattle.report_read.specs.Ready.{Ready}
+use Rattle.report_read.specs.Ready.{Ready, Writable}
 
 pub part-length : (d : List ℕ) (at n : ℕ) → at + n ≤ length d → length (take (at + n - at) (drop at d)) ≡ n
 part-length d at n h = simp (length-take, length-drop) (omega arith)
 
--- ---- A member's bytes in an area that was cleared.
-module _ {x : Skip} {o : List ℕ} (n : ℕ) (s : List ℕ) (k : ℕ) (w : List ℕ) (e : x ≡ textPlace s k w)
-    (z : o ≡ replicate n 0) where
-  pub fill-none : x ≡ Bad → o ≡ padded n (held (memberOf s k w))
-  unfolding padded held memberOf
-  fill-none h = let q : n ≡ n - 0 = omega arith in rw (sym e ∙ h) (z ∙ ap (λ (m : ℕ). replicate m 0) q)
-
-  pub fill-fits : {p : ℕ} → x ≡ Past p → length (held (memberOf s k w)) ≤ n
-      → length (plain (decode64 (contentAt s p))) ≤ length o
-  unfolding held memberOf
-  fill-fits {p} h l =
-      let m : length (plain (decode64 (contentAt s p))) ≤ n = rw (sym e ∙ h) at l in
-      omega (arith, ap length z, length-replicate {A = ℕ} n 0)
-
-  pub fill-done : {p : ℕ} {to : List ℕ} → x ≡ Past p → length (held (memberOf s k w)) ≤ n
-      → to ≡ fronted (plain (decode64 (contentAt s p))) o → to ≡ padded n (held (memberOf s k w))
-  unfolding padded held memberOf
-  fill-done {p} {to} h l g =
-      let y : List ℕ = plain (decode64 (contentAt s p)) in
-      let m : length (plain (decode64 (contentAt s p))) ≤ n = rw (sym e ∙ h) at l in
-      rw (sym e ∙ h) (g ∙ rw z (ap (λ (q : List ℕ). y ++ q) (drop-replicate n (length y) 0 m)))
+-- ---- Bytes in an area that was cleared.
+pub fill-done : {o to : List ℕ} (n : ℕ) (x : List ℕ) → o ≡ replicate n 0 → length x ≤ n → to ≡ fronted x o → to ≡ padded n x
+unfolding padded
+fill-done n x z l g = g ∙ rw z (ap (λ (q : List ℕ). x ++ q) (drop-replicate n (length x) 0 l))
 
 -- ---- Two areas, one after the other.
 pub two-padded : {m e : List ℕ} (d : List ℕ) (at n u : ℕ) (x y : List ℕ) → m ≡ pasted d at (padded n x)
@@ -180,3 +161,72 @@ module _ {s : List ℕ} {first : Bool} {k : ℕ} (r : Ready s first k) where
       four-pasted d _ _ _ _ at names-length (lengths-length _ _) (length-replicate {A = ℕ} 24 0) packets-length e₁
       (rw (hq, ha) at e₂) e₃ e₄ h
       ∙ ap (pasted d at) (sym (record-parts (entryAt s first k)))
+
+-- ---- What is known of the strings of an entry that can be written.
+good-32 : (d : Decoded) → is32 d ≡ true → good d ≡ true
+unfolding is32
+good-32 (bytes x) e = refl
+good-32 none e = e
+
+module _ {s : List ℕ} {first : Bool} {e : Spot} (r : Writable s first e) where
+  after-brace : both (randGood s first (e .at)) (both (is32 (memberOf s (e .at) keyName))
+      (both (is64 (memberOf s (e .at) requestName)) (is64 (memberOf s (e .at) responseName)))) ≡ true
+  unfolding hasAll
+  after-brace = both-right _ _ (r .all)
+
+  pub good-key : good (decode64 (contentAt s (e .key))) ≡ true
+  good-key = rw (r .spot .key) (good-32 _ (both-left _ _ (both-right _ _ after-brace)))
+
+  pub good-rand : first ≡ false → good (decode64 (contentAt s (e .rand))) ≡ true
+  unfolding randGood either
+  good-rand h = rw (r .spot .rand h) (good-32 _ (rw h at (both-left _ _ after-brace)))
+
+  pub good-request : good (decode64 (contentAt s (e .request))) ≡ true
+  unfolding is64
+  good-request = rw (r .spot .request) (both-left _ _ (both-right _ _ (both-right _ _ after-brace)))
+
+  pub good-response : good (decode64 (contentAt s (e .response))) ≡ true
+  unfolding is64
+  good-response = rw (r .spot .response) (both-right _ _ (both-right _ _ (both-right _ _ after-brace)))
+
+  pub short-key : length (plain (decode64 (contentAt s (e .key)))) ≤ 32
+  unfolding held
+  short-key = rw (r .spot .key) (ready-key (r .ready))
+
+  pub short-rand : first ≡ false → length (plain (decode64 (contentAt s (e .rand)))) ≤ 32
+  unfolding held
+  short-rand h = rw (r .spot .rand h) (ready-rand (r .ready) h)
+
+  pub short-request : length (plain (decode64 (contentAt s (e .request)))) ≤ 2000
+  unfolding held
+  short-request = rw (r .spot .request) (ready-request (r .ready))
+
+  pub short-response : length (plain (decode64 (contentAt s (e .response)))) ≤ 2000
+  unfolding held
+  short-response = rw (r .spot .response) (ready-response (r .ready))
+
+  pub short-asked : e .asked ≤ 2000
+  short-asked = omega (arith, r .spot .asked, ready-request (r .ready))
+
+  pub short-said : e .said ≤ 2000
+  short-said = omega (arith, r .spot .said, ready-response (r .ready))
+
+  -- what is put is the member's
+  pub of-key : (n : ℕ) → padded n (plain (decode64 (contentAt s (e .key)))) ≡ padded n (held (memberOf s (e .at) keyName))
+  unfolding held
+  of-key n = rw (r .spot .key) refl
+
+  pub of-rand : (n : ℕ) → first ≡ false
+      → padded n (plain (decode64 (contentAt s (e .rand)))) ≡ padded n (held (memberOf s (e .at) randName))
+  unfolding held
+  of-rand n h = rw (r .spot .rand h) refl
+
+  pub of-request : (n : ℕ)
+      → padded n (plain (decode64 (contentAt s (e .request)))) ≡ padded n (held (memberOf s (e .at) requestName))
+  unfolding held
+  of-request n = rw (r .spot .request) refl
+
+  pub of-response : (n : ℕ)
+      → padded n (plain (decode64 (contentAt s (e .response)))) ≡ padded n (held (memberOf s (e .at) responseName))
+  unfolding held
+  of-response n = rw (r .spot .response) refl

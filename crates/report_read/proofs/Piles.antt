@@ -1,38 +1,31 @@
 -- Laws for the loop that writes the records, and for the reader's returns.
-use Prim.Native.Char.{code}
-use Prim.Native.Nat.{ℕ, suc, _+_, _*_, _≤_, _<_}
+use Prim.Native.Nat.{ℕ, zero, suc, _+_, _*_, _≤_, _<_}
 use mathlib.Core.Path.{_≡_, refl, sym, _∙_, ap}
-use mathlib.Core.Bool.{Bool, true, false, not}
+use mathlib.Core.Bool.{Bool, true, false}
 use mathlib.Core.List.{List, [], _∷_, _++_}
 use native.Mathlib.Omega.{arith}
+use native.Mathlib.Numerals.{add-one}
 use lib.Dec.{eqb}
-use lib.ListN.{length, getD, length-append, length-replicate}
-use borrow.Author.Tests.{eqb-true, lt-ltb, le-ltb, ltb-false, not-true, not-false}
+use lib.ListN.{length, getD, drop, length-append, length-replicate, drop-of-length-le}
+use lib.Seq.{drop-cons}
+use borrow.Author.Tests.{eqb-true, ne-eqb, lt-ltb, le-ltb, ltb-false}
 use Rattle.laws.specs.Pick.{pick, either}
 use Rattle.laws.specs.Pasted.{pasted, fronted}
 use Rattle.laws.specs.Written.{written}
 use Rattle.laws.proofs.Picks.{hit, miss, hit-eq, miss-eq}
 use Rattle.laws.proofs.Filled.{Filled, filled-first, filled-next, filled-fit, filled-last}
-use Rattle.json_tokens.specs.declared.Skip.{Skip}
-use Rattle.json_tokens.specs.declared.Skip.the-variants.{Past, Bad}
-use Rattle.json.specs.declared.Found.{Found}
-use Rattle.json.specs.declared.Found.the-variants.{At, Nothing, Twice}
-use Rattle.json_tokens.specs.Scan.{pastWhile, blank}
-use Rattle.json.specs.Value.{isText}
 use Rattle.json_tokens.proofs.Picks.{inside}
 use Rattle.base64.specs.Decode.{Decoded, bytes, none}
 use Rattle.refusal.specs.Refusal.{refusal}
-use Rattle.report_read.specs.declared.Element.{Element}
-use Rattle.report_read.specs.declared.Element.the-variants.{At as Item, Done}
 use Rattle.report_read.specs.declared.Read.the-variants.{Records, Refused}
+use Rattle.report_read.specs.declared.Spot.{Spot}
 use Rattle.pile.specs.Layout.{RECORD}
-use Rattle.report_read.specs.Entry.{memberOf, held, is32, randGood, hasAll, entryAt, inList, elementsOf, allOf}
-use Rattle.report_read.specs.Entry.{entriesAt, listOf, listPlace, these, entriesFrom, entriesOf, randName}
+use Rattle.report_read.specs.Entry.{memberOf, held, is32, randGood, hasAll, entryAt, allOf}
+use Rattle.report_read.specs.Entry.{entriesAt, unread, entriesOf, randName}
 use Rattle.report_read.specs.Record.{recordOf, recordsOf}
 use Rattle.report_read.specs.Read.{isBig, anyBig, readOf, pileBytes}
-use Rattle.report_read.specs.Ready.{Ready, left, Opens, Turns}
-use Rattle.report_read.proofs.Elements.{both-left, both-right, neither-left, neither-right, left-here, left-on, left-done}
-use Rattle.report_read.proofs.Elements.{all-here, Weighed, weighed-first, weighed-here, weighed-later}
+use Rattle.report_read.specs.Ready.{Ready, Writable, Told, spotIn}
+use Rattle.report_read.proofs.Elements.{both-left, both-right, neither-left, neither-right}
 use Rattle.report_read.proofs.Areas.{record-length}
 
 held-32 : (d : Decoded) → is32 d ≡ true → length (held d) ≤ 32
@@ -72,166 +65,158 @@ records-length s first (k ∷ ks) a b =
       records-length s false ks (both-right _ _ a) (neither-right _ _ b),
     )
 
--- The state of the writer: E is all that is to be written.
-pub record Laying (s E was : List ℕ) (first : Bool) (item : Element) (at : ℕ) (out : List ℕ) : Type 0 where
-  pub filled : Filled E (recordsOf (entriesAt s first (left s item))) was at out
-  pub small : Weighed s false first item
+-- ---- The i-th element of a list of entries.
+later-all : (s : List ℕ) (ks : List ℕ) (i : ℕ) → allOf s false ks ≡ true → i < length ks → hasAll s false (getD ks i 0) ≡ true
+unfolding allOf
+later-all s [] i a h = absurd (omega arith)
+later-all s (k ∷ ks) zero a h = both-left _ _ a
+later-all s (k ∷ ks) (suc i) a h = later-all s ks i (both-right _ _ a) (omega arith)
 
-pub laying-first : {s out : List ℕ} {v : ℕ} {x : Element} → Opens s v x → allOf s true (elementsOf s inList v) ≡ true
-    → anyBig (entriesAt s true (elementsOf s inList v)) ≡ false
-    → length (recordsOf (entriesAt s true (elementsOf s inList v))) ≤ length out
-    → Laying s (recordsOf (entriesAt s true (elementsOf s inList v))) out true x 0 out
-laying-first {s} {out} {v} {x} o a b l =
-    let w : Weighed s false true x = rw b at (weighed-first o a) in
-    record { filled = rw (o .all) (filled-first _ _ l); small = w }
+all-at : (s : List ℕ) (ks : List ℕ) (i : ℕ) → allOf s true ks ≡ true → i < length ks → hasAll s (eqb i 0) (getD ks i 0) ≡ true
+unfolding allOf
+all-at s [] i a h = absurd (omega arith)
+all-at s (k ∷ ks) zero a h = both-left _ _ a
+all-at s (k ∷ ks) (suc i) a h = rw (ne-eqb (suc i) 0 (λ q. omega arith)) (later-all s ks i (both-right _ _ a) (omega arith))
 
-module _ {s E was out : List ℕ} {first : Bool} {item : Element} {at : ℕ} (l : Laying s E was first item at out) where
-  pub laying-done : item ≡ Done → out ≡ fronted E was
-  unfolding recordsOf entriesAt
-  laying-done e = filled-last (rw (left-done s e) at (l .filled))
+later-small : (s : List ℕ) (ks : List ℕ) (i : ℕ) → anyBig (entriesAt s false ks) ≡ false → i < length ks
+    → isBig (entryAt s false (getD ks i 0)) ≡ false
+unfolding anyBig entriesAt
+later-small s [] i a h = absurd (omega arith)
+later-small s (k ∷ ks) zero a h = neither-left _ _ a
+later-small s (k ∷ ks) (suc i) a h = later-small s ks i (neither-right _ _ a) (omega arith)
 
-  module _ {k : ℕ} (i : item ≡ Item k) where
-    pub laying-ready : Ready s first k
-    laying-ready = ready s first k (all-here s first (l .small .all) i refl) (weighed-here (l .small) i refl)
+small-at : (s : List ℕ) (ks : List ℕ) (i : ℕ) → anyBig (entriesAt s true ks) ≡ false → i < length ks
+    → isBig (entryAt s (eqb i 0) (getD ks i 0)) ≡ false
+unfolding anyBig entriesAt
+small-at s [] i a h = absurd (omega arith)
+small-at s (k ∷ ks) zero a h = neither-left _ _ a
+small-at s (k ∷ ks) (suc i) a h = rw (ne-eqb (suc i) 0 (λ q. omega arith)) (later-small s ks i (neither-right _ _ a) (omega arith))
 
-    part : {m : List ℕ} → left s item ≡ k ∷ m
-        → recordsOf (entriesAt s first (left s item)) ≡ recordOf (entryAt s first k) ++ recordsOf (entriesAt s false m)
-    unfolding recordsOf entriesAt
-    part g = rw g refl
+-- ---- The state of the writer before the i-th record.
+pub record Laying (s ks was : List ℕ) (i : ℕ) (out : List ℕ) : Type 0 where
+  pub filled : Filled (recordsOf (entriesAt s true ks)) (recordsOf (entriesAt s (eqb i 0) (drop i ks))) was (i * RECORD) out
 
-    pub laying-fit : at + RECORD ≤ length out
-    laying-fit =
-        omega (
-          arith,
-          record-length laying-ready,
-          filled-fit (recordOf (entryAt s first k)) _ (l .filled) (part (left-here s i)),
-        )
+module _ {s : List ℕ} {n : ℕ} {es : List Spot} (t : Told s n false es) where
+  pub told-length : length (recordsOf (entriesAt s true (t .places))) ≡ n * RECORD
+  told-length = records-length s true (t .places) (t .all) (sym (t .keeps .weighed)) ∙ ap (λ m. m * RECORD) (sym (t .keeps .count))
 
-    pub laying-on : {to : List ℕ} {x : Element} → to ≡ pasted out at (recordOf (entryAt s first k)) → Turns s k x
-        → Laying s E was false x (at + RECORD) to
-    laying-on w t = record {
-      filled =
-          rw (record-length laying-ready) at
-          (filled-next (recordOf (entryAt s first k)) _ (l .filled) (part (left-on s i t)) w);
-      small = weighed-later (l .small) i refl t;
-    }
+  pub laying-first : {out : List ℕ} → n * RECORD ≤ length out → Laying s (t .places) out 0 out
+  laying-first l = record { filled = filled-first _ _ (omega (arith, told-length)) }
 
--- ---- The reader's returns.
-list-pick : (b : Bool) (y : Skip) (v n : ℕ) → (y ≡ Past v → v < n) → pick b y Bad ≡ Past v → v < n
-unfolding pick
-list-pick true y v n r q = r q
-list-pick false y v n r q = let z : _≡_ {A = ℕ} 0 1 = cc in absurd (omega arith)
+  module _ {was out : List ℕ} {i : ℕ} (l : Laying s (t .places) was i out) where
+    pub laying-done : n ≤ i → out ≡ fronted (pileBytes (entriesOf s)) was
+    unfolding pileBytes recordsOf entriesAt
+    laying-done h =
+        let g : length (t .places) ≤ i = omega (arith, t .keeps .count) in
+        rw (t .entries) (filled-last (rw (drop-of-length-le (t .places) g) at (l .filled)))
 
-list-at : (s : List ℕ) (u v : ℕ) (b : Bool) → eqb (getD s u 0) (code "[") ≡ b → pick b (Past u) Bad ≡ Past v → v < length s
-unfolding pick
-list-at s u v true e q = let z : u ≡ v = cc in omega (arith, inside {k = getD s u 0} s refl (eqb-true _ _ e) tt)
-list-at s u v false e q = let z : _≡_ {A = ℕ} 0 1 = cc in absurd (omega arith)
+    module _ (h : i < n) (g : i < 16) where
+      inside-places : i < length (t .places)
+      inside-places = omega (arith, t .keeps .count)
 
-list-found : (s : List ℕ) (f : Found) (v : ℕ) → listOf s f ≡ Past v → v < length s
-unfolding listOf
-list-found s (At u) v q = list-at s u v _ refl q
-list-found s Nothing v q = let z : _≡_ {A = ℕ} 0 1 = cc in absurd (omega arith)
-list-found s Twice v q = let z : _≡_ {A = ℕ} 0 1 = cc in absurd (omega arith)
+      pub laying-writable : Writable s (eqb i 0) (spotIn es i)
+      laying-writable =
+          let k = t .keeps .spots i h g in
+          let a : hasAll s (eqb i 0) (spotIn es i .at) ≡ true = rw (k .0) (all-at s (t .places) i (t .all) inside-places) in
+          record {
+            ready = ready s (eqb i 0) (spotIn es i .at) a (rw (k .0) (small-at s (t .places) i (sym (t .keeps .weighed)) inside-places));
+            all = a;
+            spot = k .1;
+          }
 
-pub list-inside : {x : Skip} {v : ℕ} (s : List ℕ) → x ≡ listPlace s → x ≡ Past v → v < length s
-unfolding listPlace
-list-inside {x} {v} s e h =
-    list-pick (isText s) _ v (length s)
-    (λ q. list-pick (eqb (getD s (pastWhile blank s 0) 0) (code "{")) _ v (length s) (λ p. list-found s _ v p) q) (sym e ∙ h)
+      part : recordsOf (entriesAt s (eqb i 0) (drop i (t .places)))
+          ≡ recordOf (entryAt s (eqb i 0) (spotIn es i .at)) ++ recordsOf (entriesAt s false (drop (suc i) (t .places)))
+      unfolding recordsOf entriesAt
+      part = rw (drop-cons (t .places) i 0 inside-places, sym (t .keeps .spots i h g .0)) refl
+
+      pub laying-fit : i * RECORD + RECORD ≤ length out
+      laying-fit =
+          omega (
+            arith,
+            record-length (laying-writable .ready),
+            filled-fit (recordOf (entryAt s (eqb i 0) (spotIn es i .at))) _ (l .filled) part,
+          )
+
+      pub laying-on : {to : List ℕ} → to ≡ pasted out (i * RECORD) (recordOf (entryAt s (eqb i 0) (spotIn es i .at)))
+          → Laying s (t .places) was (i + 1) to
+      laying-on w =
+          let f = filled-next (recordOf (entryAt s (eqb i 0) (spotIn es i .at))) _ (l .filled) part w in
+          let q : i * RECORD + length (recordOf (entryAt s (eqb i 0) (spotIn es i .at))) ≡ (i + 1) * RECORD =
+          omega (arith, record-length (laying-writable .ready)) in
+          record { filled = rw (ne-eqb (i + 1) 0 (λ z. omega arith), add-one i) (rw (add-one i) at (rw q at f)) }
+
+-- the same with what is known of the text
+pub record Lays (s : List ℕ) (n : ℕ) (es : List Spot) (was : List ℕ) (i : ℕ) (out : List ℕ) : Type 0 where
+  pub told : Told s n false es
+  pub laying : Laying s (told .places) was i out
 
 entries-length : (s : List ℕ) (first : Bool) (ks : List ℕ) → length (entriesAt s first ks) ≡ length ks
 unfolding entriesAt
 entries-length s first [] = refl
 entries-length s first (k ∷ ks) = ap suc (entries-length s false ks)
 
-module _ (s out : List ℕ) {x : Skip} (e : x ≡ listPlace s) where
-  pub read-none : x ≡ Bad
-      → (Refused (refusal 24) ≡ readOf (entriesOf s) (length out)) × (out ≡ written 24 (pileBytes (entriesOf s)) out)
-  unfolding entriesOf entriesFrom readOf pileBytes
-  read-none h = rw (sym e ∙ h) (refl, refl)
+-- ---- The reader's returns.
+pub read-none : (s out : List ℕ) → entriesOf s ≡ unread
+    → (Refused (refusal 24) ≡ readOf (entriesOf s) (length out)) × (out ≡ written 24 (pileBytes (entriesOf s)) out)
+unfolding readOf pileBytes
+read-none s out e = rw e (refl, refl)
 
-  module _ {v : ℕ} (h : x ≡ Past v) {t : Bool} (a : t ≡ allOf s true (elementsOf s inList v)) where
-    pub read-bad : not t ≡ true
-        → (Refused (refusal 24) ≡ readOf (entriesOf s) (length out)) × (out ≡ written 24 (pileBytes (entriesOf s)) out)
-    unfolding entriesOf entriesFrom readOf pileBytes pick
-    read-bad g = rw (sym e ∙ h) (rw (sym a ∙ not-true t g) (refl, refl))
+module _ {s : List ℕ} {n : ℕ} {b : Bool} {es : List Spot} (out : List ℕ) (t : Told s n b es) where
+  many : n ≡ length (entriesAt s true (t .places))
+  many = t .keeps .count ∙ sym (entries-length s true (t .places))
 
-    module _ (g : not t ≡ false) {n : ℕ} (c : n ≡ length (elementsOf s inList v)) where
-      are : entriesOf s ≡ these (entriesAt s true (elementsOf s inList v))
-      unfolding entriesOf entriesFrom pick
-      are = rw (sym e ∙ h) (rw (sym a ∙ not-false t g) refl)
+  pub read-few : n ≡ 0
+      → (Refused (refusal 25) ≡ readOf (entriesOf s) (length out)) × (out ≡ written 25 (pileBytes (entriesOf s)) out)
+  unfolding readOf pileBytes
+  read-few z = rw (t .entries) (hit-eq _ many z refl, refl)
 
-      many : n ≡ length (entriesAt s true (elementsOf s inList v))
-      many = c ∙ sym (entries-length s true (elementsOf s inList v))
+  module _ (z : n ≡ 0 → ⊥) where
+    pub read-many : 16 < n
+        → (Refused (refusal 25) ≡ readOf (entriesOf s) (length out)) × (out ≡ written 25 (pileBytes (entriesOf s)) out)
+    unfolding readOf pileBytes
+    read-many m =
+        rw (t .entries) (
+          miss-eq _ many z (hit _ refl (lt-ltb 16 (length (entriesAt s true (t .places))) (omega (arith, many))) refl),
+          refl,
+        )
 
-      pub read-few : n ≡ 0
+    module _ (m : n ≤ 16) where
+      pub read-big : b ≡ true
           → (Refused (refusal 25) ≡ readOf (entriesOf s) (length out)) × (out ≡ written 25 (pileBytes (entriesOf s)) out)
       unfolding readOf pileBytes
-      read-few z = rw are (hit-eq _ many z refl, refl)
-
-      module _ (z : n ≡ 0 → ⊥) where
-        pub read-many : 16 < n
-            → (Refused (refusal 25) ≡ readOf (entriesOf s) (length out)) × (out ≡ written 25 (pileBytes (entriesOf s)) out)
-        unfolding readOf pileBytes
-        read-many m =
-            rw are (
-              miss-eq _ many z
-                  (hit _ refl (lt-ltb 16 (length (entriesAt s true (elementsOf s inList v))) (omega (arith, many))) refl),
-              refl,
-            )
-
-        module _ (m : n ≤ 16) {b : Bool} (w : b ≡ anyBig (entriesAt s true (elementsOf s inList v))) where
-          pub read-big : b ≡ true
-              → (Refused (refusal 25) ≡ readOf (entriesOf s) (length out)) × (out ≡ written 25 (pileBytes (entriesOf s)) out)
-          unfolding readOf pileBytes
-          read-big i =
-              rw are (
-                miss-eq _ many z
-                    (miss _ refl (le-ltb 16 (length (entriesAt s true (elementsOf s inList v))) (omega (
-                      arith,
-                      many,
-                    ))) (hit _ w i refl)),
-                refl,
-              )
-
-          pub read-short : b ≡ false → length out < n * RECORD
-              → (Refused (refusal 19) ≡ readOf (entriesOf s) (length out)) × (out ≡ written 19 (pileBytes (entriesOf s)) out)
-          unfolding readOf pileBytes
-          read-short i l = rw are (
-            miss-eq _ many z (miss _ refl (le-ltb 16 (length (entriesAt s true (elementsOf s inList v))) (omega (
-              arith,
-              many,
-            )))
-                (miss _ w i
-                (hit _ refl (lt-ltb (length out) (length (entriesAt s true (elementsOf s inList v)) * RECORD) (omega (
-                  arith,
-                  many,
-                ))) refl))),
+      read-big i =
+          rw (t .entries) (
+            miss-eq _ many z
+                (miss _ refl (le-ltb 16 (length (entriesAt s true (t .places))) (omega (arith, many)))
+                (hit _ (t .keeps .weighed) i refl)),
             refl,
           )
 
-          pub read-room : b ≡ false → n * RECORD ≤ length out
-              → length (recordsOf (entriesAt s true (elementsOf s inList v))) ≤ length out
-          read-room i l = omega (
-            arith,
-            c,
-            records-length s true (elementsOf s inList v) (sym a ∙ not-false t g) (sym w
-                ∙ i),
+      pub read-short : b ≡ false → length out < n * RECORD
+          → (Refused (refusal 19) ≡ readOf (entriesOf s) (length out)) × (out ≡ written 19 (pileBytes (entriesOf s)) out)
+      unfolding readOf pileBytes
+      read-short i l =
+          rw (t .entries) (
+            miss-eq _ many z
+                (miss _ refl (le-ltb 16 (length (entriesAt s true (t .places))) (omega (arith, many)))
+                (miss _ (t .keeps .weighed) i
+                (hit _ refl (lt-ltb (length out) (length (entriesAt s true (t .places)) * RECORD) (omega (arith, many)))
+                refl))),
+            refl,
           )
 
-          pub read-done : {to : List ℕ} → b ≡ false → n * RECORD ≤ length out
-              → to ≡ fronted (recordsOf (entriesAt s true (elementsOf s inList v))) out
-              → (Records n ≡ readOf (entriesOf s) (length out)) × (to ≡ written 0 (pileBytes (entriesOf s)) out)
-          unfolding readOf pileBytes
-          read-done i l q = rw are (
-            miss-eq _ many z (miss _ refl (le-ltb 16 (length (entriesAt s true (elementsOf s inList v))) (omega (
-              arith,
-              many,
-            )))
-                (miss _ w i
-                (miss _ refl (le-ltb (length out) (length (entriesAt s true (elementsOf s inList v)) * RECORD) (omega (
-                  arith,
-                  many,
-                ))) (ap Records many)))),
-            q,
-          )
+      pub read-done : {to : List ℕ} → b ≡ false → n * RECORD ≤ length out → to ≡ fronted (pileBytes (entriesOf s)) out
+          → (Records n ≡ readOf (entriesOf s) (length out)) × (to ≡ written 0 (pileBytes (entriesOf s)) out)
+      unfolding readOf
+      read-done i l q = (
+        rw (t .entries) (miss-eq _ many z
+            (miss _ refl (le-ltb 16 (length (entriesAt s true (t .places))) (omega (arith, many)))
+            (miss _ (t .keeps .weighed) i
+            (miss _ refl (le-ltb (length out) (length (entriesAt s true (t .places)) * RECORD) (omega (arith, many)))
+            (ap Records many))))),
+        q,
+      )
+
+-- where no packet is too long
+pub told-small : {s : List ℕ} {n : ℕ} {b : Bool} {es : List Spot} → Told s n b es → b ≡ false → Told s n false es
+told-small t h = rw h at t

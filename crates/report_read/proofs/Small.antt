@@ -1,14 +1,13 @@
--- Laws for the returns of the small readers: conjunctions by tests, and a member's string.
-use Prim.Native.Char.{code}
-use Prim.Native.Nat.{ℕ, _+_, _≤_, _<_}
-use mathlib.Core.Path.{_≡_, refl, sym, _∙_, ap}
-use mathlib.Core.Bool.{Bool, true, false, not}
+-- Laws for the readers of a member's string: what its size says of it.
+use Prim.Native.Nat.{ℕ, _+_}
+use mathlib.Core.Path.{_≡_, refl, sym, _∙_}
+use mathlib.Core.Bool.{Bool, true, false, true≢false}
 use mathlib.Core.List.{List}
 use native.Mathlib.Omega.{arith}
-use lib.Dec.{eqb, ltb}
+use lib.Dec.{eqb}
 use lib.ListN.{length, getD}
-use borrow.Author.Tests.{eq-eqb, ne-eqb, lt-ltb, le-ltb, not-true, not-false}
-use Rattle.laws.specs.Pick.{pick, either, both}
+use borrow.Author.Tests.{eq-eqb, ne-eqb}
+use Rattle.laws.specs.Pick.{pick, either}
 use Rattle.json_tokens.specs.declared.Skip.{Skip}
 use Rattle.json_tokens.specs.declared.Skip.the-variants.{Past, Bad}
 use Rattle.json.specs.declared.Found.{Found}
@@ -19,65 +18,9 @@ use Rattle.json_base64.specs.declared.Size.{Size}
 use Rattle.json_base64.specs.declared.Size.the-variants.{Of}
 use Rattle.json_base64.specs.declared.Size.the-variants.{Bad as NoSize}
 use Rattle.json_base64.specs.Sized.{sizeOf, good, plain}
-use Rattle.report_read.specs.Entry.{stringOf, decodedAt, memberOf, textPlace, is64, sizeIn, held, is32, listOf}
-
-pub both-no : {t b : Bool} (q : Bool) → t ≡ b → not t ≡ true → false ≡ both b q
-unfolding both
-both-no {t} q e h = rw (sym e ∙ not-true t h) refl
-
-pub both-on : {t b r q : Bool} → t ≡ b → not t ≡ false → r ≡ q → r ≡ both b q
-unfolding both
-both-on {t} e h g = rw (sym e ∙ not-false t h) g
-
-pub both-no-eq : {k m n : ℕ} (q : Bool) → k ≡ m → (k ≡ n → ⊥) → false ≡ both (eqb m n) q
-unfolding both
-both-no-eq {k} {m} {n} q e h = rw (ne-eqb m n (λ z. h (e ∙ z))) refl
-
-pub both-on-eq : {k m n : ℕ} {r q : Bool} → k ≡ m → k ≡ n → r ≡ q → r ≡ both (eqb m n) q
-unfolding both
-both-on-eq {k} {m} {n} e h g = rw (eq-eqb m n (sym e ∙ h)) g
-
-pub either-here : {t b : Bool} (q : Bool) → t ≡ b → t ≡ true → true ≡ either b q
-unfolding either
-either-here q e h = rw (sym e ∙ h) refl
-
-pub either-on : {t b r q : Bool} → t ≡ b → t ≡ false → r ≡ q → r ≡ either b q
-unfolding either
-either-on e h g = rw (sym e ∙ h) g
-
-pub either-lt : {k m n : ℕ} (q : Bool) → k ≡ m → n < k → true ≡ either (ltb n m) q
-unfolding either
-either-lt {k} {m} {n} q e h = rw (lt-ltb n m (omega arith)) refl
-
-pub either-le : {k m n : ℕ} {r q : Bool} → k ≡ m → k ≤ n → r ≡ q → r ≡ either (ltb n m) q
-unfolding either
-either-le {k} {m} {n} e h g = rw (le-ltb n m (omega arith)) g
-
-pub either-true : (q : Bool) {b : Bool} → b ≡ true → true ≡ either b q
-unfolding either
-either-true q h = rw h refl
-
-pub either-false : {b r q : Bool} → b ≡ false → r ≡ q → r ≡ either b q
-unfolding either
-either-false h g = rw h g
-
-pub lt-same : {k m : ℕ} (n : ℕ) → k ≡ m → ltb n k ≡ ltb n m
-lt-same n e = ap (ltb n) e
-
-pub ruleset tests = (
-  lt-same,
-  both-no,
-  both-on,
-  both-no-eq,
-  both-on-eq,
-  either-here,
-  either-on,
-  either-lt,
-  either-le,
-  either-true,
-  either-false,
-  refl,
-)
+use Rattle.report_read.specs.declared.Part.{Part}
+use Rattle.report_read.specs.Entry.{stringOf, decodedAt, is64, sizeIn, held, is32}
+use Rattle.report_read.specs.Ready.{Measured, PartOf, Exact, Randed}
 
 -- ---- What a size says of the bytes.
 of-bytes : (d : Decoded) {n : ℕ} → Of n ≡ sizeOf 0 d → (eqb n 32 ≡ is32 d) × ((true ≡ good d) × (n ≡ length (plain d)))
@@ -85,73 +28,73 @@ unfolding is32
 of-bytes (bytes y) {n} q = let z : n ≡ 0 + length y = cc in let u : n ≡ length y = omega arith in (rw u refl, (refl, u))
 of-bytes none {n} q = let z : _≡_ {A = ℕ} 0 1 = cc in absurd (omega arith)
 
-of-none : (d : Decoded) → NoSize ≡ sizeOf 0 d → (false ≡ is32 d) × ((false ≡ good d) × (0 ≡ length (plain d)))
-unfolding is32
+of-none : (d : Decoded) → NoSize ≡ sizeOf 0 d → good d ≡ false
 of-none (bytes y) q = let z : _≡_ {A = ℕ} 0 1 = cc in absurd (omega arith)
-of-none none q = (refl, (refl, refl))
+of-none none q = refl
 
-module _ (d : Decoded) {x : Size} (e : x ≡ sizeIn d) where
-  pub size-32 : {n : ℕ} → x ≡ Of n → eqb n 32 ≡ is32 d
+no-32 : (d : Decoded) → is64 d ≡ false → is32 d ≡ false
+unfolding is64 is32
+no-32 (bytes y) e = absurd (true≢false e)
+no-32 none e = refl
+
+-- ---- The string at a place.
+module _ (s : List ℕ) (v : ℕ) {b : ℕ} (e : b ≡ getD s v 0) where
+  pub part-not : (b ≡ 34 → ⊥) → is64 (decodedAt s (stringOf s (At v))) ≡ false
+  unfolding stringOf pick is64
+  part-not h = rw (sym e, ne-eqb b 34 h) refl
+
+  module _ (h : b ≡ 34) where
+    string-is : decode64 (contentAt s (v + 1)) ≡ decodedAt s (stringOf s (At v))
+    unfolding stringOf pick
+    string-is = rw (sym e, h) refl
+
+    pub part-good : {x : Size} {n : ℕ} → x ≡ sizeOf 0 (decode64 (contentAt s (v + 1))) → x ≡ Of n
+        → Measured s (At v) (v + 1) n
+    unfolding sizeIn
+    part-good g q = record { is = string-is; size = rw (sym string-is) (sym q ∙ g) }
+
+    pub part-bad : {x : Size} → x ≡ sizeOf 0 (decode64 (contentAt s (v + 1))) → x ≡ NoSize
+        → is64 (decodedAt s (stringOf s (At v))) ≡ false
+    unfolding is64
+    part-bad g q = rw (sym string-is) (of-none (decode64 (contentAt s (v + 1))) (sym q ∙ g))
+
+-- ---- That of a member.
+pub part-found : {f : Found} {v : ℕ} (s : List ℕ) (r : Part) → f ≡ At v → PartOf s (At v) r → PartOf s f r
+part-found s r e g = rw e g
+
+pub part-nothing : {f : Found} (s : List ℕ) → f ≡ Nothing → is64 (decodedAt s (stringOf s f)) ≡ false
+unfolding stringOf is64
+part-nothing s e = rw e refl
+
+pub part-twice : {f : Found} (s : List ℕ) → f ≡ Twice → is64 (decodedAt s (stringOf s f)) ≡ false
+unfolding stringOf is64
+part-twice s e = rw e refl
+
+module _ {s : List ℕ} {f : Found} {p n : ℕ} (m : Measured s f p n) where
+  pub exact-32 : n ≡ 32 → Exact s f (Past p)
   unfolding sizeIn
-  size-32 {n} h = of-bytes d (sym h ∙ e) .0
+  exact-32 h = (m .is, sym (of-bytes (decodedAt s (stringOf s f)) (m .size) .0) ∙ eq-eqb n 32 h)
 
-  pub size-no-32 : x ≡ NoSize → false ≡ is32 d
+  pub exact-other : (n ≡ 32 → ⊥) → Exact s f Bad
   unfolding sizeIn
-  size-no-32 h = of-none d (sym h ∙ e) .0
+  exact-other h = sym (of-bytes (decodedAt s (stringOf s f)) (m .size) .0) ∙ ne-eqb n 32 h
 
-  pub size-good : {n : ℕ} → x ≡ Of n → true ≡ is64 d
+  pub measured-64 : is64 (decodedAt s (stringOf s f)) ≡ true
   unfolding sizeIn is64
-  size-good {n} h = of-bytes d (sym h ∙ e) .1 .0
+  measured-64 = sym (of-bytes (decodedAt s (stringOf s f)) (m .size) .1 .0)
 
-  pub size-no-good : x ≡ NoSize → false ≡ is64 d
-  unfolding sizeIn is64
-  size-no-good h = of-none d (sym h ∙ e) .1 .0
-
-  pub size-length : {n : ℕ} → x ≡ Of n → n ≡ length (held d)
+  pub measured-length : n ≡ length (held (decodedAt s (stringOf s f)))
   unfolding sizeIn held
-  size-length {n} h = of-bytes d (sym h ∙ e) .1 .1
+  measured-length = of-bytes (decodedAt s (stringOf s f)) (m .size) .1 .1
 
-  pub size-none : x ≡ NoSize → 0 ≡ length (held d)
-  unfolding sizeIn held
-  size-none h = of-none d (sym h ∙ e) .1 .1
+pub exact-none : (s : List ℕ) (f : Found) → is64 (decodedAt s (stringOf s f)) ≡ false → Exact s f Bad
+exact-none s f e = no-32 (decodedAt s (stringOf s f)) e
 
-pub ruleset sizes = (size-32, size-no-32, size-good, size-no-good, size-length, size-none)
+pub randed-first : {first : Bool} (s : List ℕ) (f : Found) (p : ℕ) → first ≡ true → Randed s f first (Past p)
+unfolding either
+randed-first s f p h = (λ q. absurd (true≢false (sym h ∙ q)), rw h refl)
 
--- ---- A member that was found.
-module _ (s : List ℕ) {x y : Found} (e : x ≡ y) where
-  pub string-at : {v : ℕ} {r : Skip} → x ≡ At v → r ≡ pick (eqb (getD s v 0) (code "\"")) (Past (v + 1)) Bad → r ≡ stringOf s y
-  unfolding stringOf
-  string-at h g = rw (sym e ∙ h) g
-
-  pub string-none : x ≡ Nothing → Bad ≡ stringOf s y
-  unfolding stringOf
-  string-none h = rw (sym e ∙ h) refl
-
-  pub string-twice : x ≡ Twice → Bad ≡ stringOf s y
-  unfolding stringOf
-  string-twice h = rw (sym e ∙ h) refl
-
-  pub list-at : {v : ℕ} {r : Skip} → x ≡ At v → r ≡ pick (eqb (getD s v 0) (code "[")) (Past v) Bad → r ≡ listOf s y
-  unfolding listOf
-  list-at h g = rw (sym e ∙ h) g
-
-  pub list-none : x ≡ Nothing → Bad ≡ listOf s y
-  unfolding listOf
-  list-none h = rw (sym e ∙ h) refl
-
-  pub list-twice : x ≡ Twice → Bad ≡ listOf s y
-  unfolding listOf
-  list-twice h = rw (sym e ∙ h) refl
-
-pub ruleset finds = (string-at, string-none, string-twice, list-at, list-none, list-twice)
-
--- ---- Its string.
-pub member-at : {x : Skip} {p : ℕ} {r : Size} (s : List ℕ) (at : ℕ) (w : List ℕ) → x ≡ textPlace s at w → x ≡ Past p
-    → r ≡ sizeOf 0 (decode64 (contentAt s p)) → r ≡ sizeIn (memberOf s at w)
-unfolding memberOf sizeIn
-member-at s at w e h g = g ∙ ap (λ k. sizeOf 0 (decodedAt s k)) (sym h ∙ e)
-
-pub member-none : {x : Skip} (s : List ℕ) (at : ℕ) (w : List ℕ) → x ≡ textPlace s at w → x ≡ Bad
-    → NoSize ≡ sizeIn (memberOf s at w)
-unfolding memberOf sizeIn
-member-none s at w e h = ap (λ k. sizeOf 0 (decodedAt s k)) (sym h ∙ e)
+pub randed-later : {first : Bool} (s : List ℕ) (f : Found) (r : Skip) → first ≡ false → Exact s f r → Randed s f first r
+unfolding either
+randed-later s f (Past p) h e = (λ q. e .0, rw h (e .1))
+randed-later s f Bad h e = rw h e

@@ -1,56 +1,105 @@
-// Whether an entry has what it needs, and whether its packets are too long.
-ghost use mathlib.Core.Path.{_≡_};
+// An entry: its four strings, by their places, and where it ends, in one walk over it.
 ghost use mathlib.Core.Bool.{true, false};
-ghost use Prim.Native.Nat.{_<_};
-ghost use lib.ListN.{length};
-ghost use Rattle.report_read.specs.Entry.{randGood, hasAll, entryAt};
-ghost use Rattle.report_read.specs.Read.{isBig};
-use super::members::bytes_of;
-use super::members::is_32;
-use super::members::is_base64;
+ghost use Rattle.report_read.specs.Ready.{PartOf, Exact, Randed, Looks};
+use super::IN_ENTRY;
+use super::Looked;
+use super::Part;
+use super::Spot;
+use json::Found;
+use json::members;
+use json_base64::Size;
+use json_base64::size_of;
+use json_tokens::Skip;
 use json_tokens::byte;
-use pile::layout::AREA;
 
-// The first entry's rand is not looked at; any other is 32 bytes.
-fn rand_good(s: &[u8], at: usize, first: bool) -> bool
-    requires { ⌜ at < length (now s) ⌝ }
-    ensures { λ r. ⌜ r ≡ randGood (now (s .entry)) first at ⌝ }
+// The string of base64 at a place.
+fn part_at(s: &[u8], v: usize) -> Part
+    ensures { λ r. ⌜ PartOf (now (s .entry)) (Found.At v) r ⌝ }
 {
-    if first {
-        return true;
+    let b = byte(s, v);
+    if b != b'"' {
+        return Part::Else;
     }
-    is_32(s, at, b"rand")
+    match size_of(s, v + 1) {
+        Size::Of(n) => Part::Text(v + 1, n),
+        Size::Bad => Part::Else,
+    }
 }
 
-// An object that has what a response object needs.
-pub fn has_all(s: &[u8], at: usize, first: bool) -> bool
-    ensures { λ r. ⌜ r ≡ hasAll (now (s .entry)) first at ⌝ }
+// That which is the value of a member.
+fn part(s: &[u8], f: Found) -> Part
+    ensures { λ r. ⌜ PartOf (now (s .entry)) f r ⌝ }
 {
-    let b = byte(s, at);
+    match f {
+        Found::At(v) => part_at(s, v),
+        Found::Nothing => Part::Else,
+        Found::Twice => Part::Else,
+    }
+}
+
+// The place of the same where it has to be of 32 bytes.
+fn part_32(s: &[u8], f: Found) -> Skip
+    ensures { λ r. ⌜ Exact (now (s .entry)) f r ⌝ }
+{
+    match part(s, f) {
+        Part::Text(p, n) => { if n == 32 { Skip::Past(p) } else { Skip::Bad } }
+        Part::Else => Skip::Bad,
+    }
+}
+
+// The rand of an entry: that of the first is not looked at.
+fn rand_part(s: &[u8], f: Found, first: bool) -> Skip
+    ensures { λ r. ⌜ Randed (now (s .entry)) f first r ⌝ }
+{
+    if first { Skip::Past(0) } else { part_32(s, f) }
+}
+
+// The element at a place.
+pub fn entry(s: &[u8], k: usize, first: bool) -> Looked
+    ensures { λ r. ⌜ Looks (now (s .entry)) first k r ⌝ }
+{
+    let b = byte(s, k);
     if b != b'{' {
-        return false;
+        return Looked::Unfit;
     }
-    if !rand_good(s, at, first) {
-        return false;
-    }
-    if !is_32(s, at, b"publicKey") {
-        return false;
-    }
-    if !is_base64(s, at, b"request") {
-        return false;
-    }
-    is_base64(s, at, b"response")
-}
-
-// A packet of the entry is above 2,000 bytes.
-pub fn is_big(s: &[u8], at: usize, first: bool) -> bool
-    requires { ⌜ at < length (now s) ⌝ }
-    ensures { λ r. ⌜ r ≡ isBig (entryAt (now (s .entry)) first at) ⌝ }
-{
-    let q = bytes_of(s, at, b"request");
-    if AREA < q {
-        return true;
-    }
-    let a = bytes_of(s, at, b"response");
-    AREA < a
+    let m = members(
+        s,
+        k,
+        IN_ENTRY,
+        b"rand",
+        b"publicKey",
+        b"request",
+        b"response",
+        b"",
+    );
+    let end = m.end;
+    let Skip::Past(e) = end else {
+        return Looked::Unfit;
+    };
+    let fa = m.a;
+    let Skip::Past(rand) = rand_part(s, fa, first) else {
+        return Looked::Unfit;
+    };
+    let fb = m.b;
+    let Skip::Past(key) = part_32(s, fb) else {
+        return Looked::Unfit;
+    };
+    let fc = m.c;
+    let Part::Text(request, asked) = part(s, fc) else {
+        return Looked::Unfit;
+    };
+    let fd = m.d;
+    let Part::Text(response, said) = part(s, fd) else {
+        return Looked::Unfit;
+    };
+    let spot = Spot {
+        at: k,
+        key,
+        rand,
+        request,
+        response,
+        asked,
+        said,
+    };
+    Looked::Good(spot, e)
 }

@@ -1,132 +1,111 @@
-// The list of entries, and what is asked of each.
+// The list of entries, in one walk over it.
 ghost use mathlib.Core.Path.{_≡_};
-ghost use mathlib.Core.Bool.{true, false};
-ghost use Prim.Native.Nat.{_+_, _<_};
+ghost use mathlib.Core.Bool.{true, false, _||_};
+ghost use Prim.Native.Nat.{_<_};
+ghost use lib.Dec.{ltb};
 ghost use lib.ListN.{length};
-ghost use Rattle.report_read.specs.Entry.{inReport, inList, elementsOf, allOf, entriesAt, listOf, listPlace, responsesName};
-ghost use Rattle.json.specs.Members.{foundOf};
-ghost use Rattle.report_read.specs.Read.{anyBig};
-ghost use Rattle.report_read.specs.Ready.{Opens, Turns};
-use super::Element;
-use super::IN_LIST;
-use super::IN_REPORT;
-use super::entries::has_all;
-use super::entries::is_big;
-use json::Found;
-use json::find;
-use json::is_text;
-use json::item;
+ghost use Rattle.pile.specs.Layout.{AREA};
+ghost use Rattle.report_read.specs.Ready.{storedOf, ListedBy};
+use super::Kept;
+use super::Looked;
+use super::Spot;
+use super::entries::entry;
 use json_tokens::Skip;
 use json_tokens::Step;
+use json_tokens::after_item;
 use json_tokens::blanks;
 use json_tokens::byte;
+use pile::layout::AREA;
 
-// The list of response objects of the object at a place.
-fn list_in(s: &[u8], root: usize) -> Skip
-    requires { ⌜ root < length (now s) ⌝ }
-    ensures { λ r. ⌜ r ≡ listOf (now (s .entry)) (foundOf (now (s .entry)) responsesName inReport root) ⌝ }
+// No entries yet.
+fn blank_spots() -> [Spot; 16]
+    ensures { λ r. ⌜ length r ≡ 16 ⌝ }
 {
-    match find(s, root, IN_REPORT, b"responses") {
-        Found::At(v) => {
-            let b = byte(s, v);
-            if b == b'[' { Skip::Past(v) } else { Skip::Bad }
-        }
-        Found::Nothing => Skip::Bad,
-        Found::Twice => Skip::Bad,
+    let blank = Spot {
+        at: 0,
+        key: 0,
+        rand: 0,
+        request: 0,
+        response: 0,
+        asked: 0,
+        said: 0,
+    };
+    [blank; 16]
+}
+
+// What is no list of entries.
+pub fn none() -> Kept
+    ensures { λ r. ⌜ r .end ≡ Skip.Bad ⌝ }
+{
+    let spots = blank_spots();
+    Kept {
+        end: Skip::Bad,
+        n: 0,
+        big: false,
+        spots,
     }
 }
 
-// The place of the list of response objects.
-pub fn list_place(s: &[u8]) -> Skip
-    ensures { λ r. ⌜ r ≡ listPlace (now (s .entry)) ⌝ }
+// One more entry, of which the first 16 are kept.
+fn stored(spots: [Spot; 16], n: usize, e: Spot) -> [Spot; 16]
+    ensures { λ r. ⌜ r ≡ storedOf spots n e ⌝ }
 {
-    if !is_text(s) {
-        return Skip::Bad;
+    let mut all = spots;
+    if n < 16 {
+        all[n] = e;
+        return all;
     }
-    let root = blanks(s, 0);
-    let b = byte(s, root);
-    if b == b'{' {
-        list_in(s, root)
-    } else {
-        Skip::Bad
-    }
+    all
 }
 
-// The first element of the list at a place, or that it has none.
-pub fn first_item(s: &[u8], v: usize) -> Element
+// A packet is above 2,000 bytes.
+fn is_big(e: Spot) -> bool
+    ensures { λ r. ⌜ r ≡ (ltb AREA (e .asked) || ltb AREA (e .said)) ⌝ }
+{
+    (AREA < e.asked) | (AREA < e.said)
+}
+
+// The list at a place.
+pub fn list(s: &[u8], v: usize) -> Kept
     requires { ⌜ v < length (now s) ⌝ }
-    ensures { λ r. ⌜ Opens (now (s .entry)) v r ⌝ }
+    ensures { λ r. ⌜ ListedBy (now (s .entry)) v r (r .end) ⌝ }
 {
+    let mut spots = blank_spots();
     let start = blanks(s, v + 1);
-    let b = byte(s, start);
-    if b == b']' {
-        Element::Done
-    } else {
-        Element::At(start)
-    }
-}
-
-// The element behind the one at a place, or that it is the last.
-pub fn next_item(s: &[u8], k: usize) -> Element
-    ensures { λ r. ⌜ Turns (now (s .entry)) k r ⌝ }
-{
-    match item(s, k, IN_LIST) {
-        Step::More(j) => Element::At(j),
-        Step::End(_) => Element::Done,
-        Step::Wrong => Element::Done,
-    }
-}
-
-// Each element is a response object.
-pub fn all_of(s: &[u8], v: usize) -> bool
-    requires { ⌜ v < length (now s) ⌝ }
-    ensures { λ r. ⌜ r ≡ allOf (now (s .entry)) true (elementsOf (now (s .entry)) inList v) ⌝ }
-{
-    let mut at = first_item(s, v);
-    let mut first = true;
-    loop {
-        let Element::At(k) = at else {
-            return true;
+    if byte(s, start) == b']' {
+        return Kept {
+            end: Skip::Past(start + 1),
+            n: 0,
+            big: false,
+            spots,
         };
-        if !has_all(s, k, first) {
-            return false;
-        }
-        first = false;
-        at = next_item(s, k);
     }
-}
-
-// How many elements there are.
-pub fn count(s: &[u8], v: usize) -> usize
-    requires { ⌜ v < length (now s) ⌝ }
-    ensures { λ r. ⌜ r ≡ length (elementsOf (now (s .entry)) inList v) ⌝ }
-{
-    let mut at = first_item(s, v);
-    let mut n = 0;
+    let mut n: usize = 0;
+    let mut big = false;
+    let mut k = start;
     loop {
-        let Element::At(k) = at else {
-            return n;
+        let Looked::Good(e, j) = entry(s, k, n == 0) else {
+            return none();
         };
+        let more = stored(spots, n, e);
+        spots = more;
+        big = big | is_big(e);
         n += 1;
-        at = next_item(s, k);
-    }
-}
-
-// Whether some packet is above 2,000 bytes.
-pub fn any_big(s: &[u8], v: usize) -> bool
-    requires { ⌜ (v < length (now s)) × (allOf (now s) true (elementsOf (now s) inList v) ≡ true) ⌝ }
-    ensures { λ r. ⌜ r ≡ anyBig (entriesAt (now (s .entry)) true (elementsOf (now (s .entry)) inList v)) ⌝ }
-{
-    let mut at = first_item(s, v);
-    let mut first = true;
-    loop {
-        let Element::At(k) = at else {
-            return false;
-        };
-        if is_big(s, k, first) {
-            return true;
+        match after_item(s, j, b']') {
+            Step::More(i) => {
+                k = i;
+            }
+            Step::End(i) => {
+                return Kept {
+                    end: Skip::Past(i),
+                    n,
+                    big,
+                    spots,
+                };
+            }
+            Step::Wrong => {
+                return none();
+            }
         }
-        first = false;
-        at = next_item(s, k);
     }
 }

@@ -4,47 +4,30 @@ ghost use mathlib.Core.Bool.{true, false};
 ghost use Prim.Native.Nat.{_+_, _*_, _≤_, _<_};
 ghost use lib.ListN.{length};
 ghost use Rattle.laws.specs.Pasted.{fronted};
-ghost use Rattle.report_read.specs.Entry.{inList, elementsOf, allOf, entriesAt, entriesOf};
-ghost use Rattle.report_read.specs.Record.{recordsOf};
-ghost use Rattle.report_read.specs.Read.{anyBig, readOf, readNumber, pileBytes};
+ghost use Rattle.pile.specs.Layout.{RECORD};
+ghost use Rattle.report_read.specs.Entry.{entriesOf};
+ghost use Rattle.report_read.specs.Ready.{Told};
+ghost use Rattle.report_read.specs.Read.{readOf, readNumber, pileBytes};
 ghost use Rattle.laws.specs.Written.{written};
-use super::Element;
 use super::Read;
-use super::lists::all_of;
-use super::lists::any_big;
-use super::lists::count;
-use super::lists::first_item;
-use super::lists::list_place;
-use super::lists::next_item;
+use super::Spot;
 use super::records::put_record;
+use super::reports::report;
 use json_tokens::Skip;
 use pile::RECORD;
 use refusal::codes;
 use refusal::refuse;
 
 // The records of all.
-fn put_all(s: &[u8], v: usize, out: &mut [u8])
-    requires { ⌜
-        (v < length (now s)) × ((allOf (now s) true (elementsOf (now s) inList v) ≡ true)
-        × ((anyBig (entriesAt (now s) true (elementsOf (now s) inList v)) ≡ false)
-        × (length (recordsOf (entriesAt (now s) true (elementsOf (now s) inList v))) ≤ length (now out))))
-        ⌝ }
-    ensures { λ _. ⌜
-        now (out .exit)
-        ≡ fronted (recordsOf (entriesAt (now (s .entry)) true (elementsOf (now (s .entry)) inList v))) (now (out .entry))
-        ⌝ }
+fn put_all(s: &[u8], n: usize, spots: [Spot; 16], out: &mut [u8])
+    requires { ⌜ Told (now s) n false spots × ((n ≤ 16) × (n * RECORD ≤ length (now out))) ⌝ }
+    ensures { λ _. ⌜ now (out .exit) ≡ fronted (pileBytes (entriesOf (now (s .entry)))) (now (out .entry)) ⌝ }
 {
-    let mut item = first_item(s, v);
-    let mut first = true;
-    let mut at = 0;
-    loop {
-        let Element::At(k) = item else {
-            return;
-        };
-        put_record(s, k, first, out, at);
-        first = false;
-        at += RECORD;
-        item = next_item(s, k);
+    let mut i = 0;
+    while i < n {
+        let e = spots[i];
+        put_record(s, e, i == 0, out, i * RECORD);
+        i += 1;
     }
 }
 
@@ -55,25 +38,25 @@ pub fn read_report(text: &[u8], out: &mut [u8]) -> Read
         now (out .exit) ≡ written (readNumber r) (pileBytes (entriesOf (now (text .entry)))) (now (out .entry))
         ⌝ }
 {
-    let Skip::Past(v) = list_place(text) else {
+    let r = report(text);
+    let end = r.end;
+    let Skip::Past(_) = end else {
         return Read::Refused(refuse(codes::REPORT_TEXT));
     };
-    if !all_of(text, v) {
-        return Read::Refused(refuse(codes::REPORT_TEXT)); // whatever the number of entries
-    }
-    let n = count(text, v);
+    let n = r.n;
     if n == 0 {
         return Read::Refused(refuse(codes::ENTRIES));
     }
     if 16 < n {
         return Read::Refused(refuse(codes::ENTRIES));
     }
-    if any_big(text, v) {
+    if r.big {
         return Read::Refused(refuse(codes::ENTRIES));
     }
     if out.len() < n * RECORD {
         return Read::Refused(refuse(codes::ROOM));
     }
-    put_all(text, v, out);
+    let spots = r.spots;
+    put_all(text, n, spots, out);
     Read::Records(n)
 }

@@ -7,6 +7,9 @@ use mathlib.Core.List.{List}
 use Prim.Native.Nat.{ℕ, _%_, _≤_, _<_}
 use native.Mathlib.Nat.{le-refl}
 use lib.ListN.{length}
+use Rattle.laws.specs.Numbers.{le}
+use Rattle.laws.specs.Same.{same}
+use Rattle.laws.proofs.Same.{same-true}
 use Rattle.laws.proofs.Least.{least-first, least-never, first-least, never-least}
 use Rattle.refusal.specs.Refusal.{refusal}
 use Rattle.refusal.specs.declared.Refusal.{Refusal}
@@ -15,6 +18,14 @@ use Rattle.server_list.specs.Lookup.{whereRefusal, firstIn, known, sough
 use Rattle.server_list.specs.Meaning.{WholeLists, IsFirstIn, NotIn, code-21, code-22, FindsServer}
 use Rattle.server_list.specs.declared.Where.{Where}
 use Rattle.server_list.specs.declared.Where.the-variants.{Owner, Shipped, Refused}
+
+-- two values of which eight bytes are not the same
+pub word-differs : {x y : ℕ} (a b : List ℕ) (i : ℕ) → x ≡ le 8 a i → y ≡ le 8 b i → (x ≡ y → ⊥) → false ≡ same a b
+word-differs a b i p q h = by (same a b) refl
+  where
+    by : (t : Bool) → same a b ≡ t → false ≡ t
+    by true e = absurd (h (p ∙ ap (λ (l : List ℕ). le 8 l i) (same-true a b e) ∙ sym q))
+    by false e = refl
 
 -- one list: the number that the definition computes, as a sentence, and the other way
 module _ (list srv : List ℕ) where

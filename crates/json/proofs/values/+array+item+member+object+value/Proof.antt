@@ -31,6 +31,7 @@ use Rattle.json_tokens.proofs.blanks.Reads as blanks-reads
 use Rattle.json_tokens.proofs.byte.Reads as byte-reads
 use Rattle.json_tokens.proofs.colon.Reads as colon-reads
 use Rattle.json.proofs.values.plain.Reads as plain-reads
+use Rattle.json.proofs.values.again.Reads as again-reads
 use Rattle.json_strings.proofs.string.Reads as string-reads
 use Rattle.json.proofs.values.+array+item+member+object+value.{statement}
 use Rattle.json.proofs.values.+array+item+member+object+value.Tie.{close}
@@ -112,6 +113,8 @@ value-calls t = (
   array.Post,
   plain-reads.Asked,
   plain-reads.Learnt,
+  again-reads.Asked,
+  again-reads.Learnt,
 )
 
 abbrev array-Inv-loop : array-lts.InvT-loop
@@ -301,8 +304,9 @@ value-returns-2 t c =
 
 value-returns-3 : (t : ℕ) → value-lts.Need-returns-3 (value-calls t) (value-at t) value.Post
 value-returns-3 t c =
-    rw (value-is (now (c .before .before .before .before .before .args .s))
-    (c .before .before .before .before .before .args .depth) _) (search (picks, needs))
+    let e = c .again .ensures ∙ c .before .plain .ensures in
+    rw (value-is (now (c .before .before .before .before .before .before .args .s))
+    (c .before .before .before .before .before .before .args .depth) _) (search (picks, needs))
 
 pub +array+item+member+object+value-spec : {M : Type 1} → statement M
 +array+item+member+object+value-spec =
@@ -376,6 +380,7 @@ pub +array+item+member+object+value-spec : {M : Type 1} → statement M
     (value-object-requires t)
     (value-returns t)
     (value-array-requires t)
+    (λ c κs. search needs)
     (λ c κs. search needs)
     (value-returns-2 t)
     (value-returns-3 t)

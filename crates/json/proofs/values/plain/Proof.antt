@@ -1,4 +1,5 @@
 use borrow.Author.Needs.{needs}
+use mathlib.Core.Path.{_∙_}
 use native.Mathlib.Omega.{arith}
 use denote.Ref.{now}
 use Rattle.json.specs.Value.{plainAt}
@@ -8,7 +9,7 @@ use Rattle.json.proofs.values.plain.Tie as tie
 
 returns : tie.Need-returns
 unfolding plainAt
-returns c = search (picks, needs)
+returns c = let e = c .again .ensures ∙ c .before .string .ensures in search (picks, needs)
 
 literal-requires : tie.Need-literal-requires
 literal-requires c κs = (
@@ -51,6 +52,7 @@ pub plain-spec : {M : Type 1} → statement M
 plain-spec =
     tie.close
     (tie.spec
+    (λ c κs. search needs)
     (λ c κs. search needs)
     (λ c κs. search needs)
     returns

@@ -1,38 +1,41 @@
 use borrow.Author.Needs.{needs}
-use borrow.Author.Tests.{not-false}
 use native.Mathlib.Omega.{arith}
 use Prim.Native.Nat.{_+_, _*_, _-_}
-use mathlib.Core.Path.{_≡_}
+use mathlib.Core.Path.{_≡_, refl}
 use lib.ListN.{length}
 use Rattle.json_base64.specs.Sized.{Lettered}
-use Rattle.json_base64.proofs.Lettered.{lettered-none, lettered-more}
+use Rattle.json_base64.proofs.Lettered.{lettered-next}
 use Rattle.json_base64.proofs.stretches.groups.Statement.{statement}
 use Rattle.json_base64.proofs.stretches.groups.Tie as tie
 
 abbrev Inv-loop : tie.InvT-loop
-Inv-loop s at last k₀ n₀ k n = (k ≡ at + 4 * n) × Lettered s at n
+Inv-loop s at n₀ k₀ n k = (k ≡ at + 4 * n) × Lettered s at n
 
 abbrev μ-loop : tie.MeasureT-loop
-μ-loop s at last k₀ n₀ k n = length s - k
+μ-loop s at n₀ k₀ n k = length s - k
 
-returns : tie.Need-returns Inv-loop μ-loop
-returns c = lettered-none
+add-k : tie.Need-add-k Inv-loop μ-loop
+add-k c = let l = c .in-stretches .ensures .inside in search needs
 
 loop-holds : tie.Need-loop-holds Inv-loop μ-loop
-loop-holds c = (omega arith, lettered-none)
+loop-holds c = (refl, c .in-stretches .ensures)
 
-returns-2 : tie.Need-returns-2 Inv-loop μ-loop
-returns-2 c = c .before .before .before .loop .inv .1
+add-k-2 : tie.Need-add-k-2 Inv-loop μ-loop
+add-k-2 c = let l = c .before .four .ensures (c .if1 .taken) .inside in search needs
+
+add-n : tie.Need-add-n Inv-loop μ-loop
+add-n c = let l = c .before .before .loop .inv .1 .inside in search needs
+
+loop-less : tie.Need-loop-less Inv-loop μ-loop
+loop-less c = let l = c .before .four .ensures (c .if1 .taken) .inside in omega arith
 
 loop-again : tie.Need-loop-again Inv-loop μ-loop
 loop-again c =
-    let i = c .before .before .before .loop .inv in (
-      omega arith,
-      lettered-more (i .0) (i .1) (c .before .stretch .ensures (not-false _ (c .if2 .left))) (omega arith),
-    )
+    let i = c .before .before .loop .inv in
+    (omega arith, lettered-next (i .0) (i .1) (c .before .four .ensures (c .if1 .taken)))
 
-returns-3 : tie.Need-returns-3 Inv-loop μ-loop
-returns-3 c = c .before .loop .inv .1
+returns : tie.Need-returns Inv-loop μ-loop
+returns c = c .before .before .loop .inv .1
 
 pub groups-spec : {M : Type 1} → statement M
 groups-spec =
@@ -40,13 +43,13 @@ groups-spec =
     (tie.spec
     Inv-loop
     μ-loop
-    returns
+    (λ c κs. search needs)
     (λ c. search needs)
+    add-k
     loop-holds
     (λ c κs. search needs)
-    returns-2
-    (λ c. search needs)
-    (λ c. search needs)
-    (λ c. search needs)
+    add-k-2
+    add-n
+    loop-less
     loop-again
-    returns-3)
+    returns)

@@ -1,7 +1,7 @@
 use borrow.Author.Needs.{needs}
 use native.Mathlib.Omega.{arith}
 use Prim.Native.Nat.{_-_}
-use mathlib.Core.Path.{_≡_, refl, sym, _∙_}
+use mathlib.Core.Path.{_≡_, sym, _∙_}
 use lib.ListN.{length, drop}
 use denote.Ref.{now}
 use Rattle.json_strings.specs.Text.{contentAt, sameList}
@@ -17,12 +17,12 @@ abbrev μ-loop : tie.MeasureT-loop
 μ-loop s at w k₀ i₀ k i = length s - k
 
 loop-holds : tie.Need-loop-holds Inv-loop μ-loop
-loop-holds c = refl
+loop-holds c = c .alike .ensures .0
 
 returns : tie.Need-returns Inv-loop μ-loop
 returns c =
-    name-longer (now (c .before .before .before .before .before .before .before .before .args .s))
-    (now (c .before .before .before .before .before .before .before .before .args .w))
+    name-longer (now (c .before .before .before .before .before .before .before .before .before .args .s))
+    (now (c .before .before .before .before .before .before .before .before .before .args .w))
     (c .before .before .before .before .before .loop .k) (c .before .before .before .before .before .loop .i)
     (c .before .before .before .before .unit-of .ensures) (c .before .before .c .given .1) (c .if1 .taken)
     ∙ c .before .before .before .before .before .loop .inv
@@ -30,8 +30,8 @@ returns c =
 returns-2 : tie.Need-returns-2 Inv-loop μ-loop
 returns-2 c =
     name-differs
-    (now (c .before .before .before .before .before .before .before .before .before .before .before .args .s))
-    (now (c .before .before .before .before .before .before .before .before .before .before .before .args .w))
+    (now (c .before .before .before .before .before .before .before .before .before .before .before .before .args .s))
+    (now (c .before .before .before .before .before .before .before .before .before .before .before .before .args .w))
     (c .before .before .before .before .before .before .before .before .loop .k)
     (c .before .before .before .before .before .before .before .before .loop .i)
     (c .before .before .before .before .before .before .before .unit-of .ensures)
@@ -41,7 +41,7 @@ returns-2 c =
 loop-less : tie.Need-loop-less Inv-loop μ-loop
 loop-less c =
     content-falls
-    (now (c .before .before .before .before .before .before .before .before .before .before .before .args .s))
+    (now (c .before .before .before .before .before .before .before .before .before .before .before .before .args .s))
     (c .before .before .before .before .before .before .before .before .loop .k)
     (c .before .before .before .before .before .before .before .unit-of .ensures)
     (c .before .before .before .before .before .c .given .1)
@@ -49,8 +49,8 @@ loop-less c =
 loop-again : tie.Need-loop-again Inv-loop μ-loop
 loop-again c =
     name-more
-    (now (c .before .before .before .before .before .before .before .before .before .before .before .args .s))
-    (now (c .before .before .before .before .before .before .before .before .before .before .before .args .w))
+    (now (c .before .before .before .before .before .before .before .before .before .before .before .before .args .s))
+    (now (c .before .before .before .before .before .before .before .before .before .before .before .before .args .w))
     (c .before .before .before .before .before .before .before .before .loop .k)
     (c .before .before .before .before .before .before .before .before .loop .i)
     (c .before .before .before .before .before .before .before .unit-of .ensures)
@@ -59,19 +59,19 @@ loop-again c =
 
 returns-3 : tie.Need-returns-3 Inv-loop μ-loop
 returns-3 c =
-    name-end (now (c .before .before .before .before .before .before .args .s))
-    (now (c .before .before .before .before .before .before .args .w)) (c .before .before .before .loop .k)
+    name-end (now (c .before .before .before .before .before .before .before .args .s))
+    (now (c .before .before .before .before .before .before .before .args .w)) (c .before .before .before .loop .k)
     (c .before .before .before .loop .i) (c .before .before .unit-of .ensures)
-    (content-close (now (c .before .before .before .before .before .before .args .s))
+    (content-close (now (c .before .before .before .before .before .before .before .args .s))
     (c .before .before .before .loop .k) (c .before .before .unit-of .ensures) (c .enum-told .given .1))
     ∙ c .before .before .before .loop .inv
 
 returns-4 : tie.Need-returns-4 Inv-loop μ-loop
 returns-4 c =
-    name-end (now (c .before .before .before .before .before .before .args .s))
-    (now (c .before .before .before .before .before .before .args .w)) (c .before .before .before .loop .k)
+    name-end (now (c .before .before .before .before .before .before .before .args .s))
+    (now (c .before .before .before .before .before .before .before .args .w)) (c .before .before .before .loop .k)
     (c .before .before .before .loop .i) (c .before .before .unit-of .ensures)
-    (content-ill (now (c .before .before .before .before .before .before .args .s))
+    (content-ill (now (c .before .before .before .before .before .before .before .args .s))
     (c .before .before .before .loop .k) (c .before .before .unit-of .ensures) (c .enum-told2 .given .1))
     ∙ c .before .before .before .loop .inv
 
@@ -81,6 +81,8 @@ holds-spec =
     (tie.spec
     Inv-loop
     μ-loop
+    (λ c κs. search needs)
+    (λ c. search needs)
     loop-holds
     (λ c κs. search needs)
     (λ c. search needs)

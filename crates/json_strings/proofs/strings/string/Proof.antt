@@ -6,6 +6,7 @@ use lib.ListN.{length}
 use Rattle.json_strings.specs.Text.{unitStep, stringAt}
 use Rattle.json_tokens.specs.Walk.{walked}
 use Rattle.json_strings.proofs.Ahead.{forth-unit}
+use Rattle.json_strings.proofs.Runs.{walked-run}
 use Rattle.json_strings.proofs.Units.{units}
 use Rattle.json_tokens.proofs.Turns.{walked-more, turn-ahead, turn-falls, walked-end, walked-wrong}
 use Rattle.json_strings.proofs.strings.string.Statement.{statement}
@@ -21,12 +22,12 @@ returns : tie.Need-returns Inv-loop μ-loop
 unfolding stringAt
 returns c = search (units, needs)
 
-add-k : tie.Need-add-k Inv-loop μ-loop
-add-k c = search (units, needs)
+add-unescaped-run : tie.Need-add-unescaped-run Inv-loop μ-loop
+add-unescaped-run c = search (units, needs)
 
 loop-holds : tie.Need-loop-holds Inv-loop μ-loop
 unfolding stringAt
-loop-holds c = search (units, needs)
+loop-holds c = walked-run _ _ (c .unescaped-run .ensures) ∙ search (units, needs)
 
 onward-requires : tie.Need-onward-requires Inv-loop μ-loop
 onward-requires c κs =
@@ -34,7 +35,7 @@ onward-requires c κs =
 
 loop-less : tie.Need-loop-less Inv-loop μ-loop
 loop-less c =
-    let s = c .before .before .before .before .before .before .before .before .before .args .s .now in
+    let s = c .before .before .before .before .before .before .before .before .before .before .args .s .now in
     let f =
     turn-falls (length s) (unitStep s) (forth-unit s) (c .before .before .before .before .before .loop .k)
     (c .before .before .before .before .unit-step .ensures) (c .before .before .n .given .1) in
@@ -63,7 +64,8 @@ string-spec =
     μ-loop
     (λ c κs. search needs)
     returns
-    add-k
+    add-unescaped-run
+    (λ c κs. search needs)
     loop-holds
     (λ c κs. search needs)
     (λ c. search needs)

@@ -1,46 +1,41 @@
 use borrow.Author.Needs.{needs}
-use mathlib.Core.Bool.{true}
+use Prim.Native.Nat.{_-_}
 use native.Mathlib.Omega.{arith}
 use Rattle.laws.proofs.Filled.{filled-length}
-use Rattle.report_read.specs.Entry.{inList, elementsOf, entriesAt}
-use Rattle.report_read.specs.Record.{recordsOf}
-use Rattle.report_read.proofs.Elements.{fuel, loops}
-use Rattle.report_read.proofs.Piles.{Laying, laying-first, laying-done, laying-ready, laying-fit, laying-on}
+use Rattle.report_read.proofs.Piles.{Lays, laying-first, laying-done, laying-writable, laying-fit, laying-on}
 use Rattle.report_read.proofs.reading.put_all.Statement.{statement}
 use Rattle.report_read.proofs.reading.put_all.Tie as tie
 
 abbrev Inv-loop : tie.InvT-loop
-Inv-loop s v out₀ item₀ first₀ at₀ out item first at =
-    Laying s (recordsOf (entriesAt s true (elementsOf s inList v))) out₀ first item at out
+Inv-loop s n out₀ spots i₀ out i = Lays s n spots out₀ i out
 
 abbrev μ-loop : tie.MeasureT-loop
-μ-loop s v out₀ item₀ first₀ at₀ out item first at = fuel s item
+μ-loop s n out₀ spots i₀ out i = n - i
 
 loop-holds : tie.Need-loop-holds Inv-loop μ-loop
-loop-holds c = search (laying-first, needs)
-
-same-length : tie.Need-same-length Inv-loop μ-loop
-same-length c = omega (arith, filled-length (c .before .before .loop .inv .filled))
-
-returns : tie.Need-returns Inv-loop μ-loop
-returns c = search (laying-done, needs)
+loop-holds c = let p = c .before .before .pre in record { told = p .0; laying = laying-first (p .0) (p .1 .1) }
 
 put-record-requires : tie.Need-put-record-requires Inv-loop μ-loop
 put-record-requires c κs =
-    let l = c .before .before .before .before .loop .inv in
-    let i = c .before .before .item .given .1 in (laying-ready l i, laying-fit l i)
-
-add-at : tie.Need-add-at Inv-loop μ-loop
-add-at c =
-    let l = c .before .before .before .before .before .before .before .loop .inv in
-    let f = laying-fit l (c .before .before .before .before .before .item .given .1) in
-    let g = filled-length (l .filled) in search needs
-
-loop-less : tie.Need-loop-less Inv-loop μ-loop
-loop-less c = search (loops, needs)
+    let l = c .before .before .before .loop .inv in
+    let h = c .before .before .loop-test .taken in
+    (laying-writable (l .told) (l .laying) h (omega arith), laying-fit (l .told) (l .laying) h (omega arith))
 
 loop-again : tie.Need-loop-again Inv-loop μ-loop
-loop-again c = search (laying-on, needs)
+loop-again c =
+    let l = c .before .before .before .before .before .before .loop .inv in
+    record {
+      told = l .told;
+      laying =
+          laying-on (l .told) (l .laying) (c .before .before .before .before .before .loop-test .taken) (omega arith)
+          (c .before .before .put-record .ensures);
+    }
+
+same-length : tie.Need-same-length Inv-loop μ-loop
+same-length c = omega (arith, filled-length (c .before .loop .inv .laying .filled))
+
+returns : tie.Need-returns Inv-loop μ-loop
+returns c = let l = c .before .loop .inv in laying-done (l .told) (l .laying) (c .loop-test .left)
 
 pub put-all-spec : {M : Type 1} → statement M
 put-all-spec =
@@ -48,14 +43,13 @@ put-all-spec =
     (tie.spec
     Inv-loop
     μ-loop
-    (λ c κs. search needs)
     loop-holds
     (λ c. search needs)
     (λ c. search needs)
-    same-length
-    returns
+    (λ c. search needs)
     put-record-requires
-    add-at
-    (λ c κs. search needs)
-    loop-less
-    loop-again)
+    (λ c. search needs)
+    (λ c. search needs)
+    loop-again
+    same-length
+    returns)

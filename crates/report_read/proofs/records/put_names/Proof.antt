@@ -1,24 +1,26 @@
 use borrow.Author.Needs.{needs}
-use Rattle.report_read.proofs.Areas.{ready-key, names-pasted}
+use mathlib.Core.Path.{_∙_, ap}
+use Rattle.laws.specs.Pasted.{pasted}
+use Rattle.report_read.proofs.Areas.{good-key, short-key, of-key, names-pasted}
 use Rattle.report_read.proofs.records.put_names.Statement.{statement}
 use Rattle.report_read.proofs.records.put_names.Tie as tie
 
-put-member-requires : tie.Need-put-member-requires
-put-member-requires c κs = let r = c .before .before .before .before .pre .0 in (r .inside, (ready-key r, search needs))
+put-part-requires : tie.Need-put-part-requires
+put-part-requires c κs = let r = c .before .before .before .pre .0 in (good-key r, (short-key r, search needs))
 
 returns : tie.Need-returns
-returns c = let a = c .before .before .before .before .before .before .before .before .before .before .before .args in
-    names-pasted (c .before .before .before .before .before .before .before .before .before .before .before .pre .0)
-    (a .out .now) (a .at) (c .before .before .before .before .before .before .put-member .ensures)
-    (c .before .before .put-rand .ensures)
-    (c .before .before .before .before .before .before .before .before .before .before .before .pre .1)
+returns c =
+    let a = c .before .before .before .before .before .before .before .before .before .before .args in
+    let p = c .before .before .before .before .before .before .before .before .before .before .pre in
+    names-pasted (p .0 .ready) (a .out .now) (a .at)
+    (c .before .before .before .before .before .before .put-part .ensures ∙ ap (pasted (a .out .now) (a .at)) (of-key (p .0) 32))
+    (c .before .before .put-rand .ensures) (p .1)
 
 pub put-names-spec : {M : Type 1} → statement M
 put-names-spec =
     tie.close
     (tie.spec
-    (λ c. search needs)
-    put-member-requires
+    put-part-requires
     (λ c. search needs)
     (λ c κs. search needs)
     (λ c. search needs)

@@ -1,6 +1,5 @@
 -- `report_read::records::put_sizes` meets its contract.
 use borrow.Author.Needs.{needs}
-use native.Mathlib.Omega.{arith}
 use Rattle.report_read.proofs.Areas.{two-lengths}
 use Rattle.report_read.proofs.records.put_sizes.Statement.{statement}
 use Rattle.report_read.proofs.records.put_sizes.Tie as tie

@@ -2,7 +2,7 @@
 use mathlib.Core.Path.{_≡_, ap, _∙_}
 use Prim.Native.Nat.{_-_, _≤_}
 use native.Mathlib.Omega.{arith}
-use lib.ListN.{length}
+use lib.ListN.{length, length-take, length-drop}
 use Rattle.laws.specs.Least.{least}
 use Rattle.laws.proofs.Least.{least-zero, least-hit, least-miss, least-end}
 use Rattle.server_list.specs.Lists.{serverCount, serves, servesAt}
@@ -19,20 +19,27 @@ abbrev μ-loop : tie.MeasureT-loop
 μ-loop list srv k₀ k = serverCount list - k
 
 -- what a turn's test says, of the record that it took
-tested : (c : tie.After-equal Inv-loop μ-loop) → let at-loop = c .before .before .before .before in
+tested : (c : tie.After-alike Inv-loop μ-loop) → let at-loop = c .before .before .before .before in
     let a = at-loop .before .before .before .args in
-    c .equal .result ≡ servesAt (a .srv .now) (a .list .now) (at-loop .loop .k)
+    c .alike .result ≡ servesAt (a .srv .now) (a .list .now) (at-loop .loop .k)
 unfolding serves
-tested c = rw (← c .before .before .record-of .ensures .0) (c .equal .ensures)
+tested c = rw (← c .before .before .record-of .ensures .0) (c .alike .ensures)
 
 loop-holds : tie.Need-loop-holds Inv-loop μ-loop
 loop-holds c = (omega arith, least-zero _)
 
-part-equal-end : tie.Need-part-equal-end Inv-loop μ-loop
-part-equal-end c =
+part-alike-end : tie.Need-part-alike-end Inv-loop μ-loop
+part-alike-end c =
     let at-loop = c .before .before in
     let list = at-loop .before .before .before .args .list .now in
     omega (arith, ap length (c .record-of .ensures .0) ∙ server-long list (at-loop .loop .k) (omega arith))
+
+alike-requires : tie.Need-alike-requires Inv-loop μ-loop
+alike-requires c κs =
+    let at-loop = c .before .before .before in
+    let list = at-loop .before .before .before .args .list .now in
+    let l = ap length (c .before .record-of .ensures .0) ∙ server-long list (at-loop .loop .k) (omega arith) in
+    simp (length-take, length-drop) (omega arith)
 
 returns : tie.Need-returns Inv-loop μ-loop
 unfolding firstIn
@@ -59,8 +66,8 @@ index-in-spec =
     (λ c κs. search needs)
     (λ c. search needs)
     (λ c. search needs)
-    part-equal-end
-    (λ c κs. search needs)
+    part-alike-end
+    alike-requires
     returns
     (λ c. search needs)
     (λ c. search needs)

@@ -1,0 +1,219 @@
+// The members of an object under several names at once, and where it ends, in one walk over it.
+ghost use mathlib.Core.Bool.{true, false};
+ghost use mathlib.Core.Path.{_≡_};
+ghost use Prim.Native.Nat.{_+_, _<_};
+ghost use lib.ListN.{length};
+ghost use Rattle.json.specs.Members.{named, valuePlace, answerOf, foundOf};
+ghost use Rattle.json.specs.Value.{valueAt, memberStep, objectOf};
+ghost use Rattle.json.specs.Facts.{Noted};
+use super::Five;
+use super::Object;
+use super::Seen;
+use super::Turn;
+use super::names::answer;
+use super::names::is_named;
+use super::names::one_more;
+use super::values::value;
+use json_strings::is_unescaped;
+use json_strings::string;
+use json_tokens::Skip;
+use json_tokens::Step;
+use json_tokens::after_item;
+use json_tokens::blanks;
+use json_tokens::byte;
+use json_tokens::colon;
+
+fn nothing() -> Five
+    ensures { λ r. ⌜ (r .a .n ≡ 0) × (r .b .n ≡ 0) × (r .c .n ≡ 0) × (r .d .n ≡ 0) × (r .e .n ≡ 0) ⌝ }
+    ensures { λ r. ⌜ (r .a .v ≡ 0) × (r .b .v ≡ 0) × (r .c .v ≡ 0) × (r .d .v ≡ 0) × (r .e .v ≡ 0) ⌝ }
+{
+    let z = Seen { n: 0, v: 0 };
+    Five {
+        a: z,
+        b: z,
+        c: z,
+        d: z,
+        e: z,
+    }
+}
+
+// The member at k, whose value stands at v, under one of the names.
+fn looked(s: &[u8], k: usize, v: usize, w: &[u8], t: Seen) -> Seen
+    ensures { λ r. ⌜ Noted (now (s .entry)) (now (w .entry)) k v t r ⌝ }
+{
+    if is_named(s, k, w) {
+        Seen {
+            n: one_more(true, t.n),
+            v,
+        }
+    } else {
+        t
+    }
+}
+
+// The same under each of them.
+fn look_at_all(
+    s: &[u8],
+    k: usize,
+    v: usize,
+    m: Five,
+    a: &[u8],
+    b: &[u8],
+    c: &[u8],
+    d: &[u8],
+    e: &[u8],
+) -> Five
+    ensures { λ r. ⌜ Noted (now (s .entry)) (now (a .entry)) k v (m .a) (r .a) ⌝ }
+    ensures { λ r. ⌜ Noted (now (s .entry)) (now (b .entry)) k v (m .b) (r .b) ⌝ }
+    ensures { λ r. ⌜ Noted (now (s .entry)) (now (c .entry)) k v (m .c) (r .c) ⌝ }
+    ensures { λ r. ⌜ Noted (now (s .entry)) (now (d .entry)) k v (m .d) (r .d) ⌝ }
+    ensures { λ r. ⌜ Noted (now (s .entry)) (now (e .entry)) k v (m .e) (r .e) ⌝ }
+{
+    let ma = m.a;
+    let mb = m.b;
+    let mc = m.c;
+    let md = m.d;
+    let me = m.e;
+    let fa = looked(s, k, v, a, ma);
+    let fb = looked(s, k, v, b, mb);
+    let fc = looked(s, k, v, c, mc);
+    let fd = looked(s, k, v, d, md);
+    let fe = looked(s, k, v, e, me);
+    Five {
+        a: fa,
+        b: fb,
+        c: fc,
+        d: fd,
+        e: fe,
+    }
+}
+
+// A name that begins with another letter than the word. Most members have a name that nobody asks for.
+fn differs(s: &[u8], k: usize, w: &[u8]) -> bool
+    requires { ⌜ k < length (now s) ⌝ }
+    ensures { λ r. ⌜ (r ≡ true → named (now (s .entry)) (now (w .entry)) k ≡ false) ⌝ }
+{
+    let b = byte(s, k + 1);
+    is_unescaped(b) & (b != byte(w, 0))
+}
+
+// The same, where that is seen by the first letter for most.
+fn look(
+    s: &[u8],
+    k: usize,
+    v: usize,
+    m: Five,
+    a: &[u8],
+    b: &[u8],
+    c: &[u8],
+    d: &[u8],
+    e: &[u8],
+) -> Five
+    ensures { λ r. ⌜ Noted (now (s .entry)) (now (a .entry)) k v (m .a) (r .a) ⌝ }
+    ensures { λ r. ⌜ Noted (now (s .entry)) (now (b .entry)) k v (m .b) (r .b) ⌝ }
+    ensures { λ r. ⌜ Noted (now (s .entry)) (now (c .entry)) k v (m .c) (r .c) ⌝ }
+    ensures { λ r. ⌜ Noted (now (s .entry)) (now (d .entry)) k v (m .d) (r .d) ⌝ }
+    ensures { λ r. ⌜ Noted (now (s .entry)) (now (e .entry)) k v (m .e) (r .e) ⌝ }
+{
+    if byte(s, k) != b'"' {
+        return m;
+    }
+    if differs(s, k, a)
+        & differs(s, k, b)
+        & differs(s, k, c)
+        & differs(s, k, d)
+        & differs(s, k, e)
+    {
+        return m;
+    }
+    look_at_all(s, k, v, m, a, b, c, d, e)
+}
+
+// A turn of an object, and the place of the member's value.
+fn take(s: &[u8], k: usize, depth: usize) -> Turn
+    ensures { λ r. ⌜ r .value ≡ valuePlace (now (s .entry)) k ⌝ }
+    ensures { λ r. ⌜ r .step ≡ memberStep (now (s .entry)) (valueAt (now (s .entry)) depth) k ⌝ }
+{
+    let Skip::Past(e) = string(s, k) else {
+        return Turn {
+            value: 0,
+            step: Step::Wrong,
+        };
+    };
+    let Skip::Past(v) = colon(s, e) else {
+        return Turn {
+            value: 0,
+            step: Step::Wrong,
+        };
+    };
+    let Skip::Past(f) = value(s, v, depth) else {
+        return Turn {
+            value: v,
+            step: Step::Wrong,
+        };
+    };
+    Turn {
+        value: v,
+        step: after_item(s, f, b'}'),
+    }
+}
+
+fn ended(end: Skip, m: Five) -> Object
+    ensures { λ r. ⌜ r .end ≡ end ⌝ }
+    ensures { λ r. ⌜ r .a ≡ answerOf (m .a .n) (m .a .v) ⌝ }
+    ensures { λ r. ⌜ r .b ≡ answerOf (m .b .n) (m .b .v) ⌝ }
+    ensures { λ r. ⌜ r .c ≡ answerOf (m .c .n) (m .c .v) ⌝ }
+    ensures { λ r. ⌜ r .d ≡ answerOf (m .d .n) (m .d .v) ⌝ }
+    ensures { λ r. ⌜ r .e ≡ answerOf (m .e .n) (m .e .v) ⌝ }
+{
+    let a = answer(m.a.n, m.a.v);
+    let b = answer(m.b.n, m.b.v);
+    let c = answer(m.c.n, m.c.v);
+    let d = answer(m.d.n, m.d.v);
+    let e = answer(m.e.n, m.e.v);
+    Object { end, a, b, c, d, e }
+}
+
+// The members of five names of the object at a place, and where it ends, in one walk over it. Who needs fewer lends
+// b"" and does not look.
+pub fn members(
+    s: &[u8],
+    at: usize,
+    depth: usize,
+    a: &[u8],
+    b: &[u8],
+    c: &[u8],
+    d: &[u8],
+    e: &[u8],
+) -> Object
+    requires { ⌜ at < length (now s) ⌝ }
+    ensures { λ r. ⌜ r .end ≡ objectOf (now (s .entry)) (valueAt (now (s .entry)) depth) at ⌝ }
+    ensures { λ r. ⌜ r .a ≡ foundOf (now (s .entry)) (now (a .entry)) depth at ⌝ }
+    ensures { λ r. ⌜ r .b ≡ foundOf (now (s .entry)) (now (b .entry)) depth at ⌝ }
+    ensures { λ r. ⌜ r .c ≡ foundOf (now (s .entry)) (now (c .entry)) depth at ⌝ }
+    ensures { λ r. ⌜ r .d ≡ foundOf (now (s .entry)) (now (d .entry)) depth at ⌝ }
+    ensures { λ r. ⌜ r .e ≡ foundOf (now (s .entry)) (now (e .entry)) depth at ⌝ }
+{
+    let mut m = nothing();
+    let first = blanks(s, at + 1);
+    if byte(s, first) == b'}' {
+        return ended(Skip::Past(first + 1), m);
+    }
+    let mut k = first;
+    loop {
+        let t = take(s, k, depth);
+        m = look(s, k, t.value, m, a, b, c, d, e);
+        let step = t.step;
+        match step {
+            Step::More(j) => {
+                k = j;
+            }
+            Step::End(f) => {
+                return ended(Skip::Past(f), m);
+            }
+            Step::Wrong => {
+                return ended(Skip::Bad, m);
+            }
+        }
+    }
+}
