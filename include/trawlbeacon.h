@@ -53,9 +53,10 @@
 extern "C" {
 #endif
 
-/* The version of this header: a change of the first number breaks callers. */
+/* The version of this header: a change of the first number breaks callers. The stack that a call
+ * needs may grow with the second: the TB_.._STACK numbers say it. */
 #define TB_VERSION_MAJOR 1
-#define TB_VERSION_MINOR 1
+#define TB_VERSION_MINOR 2
 
 /* ---- Codes ---- */
 
@@ -111,10 +112,11 @@ enum tb_code {
     TB_UNKNOWN_SERVER = 22,
     /* the response would be longer than the request that it answers */
     TB_RESPONSE_LENGTH = 23,
-    /* the text is no report: not JSON, too deep, bad base64, or a member missing, repeated or
-     * wrong */
+    /* the text is no report and no server list: not JSON, too deep, or a member missing, repeated
+     * or wrong */
     TB_REPORT_TEXT = 24,
-    /* the text has no entry, over 16 entries, or a packet above 2,000 bytes */
+    /* the text has no entry, too many, or one with a packet above 2,000 bytes or over 8
+     * addresses */
     TB_ENTRIES = 25,
     /* a response was received before it was sent for, or a moment is before the last receipt */
     TB_CLOCK = 26,
@@ -135,7 +137,9 @@ enum tb_code {
     /* no time lies in the windows of enough servers */
     TB_NO_AGREEMENT = 34,
     /* the seed's public key is not the PUBK of CERT */
-    TB_OTHER_KEY = 35
+    TB_OTHER_KEY = 35,
+    /* the list has no such server, address, source or place for reports */
+    TB_LIST_PLACE = 36
 };
 
 /* What a code says, in words. */
@@ -191,10 +195,11 @@ static inline const char *tb_code_text(uint32_t code) {
     case TB_RESPONSE_LENGTH:
         return "the response would be longer than the request that it answers";
     case TB_REPORT_TEXT:
-        return "the text is no report: not JSON, too deep, bad base64, or a member missing, "
+        return "the text is no report and no server list: not JSON, too deep, or a member missing, "
                "repeated or wrong";
     case TB_ENTRIES:
-        return "the text has no entry, over 16 entries, or a packet above 2,000 bytes";
+        return "the text has no entry, too many, or one with a packet above 2,000 bytes or over 8 "
+               "addresses";
     case TB_CLOCK:
         return "a response was received before it was sent for, or a moment is before the last "
                "receipt";
@@ -216,6 +221,8 @@ static inline const char *tb_code_text(uint32_t code) {
         return "no time lies in the windows of enough servers";
     case TB_OTHER_KEY:
         return "the seed's public key is not the PUBK of CERT";
+    case TB_LIST_PLACE:
+        return "the list has no such server, address, source or place for reports";
     default:
         return "no such code";
     }
@@ -238,9 +245,9 @@ static inline const char *tb_code_text(uint32_t code) {
 #define TB_MOST_ROWS_LENGTH (32 * (2 * TB_MOST_LEAVES - 1))
 
 /* Bytes of stack that are enough for every tree operation; hosts/c/stack.c sees on the machine at
- * hand whether they are. tb_root and tb_path have room there for two levels of TB_MOST_LEAVES
- * nodes, one of which is made of the other: 70,248 bytes at the most, measured on x86-64. tb_rows
- * works in the buffer that it is lent and takes 1,336, tb_leads 1,448, tb_path_from next to
+ * hand whether they are. tb_root, tb_path and tb_rows have room there for three levels of
+ * TB_MOST_LEAVES nodes, the leaves and two of which one is made of the other: 103,208 bytes at the
+ * most, measured on x86-64, and 36,552 up to 32 leaves. tb_leads takes 1,448, tb_path_from next to
  * nothing. */
 #define TB_TREE_STACK 131072
 
@@ -253,13 +260,13 @@ static inline const char *tb_code_text(uint32_t code) {
  * 4,840, measured on x86-64. hosts/c/stack.c measures them anew. */
 #define TB_SIGN_STACK 8192
 
-/* Bytes of stack that are enough for tb_answer_batch. It takes 6,040, measured on x86-64.
- * hosts/c/stack.c measures it anew. */
-#define TB_BATCH_STACK 16384
+/* Bytes of stack that are enough for tb_answer_batch, which builds its tree as tb_rows does:
+ * 103,352 at the most, measured on x86-64. hosts/c/stack.c measures it anew. */
+#define TB_BATCH_STACK 131072
 
 /* Bytes of stack that are enough for tb_cut_text and tb_cut_signed_text, which hold sixteen records
  * there: 72,488 and 75,368, measured on x86-64. hosts/c/stack.c measures them anew. Of functions
- * for which none of the five constants is meant it measures 26, and none takes over 11,880. */
+ * for which none of the five constants is meant it measures 33, and none takes over 11,880. */
 #define TB_TEXT_STACK 98304
 
 /* Bytes of a record of a list of servers. */
@@ -659,10 +666,11 @@ struct tb_batch {
  *
  * Meant for this server is a packet that is no longer than its slot, that tb_read_request takes,
  * and that has no SRV or this one (draft 19, 5.2). So the call is for a server with one long-term
- * key: one with several must ignore a packet without SRV, and takes such out before. Where m are, each of them is answered that has
- * at least 264 + 32 * d + cert_len bytes, d being the depth of a tree of m leaves, which is the
- * least with 2^d >= m: no answer is longer than its request, whoever else is answered. The tree is
- * that of the answered packets in their order.
+ * key: one with several must ignore a packet without SRV, and takes such out before. Each packet
+ * that is meant for it is answered that has at least 264 + 32 * d + cert_len bytes, where d is the
+ * least number for which no more than 2^d of them have that many. So no answer is longer than its
+ * request, and a packet that is too short for any answer, one with no sibling, disturbs no other.
+ * The tree is that of the answered packets in their order, and may be less deep than d.
  *
  * Written are: out_lengths[i] for each packet, the length of its answer, 0 where it has none; the
  * answer, from out + i * room on; and to the front of rows what tb_rows writes for the leaves of
@@ -678,9 +686,9 @@ struct tb_batch {
  * The codes are 7, where radi is 0; 4 to 7 of CERT, then of its DELE; 35, where PUBK of CERT is not
  * the seed's public key; 11, where midp is outside MINT to MAXT; 20, where there is no packet, or
  * more than TB_MOST_LEAVES; 19, where packets_len is below lengths_len slots, rows_len below the
- * rows of a tree of lengths_len leaves, which are 32 * (2^(d+1) - 1) bytes, out_len below
- * lengths_len rooms, out_lengths_len below lengths_len, or room below 264 + 32 * d + cert_len, with
- * the depth d of that tree. at is as with tb_write_response. */
+ * rows of a tree of lengths_len leaves, which are 32 * (2^(e+1) - 1) bytes, out_len below
+ * lengths_len rooms, out_lengths_len below lengths_len, or room below 264 + 32 * e + cert_len, with
+ * the depth e of that tree. at is as with tb_write_response. */
 struct tb_batch tb_answer_batch(const uint8_t *packets, size_t packets_len, size_t slot,
                                 const uint32_t *lengths, size_t lengths_len,
                                 const uint8_t srv[32], const uint8_t *cert, size_t cert_len,
@@ -703,6 +711,96 @@ struct tb_found {
  * empty; the first match wins. The codes are 21 and 22. */
 struct tb_found tb_find_server(const uint8_t *owner, size_t owner_len, const uint8_t *shipped,
                                size_t shipped_len, const uint8_t srv[32]);
+
+/* Lists of servers also come as JSON (draft 19, section 8.3; RFC 8259), as others publish them:
+ * an object with "servers", a list of objects with "name", "version", "publicKeyType", "publicKey"
+ * and "addresses", each once; and perhaps "sources" and "reports". Other members are skipped.
+ *
+ * A server can be asked where its publicKeyType is "ed25519", its version is written 1, the one
+ * that this library speaks, and its key has 32 bytes. Others are passed over, and counted. Places of
+ * servers, of a server's addresses and of sources count from 0; those of servers count servers that
+ * can be asked, as their records do.
+ *
+ * The codes of the five readers are, in this order:
+ *   24: the text is no such list: not JSON, objects and arrays nest deeper than 16, a member other
+ *       than "sources" and "reports" is missing, one of these is there twice or of another kind, a
+ *       version has a fraction or an exponent, a key is no base64, a name, an address or a URL is
+ *       no text (half a pair of surrogates), a protocol is neither "tcp" nor "udp", an address is
+ *       no host and port, or a URL none of https or longer than 2,048 bytes. Every server is looked
+ *       at, also those passed over;
+ *   25: it has no server or more than TB_LISTED_SERVERS, or one of them more than
+ *       TB_LISTED_ADDRESSES addresses;
+ *   36: it has nothing at the place that is asked for;
+ *   19: the buffer is too short.
+ * Whatever is written is at most as long as the text. */
+
+/* The most servers of such a list, and addresses of a server. */
+#define TB_LISTED_SERVERS 64
+#define TB_LISTED_ADDRESSES 8
+
+/* What was read of a list: how many records were written, and how many servers were passed over. */
+struct tb_servers {
+    uint32_t code;
+    uint64_t records;
+    uint64_t passed_over;
+};
+
+/* Writes the record of each server that can be asked, TB_SERVER_LENGTH bytes each and in the list's
+ * order: the list that tb_find_server takes. The codes are 24, 25 and 19. */
+struct tb_servers tb_read_servers(const uint8_t *text, size_t text_len, uint8_t *out,
+                                  size_t out_len);
+
+/* Writes the name of the server at a place, in UTF-8. It is meant for people, may hold any
+ * characters, and should not go to a terminal as it is. The codes are 24, 25, 36 and 19. */
+struct tb_wrote tb_server_name(const uint8_t *text, size_t text_len, size_t place, uint8_t *out,
+                               size_t out_len);
+
+/* An address of a server: tcp is 1 for TCP and 0 for UDP, and length how many bytes it has. */
+struct tb_addressed {
+    uint32_t code;
+    uint32_t tcp;
+    uint64_t length;
+};
+
+/* Writes an address of the server at a place, by its own place: a host, a colon and a port from 0
+ * to 65535. The host is an IPv4 address, an IPv6 address in brackets, or a name. The codes are 24,
+ * 25, 36 and 19. */
+struct tb_addressed tb_server_address(const uint8_t *text, size_t text_len, size_t place,
+                                      size_t which, uint8_t *out, size_t out_len);
+
+/* Writes the URL at a place of "sources", from which newer lists may be had by GET. The codes are
+ * 24, 25, 36 and 19. */
+struct tb_wrote tb_list_source(const uint8_t *text, size_t text_len, size_t place, uint8_t *out,
+                               size_t out_len);
+
+/* Writes the URL of "reports", to which reports may be sent by POST (draft 19, section 8.4.2). The
+ * codes are 24, 25, 36, where the list names none, and 19. */
+struct tb_wrote tb_list_reports(const uint8_t *text, size_t text_len, uint8_t *out, size_t out_len);
+
+/* Writes one server as such an object, to be put into a list: no blanks, and escapes only where
+ * they are needed. Its publicKeyType is "ed25519". addresses has a line for each address: udp or
+ * tcp, a blank, a host, a colon and a port, and a line feed. The codes are 24, where the name is no
+ * UTF-8 or a line is wrong; 25, where there are more than TB_LISTED_ADDRESSES; and 19. */
+struct tb_wrote tb_write_server(const uint8_t *name, size_t name_len, uint32_t version,
+                                const uint8_t key[32], const uint8_t *addresses,
+                                size_t addresses_len, uint8_t *out, size_t out_len);
+
+/* Writes a whole list of as many servers as there are versions. keys has 32 bytes a server; names
+ * and addresses have the names and the lines of each, one after the other, of as many bytes as
+ * name_lengths and address_lengths say. sources has a line for each URL, and reports is a URL;
+ * where either is empty the list has no such member. The lengths of versions, name_lengths and
+ * address_lengths are of numbers and not of bytes.
+ * The codes are 21, where keys_len is not 32 a server, name_lengths or address_lengths are not one
+ * a server, or their sums are not names_len and addresses_len; 24, as with tb_write_server, and where
+ * a URL is none of https or longer than 2,048 bytes; 25, where there is no server, more than
+ * TB_LISTED_SERVERS, or more than TB_LISTED_ADDRESSES addresses of one; and 19. */
+struct tb_wrote tb_write_servers(const uint8_t *keys, size_t keys_len, const uint32_t *versions,
+                                 size_t versions_len, const uint8_t *names, size_t names_len,
+                                 const uint32_t *name_lengths, size_t name_lengths_len,
+                                 const uint8_t *addresses, size_t addresses_len,
+                                 const uint32_t *address_lengths, size_t address_lengths_len,
+                                 const uint8_t *sources, size_t sources_len, const uint8_t *reports,
+                                 size_t reports_len, uint8_t *out, size_t out_len);
 
 /* ---- Piles and reports ----
  *

@@ -1441,6 +1441,89 @@ static void expect_wrote(const char *what, struct tb_wrote is, uint64_t code, ui
     expect_all(what, out + length, 0xee, room - length);
 }
 
+/* What a writer of a part of a list, or of a server, answered, and what it left in out. */
+static void expect_part(const char *what, struct tb_wrote is, uint64_t code, const char *text,
+                        const uint8_t *out) {
+    expect_wrote(what, is, code, 0, out, strlen(text) + 8, (const uint8_t *)text, strlen(text));
+}
+
+/* A list of two servers, the first of which speaks another version. */
+static const char LISTED[] =
+    "{\"servers\":[{\"name\":\"old\",\"version\":2,\"publicKeyType\":\"ed25519\","
+    "\"publicKey\":\"AAAA\",\"addresses\":[]},"
+    "{\"name\":\"\\ud83d\\ude00\",\"version\":1,\"publicKeyType\":\"ed25519\","
+    "\"publicKey\":\"AQEBAQEBAQEBAQEBAQEBAQEBAQEBAQEBAQEBAQEBAQE=\","
+    "\"addresses\":[{\"protocol\":\"tcp\",\"address\":\"[::1]:2002\"}]}],"
+    "\"sources\":[\"https://a.example/list\"]}";
+
+/* The parts of that list, by their places. */
+static void expect_listed_parts(const uint8_t *text, size_t n) {
+    uint8_t out[64];
+    memset(out, 0xee, sizeof out);
+    expect_part("no name", tb_server_name(text, n, 1, out, 64), 36, "", out);
+    expect_part("no room for a name", tb_server_name(text, n, 0, out, 3), 19, "", out);
+    expect_part("a name", tb_server_name(text, n, 0, out, 64), 0, "\xf0\x9f\x98\x80", out);
+    memset(out, 0xee, sizeof out);
+    expect_part("no source", tb_list_source(text, n, 1, out, 64), 36, "", out);
+    expect_part("no reports", tb_list_reports(text, n, out, 64), 36, "", out);
+    expect_part("a source", tb_list_source(text, n, 0, out, 64), 0, "https://a.example/list", out);
+    struct tb_addressed at = tb_server_address(text, n, 0, 1, out, 64);
+    expect_number("no address", at.code, 36);
+    expect_number("no address", at.length, 0);
+    at = tb_server_address(text, n, 0, 0, out, 64);
+    expect_number("an address", at.code, 0);
+    expect_number("an address of TCP", at.tcp, 1);
+    expect_number("the length of an address", at.length, 10);
+    expect_bytes("an address", out, (const uint8_t *)"[::1]:2002", 10);
+}
+
+/* Lists of servers as JSON: read, by their parts, and written. */
+static void expect_lists(void) {
+    const uint8_t *text = (const uint8_t *)LISTED;
+    size_t n = sizeof LISTED - 1;
+    uint8_t out[512], key[32], srv[32];
+    memset(out, 0xee, sizeof out);
+    memset(key, 1, 32);
+    tb_srv_value(key, srv);
+    struct tb_servers read = tb_read_servers(text, n, out, 63);
+    expect_number("no room for a record", read.code, 19);
+    read = tb_read_servers(text, n - 1, out, 64);
+    expect_number("a list cut short", read.code, 24);
+    read = tb_read_servers((const uint8_t *)"{\"servers\":[]}", 14, out, 64);
+    expect_number("a list of nobody", read.code, 25);
+    expect_number("a list of nobody", read.records + read.passed_over, 0);
+    expect_all("out after refusals", out, 0xee, sizeof out);
+    read = tb_read_servers(text, n, out, 64);
+    expect_number("a list", read.code, 0);
+    expect_number("records of a list", read.records, 1);
+    expect_number("servers that are passed over", read.passed_over, 1);
+    expect_bytes("the key of a record", out, key, 32);
+    expect_bytes("the SRV value of a record", out + 32, srv, 32);
+    expect_listed_parts(text, n);
+
+    const uint8_t *lines = (const uint8_t *)"udp a:1\n", *name = (const uint8_t *)"a\"";
+    static const char due[] =
+        "{\"name\":\"a\\\"\",\"version\":1,\"publicKeyType\":\"ed25519\",\"publicKey\":"
+        "\"AQEBAQEBAQEBAQEBAQEBAQEBAQEBAQEBAQEBAQEBAQE=\",\"addresses\":[{\"protocol\":\"udp\","
+        "\"address\":\"a:1\"}]}";
+    memset(out, 0xee, sizeof out);
+    expect_part("half a line", tb_write_server(name, 2, 1, key, lines, 7, out, 512), 24, "", out);
+    expect_part("a server", tb_write_server(name, 2, 1, key, lines, 8, out, 512), 0, due, out);
+    uint32_t version = 1, two = 2, eight = 8;
+    memset(out, 0xee, sizeof out);
+    struct tb_wrote wrote = tb_write_servers(key, 31, &version, 1, name, 2, &two, 1, lines, 8,
+                                             &eight, 1, lines, 0, lines, 0, out, 512);
+    expect_part("keys that are not whole", wrote, 21, "", out);
+    wrote = tb_write_servers(key, 32, &version, 1, name, 2, &two, 1, lines, 8, &eight, 1, lines, 0,
+                             lines, 0, out, 512);
+    expect_number("a list that is written", wrote.code, 0);
+    expect_number("the length of a list", wrote.length, sizeof due - 1 + 14);
+    expect_bytes("the start of a list", out, (const uint8_t *)"{\"servers\":[", 12);
+    expect_bytes("the server of a list", out + 12, (const uint8_t *)due, sizeof due - 1);
+    expect_number("a list is read back", tb_read_servers(out, wrote.length, out + 448, 64).records,
+                  1);
+}
+
 /* SREP, DELE and CERT of the draft's response, out of their values, and with a byte of room too
  * little. */
 static void expect_server_parts(const uint8_t *packet) {
@@ -1562,9 +1645,12 @@ static void expect_all_words(void) {
                      "record, each 1 or 0");
     expect_words(TB_UNKNOWN_SERVER, "no list has the server");
     expect_words(23, "the response would be longer than the request that it answers");
-    expect_words(TB_REPORT_TEXT, "the text is no report: not JSON, too deep, bad base64, or a member "
-                                 "missing, repeated or wrong");
-    expect_words(25, "the text has no entry, over 16 entries, or a packet above 2,000 bytes");
+    expect_words(TB_REPORT_TEXT, "the text is no report and no server list: not JSON, too deep, or "
+                                 "a member missing, repeated or wrong");
+    expect_words(25, "the text has no entry, too many, or one with a packet above 2,000 bytes or "
+                     "over 8 addresses");
+    expect_words(TB_LIST_PLACE, "the list has no such server, address, source or place for "
+                                "reports");
     expect_words(1000, "no such code");
     expect_words(29, "an old stamp's date is under 40587, or its microseconds are "
                      "86,401,000,000 or more");
@@ -2201,6 +2287,7 @@ int main(void) {
     expect_tally();
     expect_walks();
     expect_clocks();
+    expect_lists();
     expect_server_parts(packet);
     expect_server(packet);
     expect_all_words();

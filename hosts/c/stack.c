@@ -240,6 +240,57 @@ static void hear_all(void) {
         tb_clock_take(&clock_of_all, i / 2, 1000, 1005 + i, UINT64_MAX, i / 2, i / 2);
 }
 
+/* A list of 64 servers with eight addresses each, a source and a place for reports, as it is written
+ * here; its text and records. */
+static const char ADDRESS[] = "udp [2001:db8::192.0.2.1]:65535\n", URL[] = "https://a.example/\n";
+static uint8_t list_keys[32 * TB_LISTED_SERVERS], list_names[TB_LISTED_SERVERS];
+static uint8_t list_lines[TB_LISTED_SERVERS * TB_LISTED_ADDRESSES * (sizeof ADDRESS - 1)];
+static uint32_t list_versions[TB_LISTED_SERVERS], name_lengths[TB_LISTED_SERVERS];
+static uint32_t line_lengths[TB_LISTED_SERVERS];
+static uint8_t list[131072], list_part[4096];
+static size_t list_length;
+static void call_write_servers(void) {
+    struct tb_wrote wrote =
+        tb_write_servers(list_keys, sizeof list_keys, list_versions, TB_LISTED_SERVERS, list_names,
+                         sizeof list_names, name_lengths, TB_LISTED_SERVERS, list_lines,
+                         sizeof list_lines, line_lengths, TB_LISTED_SERVERS, (const uint8_t *)URL,
+                         sizeof URL - 1, (const uint8_t *)URL, sizeof URL - 2, list, sizeof list);
+    code = wrote.code;
+    list_length = (size_t)wrote.length;
+}
+static void lay_list(void) {
+    for (size_t i = 0; i < TB_LISTED_SERVERS; i++) {
+        list_versions[i] = 1;
+        list_names[i] = 'a';
+        name_lengths[i] = 1;
+        line_lengths[i] = TB_LISTED_ADDRESSES * (sizeof ADDRESS - 1);
+        for (size_t j = 0; j < TB_LISTED_ADDRESSES; j++)
+            memcpy(list_lines + (i * TB_LISTED_ADDRESSES + j) * (sizeof ADDRESS - 1), ADDRESS,
+                   sizeof ADDRESS - 1);
+    }
+    call_write_servers();
+}
+static void call_read_servers(void) {
+    code = tb_read_servers(list, list_length, list_part, sizeof list_part).code;
+}
+static void call_server_name(void) {
+    code = tb_server_name(list, list_length, 63, list_part, sizeof list_part).code;
+}
+static void call_server_address(void) {
+    code = tb_server_address(list, list_length, 63, 7, list_part, sizeof list_part).code;
+}
+static void call_list_source(void) {
+    code = tb_list_source(list, list_length, 0, list_part, sizeof list_part).code;
+}
+static void call_list_reports(void) {
+    code = tb_list_reports(list, list_length, list_part, sizeof list_part).code;
+}
+static void call_write_server(void) {
+    code = tb_write_server(list_names, 1, 1, list_keys, list_lines, line_lengths[0], list_part,
+                           sizeof list_part)
+               .code;
+}
+
 static const struct operation {
     const char *name;
     void (*call)(void);
@@ -292,7 +343,14 @@ static const struct operation OTHERS[] = {{"tb_sha512", call_sha512},
                                           {"tb_walk_take", call_walk_take},
                                           {"tb_clock_now", call_clock_now},
                                           {"tb_clock_take", call_clock_take},
-                                          {"tb_clock_start", call_clock_start}};
+                                          {"tb_clock_start", call_clock_start},
+                                          {"tb_read_servers", call_read_servers},
+                                          {"tb_server_name", call_server_name},
+                                          {"tb_server_address", call_server_address},
+                                          {"tb_list_source", call_list_source},
+                                          {"tb_list_reports", call_list_reports},
+                                          {"tb_write_server", call_write_server},
+                                          {"tb_write_servers", call_write_servers}};
 
 static const struct operation LAST = {"tb_walk_take, the last", call_walk_take};
 
@@ -400,6 +458,7 @@ int main(void) {
     call_walk_start();
     walk_on(0);
     hear_all();
+    lay_list();
 
     size_t most = most_of_trees(stack, before);
     const char *header = "the header says";

@@ -10,8 +10,8 @@ pub enum Value {
     Null,
     /// `true` or `false`.
     Bool(bool),
-    /// A number. Nobody here asks for which.
-    Number,
+    /// A number, as it is written.
+    Number(Vec<u8>),
     /// A string, without its quotes and escapes, in UTF-8. An escaped surrogate that has no partner
     /// is JSON by the grammar; it stands here as the three bytes that UTF-8 would give its number.
     Text(Vec<u8>),
@@ -214,6 +214,7 @@ impl<'a> Reader<'a> {
 
     /// Section 6.
     fn number(&mut self) -> Result<Value, Fault> {
+        let start = self.at;
         self.pass(b"-");
         if !self.pass(b"0") && self.digits() == 0 {
             return Err(Fault::Number);
@@ -231,7 +232,7 @@ impl<'a> Reader<'a> {
         if self.pass(b"0123456789.eE+-") {
             return Err(Fault::Number);
         }
-        Ok(Value::Number)
+        Ok(Value::Number(self.text[start..self.at].to_vec()))
     }
 
     /// Section 7, from the quote on.
@@ -317,6 +318,10 @@ mod tests {
         Value::Text(text.as_bytes().to_vec())
     }
 
+    fn number(text: &str) -> Value {
+        Value::Number(text.as_bytes().to_vec())
+    }
+
     #[test]
     fn values_of_every_kind() {
         for (json, value) in [
@@ -328,20 +333,20 @@ mod tests {
             (r#""\"\\\/\b\f\n\r\t""#, text("\"\\/\x08\x0c\n\r\t")),
             (r#""\u0041\u00E9\u20ac\uD83D\ude00""#, text("A\u{e9}\u{20ac}\u{1f600}")),
             ("[]", Value::List(vec![])),
-            ("[ 1 , [ ] ]", Value::List(vec![Value::Number, Value::List(vec![])])),
+            ("[ 1 , [ ] ]", Value::List(vec![number("1"), Value::List(vec![])])),
             ("{ }", Value::Object(vec![])),
             (
                 r#"{"a" : 1,"a":{"":null}}"#,
                 Value::Object(vec![
-                    (b"a".to_vec(), Value::Number),
+                    (b"a".to_vec(), number("1")),
                     (b"a".to_vec(), Value::Object(vec![(vec![], Value::Null)])),
                 ]),
             ),
         ] {
             assert_eq!(read(json.as_bytes(), 16), Ok(value), "{json}");
         }
-        for number in ["0", "-0", "10", "-1.50", "0.0", "1e5", "1E+5", "2.25e-10", "0e0"] {
-            assert_eq!(read(number.as_bytes(), 16), Ok(Value::Number), "{number}");
+        for text in ["0", "-0", "10", "-1.50", "0.0", "1e5", "1E+5", "2.25e-10", "0e0"] {
+            assert_eq!(read(text.as_bytes(), 16), Ok(number(text)), "{text}");
         }
     }
 
@@ -384,7 +389,7 @@ mod tests {
     #[test]
     fn the_outermost_counts_for_the_depth() {
         let nested = |depth: usize| "[".repeat(depth) + "0" + &"]".repeat(depth);
-        assert_eq!(read(b"0", 0), Ok(Value::Number));
+        assert_eq!(read(b"0", 0), Ok(number("0")));
         for depth in 1..20 {
             let deep = read(nested(depth).as_bytes(), 16);
             assert_eq!(deep.is_ok(), depth <= 16, "{depth}");

@@ -2,7 +2,7 @@
 //! of them would take a time that grows with the square of their length.
 
 /// A text of about this many bytes: one piece many times between two others.
-fn repeated(before: &str, piece: &str, after: &str, length: usize) -> Vec<u8> {
+pub(crate) fn repeated(before: &str, piece: &str, after: &str, length: usize) -> Vec<u8> {
     let times = length.saturating_sub(before.len() + after.len()) / piece.len();
     [before, &piece.repeat(times), after].concat().into_bytes()
 }

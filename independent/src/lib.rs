@@ -12,15 +12,16 @@
 //! It has SHA-512, the hashes that Roughtime makes of it and the Merkle tree, a reader of packets,
 //! requests and responses, the check of a response, the writer of a request, the texts that are
 //! signed, the writer of a response with its delegation and of the answers to a whole batch, the
-//! lookup of a server, piles of responses and the reports that are made of them, also as JSON, the
-//! measuring walk, the clock that tells the time though servers lie, the timestamps of an old
-//! draft, and Ed25519, by which responses and piles are judged with no answers beside them. Beside
-//! all this stands what it is tried with: what makes piles and signatures, courses of time, and a
-//! server that answers batches.
+//! lookup of a server, lists of servers as JSON, read and written, piles of responses and the
+//! reports that are made of them, also as JSON, the measuring walk, the clock that tells the time
+//! though servers lie, the timestamps of an old draft, and Ed25519, by which responses and piles
+//! are judged with no answers beside them. Beside all this stands what it is tried with: what makes
+//! piles and signatures, courses of time, and a server that answers batches.
 
 #![forbid(unsafe_code)]
 #![warn(missing_docs)]
 
+pub mod address;
 pub mod appendix;
 pub mod base64;
 pub mod batch;
@@ -33,6 +34,9 @@ pub mod halves;
 pub mod hash;
 pub mod json;
 pub mod lengthy;
+pub mod lengthy_lists;
+pub mod list_text;
+pub mod list_writing;
 pub mod making;
 pub mod message;
 pub mod number;

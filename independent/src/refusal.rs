@@ -56,9 +56,11 @@ pub enum Refusal {
     /// A response would be longer than the request that it answers.
     ResponseLength = 23,
     /// A text is not JSON, nests too deep, or is no report: bad base64, a key or a rand that is not
-    /// 32 bytes, or a member that is missing, repeated or of the wrong kind.
+    /// 32 bytes, or a member that is missing, repeated or of the wrong kind. Or it is no list of
+    /// servers.
     ReportText = 24,
-    /// A report as JSON has no entry or more than 16, or a packet of more than 2,000 bytes.
+    /// A report as JSON has no entry or more than 16, or a packet of more than 2,000 bytes; a list of
+    /// servers has none or more than 64, or one with more than 8 addresses.
     ReportSize = 25,
     /// A response to a walk was received before its request was sent, or that was sent before the
     /// last response was received.
@@ -80,6 +82,8 @@ pub enum Refusal {
     NoAgreement = 34,
     /// The key that a batch is to be signed with is not the one that CERT delegates to.
     OtherKey = 35,
+    /// A list of servers has no such server, address or source, or does not say where reports go.
+    ListPlace = 36,
 }
 
 impl Refusal {

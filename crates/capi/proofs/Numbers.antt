@@ -11,6 +11,18 @@ use Rattle.report_read.specs.declared.Read.the-variants as read
 use Rattle.server_batch.specs.Answering.{batchNumber}
 use Rattle.server_batch.specs.declared.BatchAnswer.{BatchAnswer}
 use Rattle.server_batch.specs.declared.BatchAnswer.the-variants as batch-answer
+use Rattle.list_read.specs.Read.{serversNumber}
+use Rattle.list_read.specs.declared.Servers.{Servers}
+use Rattle.list_read.specs.declared.Servers.the-variants as servers
+use Rattle.list_parts.specs.Parts.{partNumber, addressedNumber}
+use Rattle.list_parts.specs.declared.Part.{Part}
+use Rattle.list_parts.specs.declared.Part.the-variants as part
+use Rattle.list_parts.specs.declared.Addressed.{Addressed}
+use Rattle.list_parts.specs.declared.Addressed.the-variants as addressed
+use Rattle.list_write.specs.Answers.{listingNumber}
+use Rattle.list_write.specs.declared.Listing.{Listing}
+use Rattle.list_write.specs.declared.Listing.the-variants as listing
+use Rattle.c_lists.specs.Listing.{tbServers, tbPart, tbAddressed, tbListing}
 use Rattle.c_packets.specs.Batching.{tbBatch}
 use Rattle.c_packets.specs.Building.{tbPlaced, tbLaid}
 use Rattle.c_evidence.specs.Publishing.{tbRecords}
@@ -31,3 +43,20 @@ read-code (read.Refused why) = refl
 pub batch-code : (a : BatchAnswer) → tbBatch a .code ≡ batchNumber a
 batch-code (batch-answer.Answered n) = refl
 batch-code (batch-answer.Refused why) = refl
+
+pub servers-code : (a : Servers) → tbServers a .code ≡ serversNumber a
+servers-code (servers.Records n m) = refl
+servers-code (servers.Refused why) = refl
+
+pub part-code : (a : Part) → tbPart a .code ≡ partNumber a
+part-code (part.Octets n) = refl
+part-code (part.Refused why) = refl
+
+pub addressed-code : (a : Addressed) → tbAddressed a .code ≡ addressedNumber a
+addressed-code (addressed.Udp n) = refl
+addressed-code (addressed.Tcp n) = refl
+addressed-code (addressed.Refused why) = refl
+
+pub listing-code : (a : Listing) → tbListing a .code ≡ listingNumber a
+listing-code (listing.Text n) = refl
+listing-code (listing.Refused why) = refl

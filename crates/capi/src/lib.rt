@@ -8,6 +8,7 @@ mod clocking;
 mod finding;
 mod hashing;
 mod judging;
+mod listing;
 mod pieces;
 mod piling;
 mod publishing;

@@ -95,6 +95,13 @@ impl Batch {
         slot.try_into().ok()
     }
 
+    /// The slots that are left, of [`SLOT`] bytes each, one after the other: for a call of the system
+    /// that receives many packets at once. They count as [`received`](Batch::received) is told the
+    /// length of each, in their order.
+    pub fn slots(&mut self) -> &mut [u8] {
+        &mut self.packets[SLOT * self.lengths.len()..]
+    }
+
     /// Counts the packet of so many bytes that stands in the last slot that was asked for. One that
     /// is longer than its slot gets no answer. Where [`MOST_LEAVES`] wait nothing happens.
     pub fn received(&mut self, length: usize) {

@@ -2,12 +2,13 @@
 //!
 //! Each function here calls the function of the proved library that has the same name after `tb_`,
 //! and adds nothing to it; [`cut`], [`cut_signed`], [`Record`], [`Pile`] and [`SignedPile`] only
-//! lay out bytes beside such calls, and [`Sha512`], [`Tally`], [`Clock`] and [`Walk`] hold the state
-//! between those that end in `_fields` or `_field`, the last with its pile; [`SigningKey`] holds a
-//! seed for those that sign, and overwrites it in the end; [`Batch`] holds packets and the answers
-//! to them. The module `picture` draws what such calls say of a pile. The proofs speak of the
-//! library's own code; that these few lines declare and call it rightly is shown by the tests alone,
-//! which compare every function with an implementation that shares no code with the library.
+//! lay out bytes beside such calls, and [`Sha512`], [`Tally`], [`Clock`] and [`Walk`] hold the
+//! state between those that end in `_fields` or `_field`, the last with its pile; [`SigningKey`]
+//! holds a seed for those that sign, and overwrites it in the end; [`Batch`] holds packets and the
+//! answers to them, and [`ServerList`] what a published list of servers says. The module `picture`
+//! draws what such calls say of a pile. The proofs speak of the library's own code; that these few
+//! lines declare and call it rightly is shown by the tests alone, which compare every function
+//! with an implementation that shares no code with the library.
 //!
 //! H, below, is Roughtime's hash: the first 32 bytes of SHA-512. The example `time` goes from the
 //! request to the window by [`check_signed`], and takes a file for what the server answered; the
@@ -53,6 +54,8 @@ mod clock;
 mod cutting;
 #[cfg(feature = "alloc")]
 mod gathering;
+#[cfg(feature = "alloc")]
+mod listing;
 mod packets;
 #[cfg(feature = "std")]
 pub mod picture;
@@ -62,6 +65,7 @@ pub mod raw;
 mod record;
 mod refusal;
 mod reports;
+mod server_lists;
 mod servers;
 mod serving;
 mod signed;
@@ -82,6 +86,8 @@ pub use clock::{Clock, Servers, Time, CLOCK_SERVERS};
 pub use cutting::{cut, cut_signed, Cut};
 #[cfg(feature = "alloc")]
 pub use gathering::{Pile, SignedPile};
+#[cfg(feature = "alloc")]
+pub use listing::{Address, ListedServer, ServerList};
 pub use packets::{
     read_request, read_response, write_request, Request, Response, LONGEST_PACKET, REQUEST_LENGTH,
 };
@@ -95,6 +101,11 @@ pub use refusal::{PacketRefusal, Refusal};
 pub use reports::{
     cut_signed_text, cut_text, read_report, write_report, write_signed_report, CutText,
     LONGEST_REPORT,
+};
+pub use server_lists::{
+    list_reports, list_source, read_servers, server_address, server_name, write_server,
+    write_servers, Addressed, ListParts, Protocol, ReadServers, ServerEntry, LISTED_ADDRESSES,
+    LISTED_SERVERS,
 };
 pub use servers::{find_server, Found, List, SERVER_LENGTH};
 pub use serving::{

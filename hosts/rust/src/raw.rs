@@ -222,6 +222,30 @@ pub struct tb_found {
     pub offset: u64,
 }
 
+/// What [`tb_read_servers`] answers.
+#[repr(C)]
+#[derive(Clone, Copy, Debug, PartialEq, Eq)]
+pub struct tb_servers {
+    /// 0, or a refusal; then all else is 0.
+    pub code: u32,
+    /// How many records were written.
+    pub records: u64,
+    /// How many servers were passed over.
+    pub passed_over: u64,
+}
+
+/// What [`tb_server_address`] answers.
+#[repr(C)]
+#[derive(Clone, Copy, Debug, PartialEq, Eq)]
+pub struct tb_addressed {
+    /// 0, or a refusal; then all else is 0.
+    pub code: u32,
+    /// 1 where the address is one of TCP, 0 where it is one of UDP.
+    pub tcp: u32,
+    /// How many bytes were written.
+    pub length: u64,
+}
+
 /// What [`tb_judge`] and [`tb_judge_signed`] answer.
 #[repr(C)]
 #[derive(Clone, Copy, Debug, PartialEq, Eq)]
@@ -628,6 +652,78 @@ extern "C" {
         shipped_len: usize,
         srv: &[u8; 32],
     ) -> tb_found;
+
+    /// Reads a list of servers as JSON into records.
+    pub fn tb_read_servers(
+        text: *const u8,
+        text_len: usize,
+        out: *mut u8,
+        out_len: usize,
+    ) -> tb_servers;
+    /// Writes the name of a server of such a list.
+    pub fn tb_server_name(
+        text: *const u8,
+        text_len: usize,
+        place: usize,
+        out: *mut u8,
+        out_len: usize,
+    ) -> tb_wrote;
+    /// Writes an address of such a server.
+    pub fn tb_server_address(
+        text: *const u8,
+        text_len: usize,
+        place: usize,
+        which: usize,
+        out: *mut u8,
+        out_len: usize,
+    ) -> tb_addressed;
+    /// Writes one of the places where newer lists are.
+    pub fn tb_list_source(
+        text: *const u8,
+        text_len: usize,
+        place: usize,
+        out: *mut u8,
+        out_len: usize,
+    ) -> tb_wrote;
+    /// Writes where reports are sent to.
+    pub fn tb_list_reports(
+        text: *const u8,
+        text_len: usize,
+        out: *mut u8,
+        out_len: usize,
+    ) -> tb_wrote;
+    /// Writes the object of one server of a list as JSON.
+    pub fn tb_write_server(
+        name: *const u8,
+        name_len: usize,
+        version: u32,
+        key: &[u8; 32],
+        addresses: *const u8,
+        addresses_len: usize,
+        out: *mut u8,
+        out_len: usize,
+    ) -> tb_wrote;
+    /// Writes a list of servers as JSON.
+    pub fn tb_write_servers(
+        keys: *const u8,
+        keys_len: usize,
+        versions: *const u32,
+        versions_len: usize,
+        names: *const u8,
+        names_len: usize,
+        name_lengths: *const u32,
+        name_lengths_len: usize,
+        addresses: *const u8,
+        addresses_len: usize,
+        address_lengths: *const u32,
+        address_lengths_len: usize,
+        sources: *const u8,
+        sources_len: usize,
+        reports: *const u8,
+        reports_len: usize,
+        out: *mut u8,
+        out_len: usize,
+    ) -> tb_wrote;
 
     /// Code 15 of a pile and its answers, or 0.
     pub fn tb_pile_code(

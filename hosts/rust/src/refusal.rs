@@ -58,10 +58,10 @@ pub enum Refusal {
     UnknownServer,
     /// the response would be longer than the request that it answers
     ResponseLength,
-    /// the text is no report: not JSON, too deep, bad base64, or a member missing, repeated or
-    /// wrong
+    /// the text is no report and no server list: not JSON, too deep, or a member missing, repeated
+    /// or wrong
     ReportText,
-    /// the text has no entry, over 16 entries, or a packet above 2,000 bytes
+    /// the text has no entry, too many, or one with a packet above 2,000 bytes or over 8 addresses
     Entries,
     /// a response was received before it was sent for, or a moment is before the last receipt
     Clock,
@@ -83,6 +83,8 @@ pub enum Refusal {
     NoAgreement,
     /// the seed's public key is not the PUBK of CERT
     OtherKey,
+    /// the list has no such server, address, source or place for reports
+    ListPlace,
 }
 
 impl Refusal {
@@ -125,6 +127,7 @@ impl Refusal {
             Refusal::TooFew => 33,
             Refusal::NoAgreement => 34,
             Refusal::OtherKey => 35,
+            Refusal::ListPlace => 36,
         }
     }
 
@@ -173,11 +176,12 @@ impl Refusal {
                 "the response would be longer than the request that it answers"
             }
             Refusal::ReportText => {
-                "the text is no report: not JSON, too deep, bad base64, or a member missing, \
-                 repeated or wrong"
+                "the text is no report and no server list: not JSON, too deep, or a member \
+                 missing, repeated or wrong"
             }
             Refusal::Entries => {
-                "the text has no entry, over 16 entries, or a packet above 2,000 bytes"
+                "the text has no entry, too many, or one with a packet above 2,000 bytes or over 8 \
+                 addresses"
             }
             Refusal::Clock => {
                 "a response was received before it was sent for, or a moment is before the last \
@@ -198,6 +202,9 @@ impl Refusal {
             Refusal::TooFew => "no more servers are counted than may lie",
             Refusal::NoAgreement => "no time lies in the windows of enough servers",
             Refusal::OtherKey => "the seed's public key is not the PUBK of CERT",
+            Refusal::ListPlace => {
+                "the list has no such server, address, source or place for reports"
+            }
         }
     }
 
@@ -240,6 +247,7 @@ impl Refusal {
             33 => Refusal::TooFew,
             34 => Refusal::NoAgreement,
             35 => Refusal::OtherKey,
+            36 => Refusal::ListPlace,
             _ => return None,
         })
     }

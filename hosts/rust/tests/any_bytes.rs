@@ -21,6 +21,8 @@ mod any_exports;
 mod any_hashes;
 #[path = "support/any_header.rs"]
 mod any_header;
+#[path = "support/any_lists.rs"]
+mod any_lists;
 #[path = "support/any_make.rs"]
 mod any_make;
 #[path = "support/any_packets.rs"]

@@ -403,7 +403,8 @@ fn wrong_arguments_are_told() {
     let cut = "usage: trawl --cut FILE [ANSWERS] [--servers LIST] [--json] [--out OUT [--force]]";
     let make = "usage: trawl --make KEY RAND REQUEST RESPONSE ... [--out OUT [--force]]";
     let look_up = "usage: trawl --look-up KEY LIST [SHIPPED-LIST]";
-    let wrong: [(&[&str], &str, &str); 24] = [
+    let list = "usage: trawl --list LIST";
+    let wrong: [(&[&str], &str, &str); 26] = [
         (&["a", "b", "c"], "trawl takes a pile and its answers at the most, and 3 words are given", plain),
         (&["--judge"], "--judge takes a file, and its answers if need be, and 0 words are given", judge),
         (&["--dates"], "--judge takes a file, and its answers if need be, and 0 words are given", judge),
@@ -428,6 +429,8 @@ fn wrong_arguments_are_told() {
         (&["--make"], "--make takes a key, a rand, a request and a response for each record, and 0 words are given", make),
         (&["--look-up", "a"], "--look-up takes a key, and one list or two, and 1 word is given", look_up),
         (&["--look-up", "a", "b", "--json"], "--json goes with --judge and --cut", look_up),
+        (&["--list"], "--list takes a list of servers, and 0 words are given", list),
+        (&["--list", "a", "--servers", "b"], "--servers goes with --judge, --cut and --draw", list),
     ];
     for (words, said, usage) in wrong {
         let ran = room.run(words);

@@ -4,8 +4,9 @@
 use std::ops::Range;
 use trawlbeacon::raw;
 
-/// Bytes of a record of a pile, and of the request that is written.
+/// Bytes of a record of a pile, of one of a list of servers, and of the request that is written.
 pub const RECORD: usize = 4096;
+const SERVER: usize = 64;
 pub const REQUEST: usize = 1036;
 
 #[derive(Clone, Debug, PartialEq, Eq)]
@@ -125,6 +126,22 @@ impl From<raw::tb_laid> for Answer {
 impl From<raw::tb_found> for Answer {
     fn from(told: raw::tb_found) -> Self {
         Answer::code(told.code).numbers(&[told.list.into(), told.offset])
+    }
+}
+
+impl From<raw::tb_servers> for Answer {
+    fn from(told: raw::tb_servers) -> Self {
+        let raw::tb_servers { code, records, passed_over } = told;
+        Answer::code(code)
+            .numbers(&[records, passed_over])
+            .wrote(0..SERVER * records.min(64) as usize)
+    }
+}
+
+impl From<raw::tb_addressed> for Answer {
+    fn from(told: raw::tb_addressed) -> Self {
+        let raw::tb_addressed { code, tcp, length } = told;
+        Answer::code(code).numbers(&[tcp.into(), length]).wrote(0..length as usize)
     }
 }
 

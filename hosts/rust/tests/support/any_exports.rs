@@ -5,7 +5,7 @@
 //! to this call alone, of as many bytes as the length or the array beside it says.
 
 use crate::any_trial::Trial;
-use crate::{any_batches, any_clocks, any_hashes, any_header, any_packets, any_piles};
+use crate::{any_batches, any_clocks, any_hashes, any_header, any_lists, any_packets, any_piles};
 use crate::{any_servers, any_signing, any_texts, any_walks};
 use std::collections::BTreeSet;
 
@@ -74,6 +74,7 @@ pub fn all() -> impl Iterator<Item = &'static Export> {
         any_packets::EXPORTS,
         any_signing::EXPORTS,
         any_servers::EXPORTS,
+        any_lists::EXPORTS,
         any_batches::EXPORTS,
         any_piles::EXPORTS,
         any_texts::EXPORTS,

@@ -261,6 +261,12 @@ impl<'a> Maker<'a> {
         self.near(&texts[one], &texts[another])
     }
 
+    pub fn list(&mut self) -> Vec<u8> {
+        let lists = &self.real.lists;
+        let [one, another] = [0; 2].map(|_| self.random.below(lists.len()));
+        self.mostly(&lists[one], &lists[another])
+    }
+
     /// Nodes of a tree: few, but now and then as many as there may be and one more.
     pub fn nodes(&mut self) -> Vec<u8> {
         let few = self.random.below(9);

@@ -5,7 +5,7 @@
 use crate::support::published::entries_of;
 use crate::support::signed::{self, DAMAGES};
 use crate::support::texts::{Tree, WRONG_SIZE, WRONG_TEXT};
-use crate::support::{json_values::Style, Xorshift};
+use crate::support::{json_values::Style, list_trees, Xorshift};
 use independent::ed25519::Ed25519;
 use independent::making::Link;
 use independent::pile::RECORD;
@@ -30,6 +30,8 @@ pub struct Real {
     pub signatures: Vec<signed::Case>,
     /// The records of a list of servers.
     pub servers: Vec<u8>,
+    /// Lists of servers as JSON.
+    pub lists: Vec<Vec<u8>>,
 }
 
 /// A time that is well after 1970, and a day.
@@ -101,6 +103,22 @@ fn texts(random: &mut Xorshift, piles: &[Vec<u8>]) -> Vec<Vec<u8>> {
     texts
 }
 
+/// Lists of servers, right and wrong. They are made by random numbers of their own, so that all else
+/// stays as it is where they change.
+fn lists() -> Vec<Vec<u8>> {
+    let random = &mut Xorshift::new(0x5eed_0804);
+    let wrongs = list_trees::WRONG_SIZE.iter().cycle().take(18).chain(&list_trees::WRONG_TEXT);
+    let mut lists = Vec::new();
+    for wrong in wrongs.map(Some).chain([None; 60]) {
+        let mut tree = list_trees::Tree::rich(random);
+        wrong.into_iter().for_each(|wrong| tree.spoil(random, *wrong));
+        let style = Style::random(random);
+        lists.push(tree.text(random, style).bytes);
+    }
+    lists.retain(|list| list.len() <= 30_000);
+    lists
+}
+
 /// Signatures that verify, and each damage to one.
 fn signatures(random: &mut Xorshift) -> Vec<signed::Case> {
     let maker = signed::Maker::new(random, 3);
@@ -137,7 +155,8 @@ impl Real {
             [key, hash::srv_value(&key)].concat()
         };
         let servers = keys.iter().flat_map(record).collect();
-        Real { exchanges, piles, walks, texts, signatures: signatures(random), servers }
+        let signatures = signatures(random);
+        Real { exchanges, piles, walks, texts, signatures, servers, lists: lists() }
     }
 }
 

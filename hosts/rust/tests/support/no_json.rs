@@ -46,7 +46,13 @@ pub fn no_json(random: &mut Xorshift, mut tree: Tree, fault: NoJson) -> Text {
         tree.strew(random, node, fault == NoJson::Name);
     }
     let bytes = written(random, style, &tree.node());
-    let bytes = match fault {
+    Text { bytes: broken(random, fault, bytes), due: Due::Code(24) }
+}
+
+/// The bytes of a text with a fault in them; where it is one of a value or a name, that stands there
+/// already.
+pub fn broken(random: &mut Xorshift, fault: NoJson, bytes: Vec<u8>) -> Vec<u8> {
+    match fault {
         NoJson::ByteOrderMark => [b"\xef\xbb\xbf", &bytes[..]].concat(),
         NoJson::Nothing => (0..random.pick(&[0, 1, 20])).map(|_| random.pick(b" \t\n\r")).collect(),
         NoJson::Cut => {
@@ -66,12 +72,11 @@ pub fn no_json(random: &mut Xorshift, mut tree: Tree, fault: NoJson) -> Text {
         }
         NoJson::Separator => wrong_separator(random, bytes),
         _ => bytes,
-    };
-    Text { bytes, due: Due::Code(24) }
+    }
 }
 
 /// What stands where a value or a name should.
-fn no_value(random: &mut Xorshift, fault: NoJson) -> Option<Node> {
+pub fn no_value(random: &mut Xorshift, fault: NoJson) -> Option<Node> {
     let within = |random: &mut Xorshift, bytes: &[u8]| {
         let (before, after) =
             (random.pick(&["", "a", "\u{e9}", "AAAA"]), random.pick(&["", "b", "="]));
@@ -138,7 +143,12 @@ fn separators(bytes: &[u8]) -> Vec<usize> {
 
 /// A text of a good report with a byte changed, added or left out, or some of them moved. What
 /// comes of it is for the two sides to say.
-pub fn damaged(random: &mut Xorshift, mut bytes: Vec<u8>) -> Text {
+pub fn damaged(random: &mut Xorshift, bytes: Vec<u8>) -> Text {
+    Text { bytes: altered(random, bytes), due: Due::Unknown }
+}
+
+/// The same of any text.
+pub fn altered(random: &mut Xorshift, mut bytes: Vec<u8>) -> Vec<u8> {
     const USUAL: &[u8] = b"{}[]:,\"\\ \n\t019-+.eEtfnu/=AZaz\0\x1f\x7f\x80\xc3\xed\xef\xff";
     for _ in 0..random.pick(&[1, 1, 1, 2, 4]) {
         let (at, other) = (random.below(bytes.len()), random.below(bytes.len()));
@@ -153,7 +163,7 @@ pub fn damaged(random: &mut Xorshift, mut bytes: Vec<u8>) -> Text {
             _ => bytes[at] ^= 1 << random.below(8),
         }
     }
-    Text { bytes, due: Due::Unknown }
+    bytes
 }
 
 /// Bytes that nobody meant anything by, or pieces of JSON in any order.
@@ -199,7 +209,7 @@ pub fn noise(random: &mut Xorshift) -> Text {
 }
 
 /// Objects or arrays within each other and nothing else, up to more than Python reads.
-fn nested(random: &mut Xorshift) -> Vec<u8> {
+pub fn nested(random: &mut Xorshift) -> Vec<u8> {
     let depth = random.pick(&[1, 15, 16, 17, 18, 400, 2_000]);
     let (open, close) = random.pick(&[("[", "]"), ("{\"a\":", "}"), ("[0,{\"responses\":", "}]")]);
     (open.repeat(depth) + "0" + &close.repeat(depth)).into_bytes()

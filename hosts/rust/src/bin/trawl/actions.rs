@@ -12,18 +12,20 @@ pub enum Action {
     Draw,
     Make,
     LookUp,
+    List,
     Help,
     Version,
 }
 
 /// The actions, by the words that ask for them.
-const ACTIONS: [(&str, Action); 8] = [
+const ACTIONS: [(&str, Action); 9] = [
     ("files alone", Action::Plain),
     ("--judge", Action::Judge),
     ("--cut", Action::Cut),
     ("--draw", Action::Draw),
     ("--make", Action::Make),
     ("--look-up", Action::LookUp),
+    ("--list", Action::List),
     ("--help", Action::Help),
     ("--version", Action::Version),
 ];
@@ -58,6 +60,7 @@ impl Action {
             Action::Judge | Action::Cut | Action::Draw => words == 1 || words == 2,
             Action::Make => words > 0 && words % 4 == 0,
             Action::LookUp => words == 2 || words == 3,
+            Action::List => words == 1,
             Action::Help | Action::Version => true,
         }
     }
@@ -69,6 +72,7 @@ impl Action {
             Action::Judge | Action::Cut | Action::Draw => "a file, and its answers if need be",
             Action::Make => "a key, a rand, a request and a response for each record",
             Action::LookUp => "a key, and one list or two",
+            Action::List => "a list of servers",
             Action::Help | Action::Version => "anything",
         }
     }

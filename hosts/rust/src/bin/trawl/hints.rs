@@ -4,6 +4,7 @@ use crate::evidence::is_text;
 use crate::names;
 use crate::status::reason;
 use crate::why;
+use crate::why_list;
 use std::fs::{self, File};
 use std::path::Path;
 use trawlbeacon::{MOST_RECORDS, RECORD_LENGTH, SERVER_LENGTH};
@@ -35,6 +36,12 @@ pub fn on_pile_and_answers(pile: Held, answers: Option<Held>) -> Vec<String> {
 /// What is wrong with a text, where it is refused with 24 or 25.
 pub fn on_text((name, text): Held) -> Option<String> {
     why::no_report(text).map(|why| format!("{}: {why}", names::file(name)))
+}
+
+/// What is wrong with a list of servers in JSON, where it is refused with 24 or 25.
+pub fn on_list((name, text): Held) -> Vec<String> {
+    let why = why_list::no_list(text).map(|why| format!("{}: {why}", names::file(name)));
+    why.into_iter().collect()
 }
 
 /// Which lists of servers are not whole, where they are refused with 21.

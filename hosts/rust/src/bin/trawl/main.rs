@@ -13,6 +13,7 @@ mod help;
 mod hints;
 mod judge;
 mod keys;
+mod list;
 mod lists;
 mod look_up;
 mod make;
@@ -25,6 +26,7 @@ mod status;
 #[path = "../../../shared/whole.rs"]
 mod whole;
 mod why;
+mod why_list;
 
 use actions::Action;
 use flags::Flags;
@@ -51,6 +53,7 @@ fn run(flags: Flags) -> Result<Ended, Stop> {
         Action::Cut => cut::run(&flags),
         Action::Make => make::run(&flags),
         Action::LookUp => look_up::run(&flags),
+        Action::List => list::run(&flags),
         Action::Draw => draw::run(&flags),
         Action::Help => output::print(help::HELP.as_bytes()),
         Action::Version => {

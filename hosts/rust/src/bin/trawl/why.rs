@@ -71,7 +71,7 @@ fn report(text: &[u8]) -> Result<(), Why> {
     Ok(())
 }
 
-fn no<T>(what: String) -> Result<T, Why> {
+pub fn no<T>(what: String) -> Result<T, Why> {
     Err(Why::Report(what))
 }
 
@@ -93,7 +93,7 @@ fn entry((place, value): (usize, &Value)) -> Result<[(&'static str, usize); 2], 
 }
 
 /// How many bytes the base64 of a member stands for.
-fn decoded(members: &[(Vec<u32>, Value)], name: &str, whose: &str) -> Result<usize, Why> {
+pub fn decoded(members: &[(Vec<u32>, Value)], name: &str, whose: &str) -> Result<usize, Why> {
     let Value::Text(letters) = the_one(members, name, whose)? else {
         return no(format!("\"{name}\" of {whose} is no string"));
     };
@@ -108,7 +108,7 @@ fn decoded(members: &[(Vec<u32>, Value)], name: &str, whose: &str) -> Result<usi
 }
 
 /// The value of the member of this name, which must be there once.
-fn the_one<'a>(
+pub fn the_one<'a>(
     members: &'a [(Vec<u32>, Value)],
     name: &str,
     whose: &str,
@@ -126,17 +126,19 @@ fn units(text: &str) -> impl Iterator<Item = u32> + '_ {
     text.chars().map(u32::from)
 }
 
-/// A value of JSON, as far as a report asks.
+/// A value of JSON, as far as a report or a list of servers asks.
 #[derive(Debug)]
-enum Value {
+pub enum Value {
     Object(Vec<(Vec<u32>, Value)>),
     List(Vec<Value>),
     /// The letters of a string without its escapes; of a pair of surrogates both.
     Text(Vec<u32>),
+    /// A number, as it is written.
+    Number(String),
     Other,
 }
 
-fn json(text: &[u8]) -> Result<Value, Why> {
+pub fn json(text: &[u8]) -> Result<Value, Why> {
     if is_utf16(text) {
         return Err(Why::Json(0, "it is a text in UTF-16, and JSON is written in UTF-8"));
     }
@@ -267,6 +269,7 @@ impl Reader<'_> {
     }
 
     fn number(&mut self) -> Result<Value, Why> {
+        let start = self.at;
         self.at += usize::from(self.here() == Some(b'-'));
         if self.here() == Some(b'0') {
             self.at += 1;
@@ -282,7 +285,7 @@ impl Reader<'_> {
             self.at += usize::from(matches!(self.here(), Some(b'+' | b'-')));
             self.digits()?;
         }
-        Ok(Value::Other)
+        Ok(Value::Number(String::from_utf8_lossy(&self.text[start..self.at]).into_owned()))
     }
 
     /// The letters of a string, whose quote is next.

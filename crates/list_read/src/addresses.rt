@@ -1,0 +1,63 @@
+// The addresses of a server.
+ghost use mathlib.Core.Path.{_≡_};
+ghost use Prim.Native.Nat.{_<_};
+ghost use lib.ListN.{length};
+ghost use Rattle.report_read.specs.Entry.{elementsOf};
+ghost use Rattle.list_read.specs.Server.{isProtocol, addressGood, inAddresses};
+ghost use Rattle.list_read.specs.Facts.{countedOf};
+use super::Count;
+use super::Element;
+use super::IN_ADDRESS;
+use super::IN_ADDRESSES;
+use super::elements::first_item;
+use super::elements::next_item;
+use super::texts::is_place;
+use super::values::is_word;
+use super::values::string_place;
+use json::find;
+use json_tokens::Skip;
+use json_tokens::byte;
+
+// One of the two protocols.
+fn is_protocol(s: &[u8], x: Skip) -> bool
+    ensures { λ r. ⌜ r ≡ isProtocol (now (s .entry)) x ⌝ }
+{
+    if is_word(s, x, b"udp") {
+        return true;
+    }
+    is_word(s, x, b"tcp")
+}
+
+// An object that has what an address object needs.
+fn address_good(s: &[u8], k: usize) -> bool
+    ensures { λ r. ⌜ r ≡ addressGood (now (s .entry)) k ⌝ }
+{
+    let b = byte(s, k);
+    if b != b'{' {
+        return false;
+    }
+    let protocol = find(s, k, IN_ADDRESS, b"protocol");
+    if !is_protocol(s, string_place(s, protocol)) {
+        return false;
+    }
+    is_place(s, find(s, k, IN_ADDRESS, b"address"))
+}
+
+// How many addresses the list at a place has, if each is an address object.
+pub fn addresses_in(s: &[u8], v: usize) -> Count
+    requires { ⌜ v < length (now s) ⌝ }
+    ensures { λ r. ⌜ r ≡ countedOf (now (s .entry)) (elementsOf (now (s .entry)) inAddresses v) ⌝ }
+{
+    let mut at = first_item(s, v, IN_ADDRESSES);
+    let mut n = 0;
+    loop {
+        let Element::At(k) = at else {
+            return Count::Of(n);
+        };
+        if !address_good(s, k) {
+            return Count::Bad;
+        }
+        n += 1;
+        at = next_item(s, k, IN_ADDRESSES);
+    }
+}
