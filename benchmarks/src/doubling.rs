@@ -2,6 +2,7 @@
 
 use crate::inputs;
 use crate::limits;
+use crate::lists;
 use crate::operations::{self as op, Input, Operation};
 use crate::piles::{Shape, FULL};
 use crate::run::Run;
@@ -41,16 +42,20 @@ fn text(records: usize) -> Input {
     Input::new("full records", vec![Report::of(records).text, vec![1; 2 * records]])
 }
 
+fn list(servers: usize) -> Input {
+    Input::new("servers", vec![lists::list(servers)])
+}
+
 /// Those texts that could take a reader long, at two lengths, each kind by itself.
-fn texts() -> Vec<Case> {
-    let both = inputs::texts(1 << 17).into_iter().zip(inputs::texts(1 << 18));
+fn kinds(operation: Operation, of: fn(usize) -> Vec<Input>) -> Vec<Case> {
+    let both = of(1 << 17).into_iter().zip(of(1 << 18));
     both.filter(|(less, more)| less.bytes() < more.bytes())
-        .map(|(less, more)| case(op::READ_REPORT, &less.name.clone(), [less, more]))
+        .map(|(less, more)| case(operation, &less.name.clone(), [less, more]))
         .collect()
 }
 
 fn cases() -> Vec<Case> {
-    let list = |count| inputs::servers("not there", count, None);
+    let records = |count| inputs::servers("not there", count, None);
     let message = |length| Input::new("bytes", vec![hashes::bytes(length)]);
     vec![
         case(op::CHECK_RESPONSE, "packets", [500, 1_000, 2_000].map(exchange)),
@@ -60,8 +65,9 @@ fn cases() -> Vec<Case> {
         case(op::WRITE_REPORT, "records", [2, 4, 8, 16].map(pile)),
         case(op::READ_REPORT, "records", [2, 4, 8, 16].map(text)),
         case(op::CUT_TEXT, "records", [2, 4, 8, 16].map(text)),
+        case(op::READ_SERVERS, "servers", [8, 16, 32, 64].map(list)),
         case(op::ROWS, "leaves", [64, 128, 256, 512, 1024].map(inputs::leaves)),
-        case(op::FIND_SERVER, "servers", [256, 512, 1024, 2048].map(list)),
+        case(op::FIND_SERVER, "servers", [256, 512, 1024, 2048].map(records)),
         case(op::VERIFY, "text", [1 << 16, 1 << 17, 1 << 18].map(signature)),
         case(op::SIGN, "text", [1 << 16, 1 << 17, 1 << 18].map(to_be_signed)),
         case(op::SHA512, "message", [1 << 14, 1 << 15, 1 << 16].map(message)),
@@ -119,14 +125,20 @@ pub fn part(run: &mut Run) {
         let grown = case.grown(run);
         table.row(case.row(&grown));
     }
-    let texts: Vec<(Case, Grown)> =
-        texts().into_iter().map(|case| (case.grown(run), case)).map(|(g, c)| (c, g)).collect();
-    let most = texts.iter().max_by(|a, b| a.1.most.total_cmp(&b.1.most)).expect("there are texts");
-    let mut row = most.0.row(&most.1);
-    row[1] = format!("{} (of {} kinds)", row[1], texts.len());
-    table.row(row);
+    table.row(most(run, kinds(op::READ_REPORT, inputs::texts)));
+    table.row(most(run, kinds(op::READ_SERVERS, inputs::lists)));
     tell(run, &table);
     run.put(table);
+}
+
+/// The line of the case that grew the most.
+fn most(run: &mut Run, cases: Vec<Case>) -> Vec<String> {
+    let grown: Vec<(Case, Grown)> =
+        cases.into_iter().map(|case| (case.grown(run), case)).map(|(g, c)| (c, g)).collect();
+    let most = grown.iter().max_by(|a, b| a.1.most.total_cmp(&b.1.most)).expect("there are texts");
+    let mut row = most.0.row(&most.1);
+    row[1] = format!("{} (of {} kinds)", row[1], grown.len());
+    row
 }
 
 /// The most that a doubling took.

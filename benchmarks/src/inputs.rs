@@ -1,5 +1,6 @@
 //! Inputs that could take an operation long, and usual ones of the same size.
 
+use crate::lists;
 use crate::operations::Input;
 use crate::piles::{Shape, FULL};
 use crate::signed::Signer;
@@ -8,7 +9,8 @@ use crate::verifying::Signed;
 use independent::making::{self, Link, Made};
 use independent::pieces::{Pairs, Pieces};
 use independent::tag::Tag;
-use independent::{lengthy, packet};
+use independent::{lengthy, lengthy_lists, packet};
+use trawlbeacon::LISTED_SERVERS;
 
 /// The most tags that a message may have.
 const MOST_TAGS: usize = 32;
@@ -172,10 +174,10 @@ pub fn usual_text() -> Input {
     Input::new("the longest report", vec![Report::of(FULL.records).text, vec![1; 32]])
 }
 
-/// A report with every character of its strings as an escape of six.
-fn escaped() -> Vec<u8> {
+/// A text with every character of its strings, none of which is an escape yet, as an escape of six.
+fn escaped(plain: Vec<u8>) -> Vec<u8> {
     let (mut text, mut within) = (String::new(), false);
-    for byte in Report::of(2).text {
+    for byte in plain {
         match byte {
             b'"' => {
                 within = !within;
@@ -192,8 +194,22 @@ fn escaped() -> Vec<u8> {
 /// escapes.
 pub fn texts(length: usize) -> Vec<Input> {
     let of = |(name, text): (&str, Vec<u8>)| Input::new(name, vec![text, vec![1; 32]]);
-    let escaped = Input::new("a report of escapes", vec![escaped(), vec![1; 4]]);
+    let escapes = escaped(Report::of(2).text);
+    let escaped = Input::new("a report of escapes", vec![escapes, vec![1; 4]]);
     lengthy::texts(length).into_iter().map(of).chain([escaped]).collect()
+}
+
+/// The longest list of servers.
+pub fn usual_list() -> Input {
+    Input::new("the longest list", vec![lists::list(LISTED_SERVERS)])
+}
+
+/// The same of lists: of every kind there is, and one of escapes.
+pub fn lists(length: usize) -> Vec<Input> {
+    let of = |(name, text): (&str, Vec<u8>)| Input::new(name, vec![text]);
+    let escapes = escaped(lists::list(LISTED_SERVERS / 5));
+    let escaped = Input::new("a list of escapes", vec![escapes]);
+    lengthy_lists::texts(length).into_iter().map(of).chain([escaped]).collect()
 }
 
 /// So many leaves.

@@ -25,19 +25,23 @@ fn version() -> String {
     text.split_whitespace().next().unwrap_or("unknown").to_string()
 }
 
-/// What stands beside ours: RustCrypto's sha2, by the version that the script found, OpenSSL, and
-/// libsodium.
+/// What stands beside ours: RustCrypto's sha2 and serde_json with base64, by the versions that the
+/// script found, OpenSSL, and libsodium.
 fn peers() -> String {
     let sha2 = match env::var("BENCH_SHA2") {
         Ok(version) if cfg!(feature = "peer") => format!("sha2 {version} in its portable form"),
         _ => "no sha2".into(),
+    };
+    let serde = match env::var("BENCH_SERDE") {
+        Ok(versions) if cfg!(feature = "json") => versions,
+        _ => "no serde_json".into(),
     };
     let openssl = match first_words("openssl", &["version"], 2) {
         _ if !openssl::LINKED => "no OpenSSL".into(),
         Some(version) => version,
         None => "OpenSSL".into(),
     };
-    format!("{sha2}, {openssl}, {}", sodium::version())
+    format!("{sha2}, {serde}, {openssl}, {}", sodium::version())
 }
 
 /// Says on what, and where it was a quick run, that it was.

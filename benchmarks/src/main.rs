@@ -1,6 +1,6 @@
 //! Times the proved library against the independent implementation and, built through
-//! benchmarks/peer, against the same over RustCrypto's sha2; where OpenSSL or libsodium is linked,
-//! against its Ed25519.
+//! benchmarks/peer, against the same over RustCrypto's sha2 and against serde_json with base64;
+//! where OpenSSL or libsodium is linked, against its Ed25519.
 //!
 //! All sides run in this one process, on the same bytes, in turns, and the best of many turns
 //! counts, by the processor's time that it took: whatever else the machine does then hits all of
@@ -10,12 +10,15 @@
 //! is above its limit.
 
 mod batches;
+mod by_serde;
 mod clock;
 mod counted;
+mod daemon;
 mod doubling;
 mod hashes;
 mod inputs;
 mod limits;
+mod lists;
 mod machine;
 mod measured;
 mod memory;
@@ -32,6 +35,9 @@ mod servers;
 mod sides;
 mod signed;
 mod signing;
+#[allow(dead_code)]
+#[path = "../../programs/trawld/src/sockets.rs"]
+mod sockets;
 mod sodium;
 #[path = "../../hosts/rust/shared/standard_output.rs"]
 mod standard_output;
@@ -111,6 +117,10 @@ fn main() -> ExitCode {
     if let [once, name] = &words[..] {
         if once == whence::ONCE {
             whence::once(name);
+            return ExitCode::SUCCESS;
+        }
+        if once == daemon::echo::ECHO {
+            daemon::echo::echo(name);
             return ExitCode::SUCCESS;
         }
     }

@@ -2,7 +2,7 @@
 //! implementation, so that inputs can be compared.
 
 use crate::sides::{work, Work};
-use crate::{texts, trees};
+use crate::{lists, texts, trees};
 use independent::ed25519::Ed25519;
 use independent::{check, report, report_text, request, response, servers, signed};
 use std::hint::black_box;
@@ -27,6 +27,7 @@ impl Input {
 /// One call on the parts of an input, on either side.
 type Call = for<'a> fn(&'a [Vec<u8>]) -> Work<'a>;
 
+#[derive(Clone, Copy)]
 pub struct Operation {
     pub name: &'static str,
     pub ours: Call,
@@ -91,6 +92,18 @@ pub const READ_REPORT: Operation = Operation {
     },
     theirs: |parts| {
         let [_, theirs] = texts::read(&parts[0]);
+        theirs
+    },
+};
+
+pub const READ_SERVERS: Operation = Operation {
+    name: "`tb_read_servers`",
+    ours: |parts| {
+        let [ours, _] = lists::read(&parts[0]);
+        ours
+    },
+    theirs: |parts| {
+        let [_, theirs] = lists::read(&parts[0]);
         theirs
     },
 };

@@ -2,9 +2,10 @@
 
 use crate::run::Run;
 use crate::{
-    batches, counted, doubling, hashes, memory, piles, refused, servers, signed, signing, texts,
+    batches, counted, daemon, doubling, hashes, lists, memory, piles, refused, servers, signed,
+    signing,
 };
-use crate::{trees, verifying, walks, whence, windows, worst};
+use crate::{texts, trees, verifying, walks, whence, windows, worst};
 
 pub struct Part {
     pub name: &'static str,
@@ -31,11 +32,13 @@ pub const PARTS: &[Part] = &[
     part("trees", "rows, roots and paths by their hashing", trees::part),
     part("json", "reports read, written and cut as JSON", texts::part),
     part("texts", "long texts that are read as reports", texts::long),
+    part("lists", "lists of servers read as JSON", lists::part),
     part("hash", "SHA-512 by sha2's, and in pieces", hashes::part),
     part("windows", "windows in one pass and by pairs", windows::part),
     part("worst", "the slowest input of each operation by a usual one", worst::part),
     part("doubled", "what twice the bytes take", doubling::part),
     part("whence", "where the time goes: instructions by crate", whence::part),
+    part("daemon", "trawld beside a bare UDP echo, its memory and its start", daemon::part),
     part("memory", "stack of each operation, heap, the archive by crate", memory::part),
 ];
 

@@ -6,6 +6,7 @@ use crate::measured::Measured;
 use crate::sides::{Side, Subject, Work};
 use crate::table::{or_none, wrapped, Columns, Table};
 use crate::timing::Pace;
+use std::time::Duration;
 
 /// How often a subject is timed again, at the most, that is above a limit, so that it is sure that
 /// it is. The best of all its turns counts.
@@ -67,6 +68,17 @@ impl Run {
             self.held.extend(measured.bounded(bound).map(held));
         }
         measured
+    }
+
+    /// Holds a ratio of ours that was not timed here to a limit.
+    pub fn hold(&mut self, limit: &'static str, subject: &str, ratio: f64) {
+        let highest = limits::highest(limit);
+        self.held.push(Held { limit, subject: subject.to_string(), ratio, highest });
+    }
+
+    /// How long something is watched that cannot be called.
+    pub fn span(&self) -> Duration {
+        self.pace.span()
     }
 
     /// The seconds of one call, at a glance.

@@ -22,6 +22,9 @@ pub enum Side {
     /// libsodium's Ed25519. No work of it is made where libsodium is not linked.
     #[cfg_attr(not(feature = "sodium"), allow(dead_code))]
     Sodium,
+    /// serde_json with base64. No work of it is made where they are not installed.
+    #[cfg_attr(not(feature = "json"), allow(dead_code))]
+    SerdeJson,
     /// Ours too, the hashing alone, as much of it as a tree needs; of a batch, with its signature.
     Hashing,
     /// Ours too, all rows of the same tree.
@@ -49,6 +52,7 @@ impl Side {
             Side::Sha2 => "sha2",
             Side::OpenSsl => "OpenSSL",
             Side::Sodium => "libsodium",
+            Side::SerdeJson => "serde_json",
             Side::Hashing => "hashing",
             Side::Rows => "rows",
             Side::Steps => "steps",

@@ -3,6 +3,8 @@
 //!
 //! No buffer is cleared between runs.
 
+use crate::by_serde;
+use crate::measured::Measured;
 use crate::piles::{Shape, FULL};
 use crate::run::Run;
 use crate::sides::{work, Side, Subject, Work};
@@ -67,25 +69,49 @@ pub fn read(text: &[u8]) -> [Work<'_>; 2] {
     ]
 }
 
-/// Reports of 2 to 16 full records.
+/// What a reader says of a text, and what it leaves of a buffer.
+pub fn said<R>(read: impl FnOnce(&mut [u8]) -> Result<usize, R>, code: fn(R) -> u32) -> Said {
+    let mut out = vec![0xee; MOST_PILE_LENGTH];
+    let told = read(&mut out).map_err(code);
+    (told, out)
+}
+
+/// See [`said`].
+pub type Said = (Result<usize, u32>, Vec<u8>);
+
+/// Sees that all readers say the same of a text.
+fn agree(text: &[u8]) {
+    let ours = said(|out| trawlbeacon::read_report(text, out), |refusal| refusal.code());
+    let theirs = said(|out| report_text::read_into(text, out), |refusal| refusal.code());
+    assert!(ours == theirs, "the independent reader says another thing of a text");
+    let serde = by_serde::said(text).unwrap_or_else(|| ours.clone());
+    assert!(ours == serde, "serde_json's reader says another thing of a text");
+}
+
+/// Reports of 2 to 16 full records. Before one is timed both other readers must say the same of it.
 pub fn part(run: &mut Run) {
     let title = "reports as JSON, full records; a ratio is ours by the independent one's";
-    let head = ["Records", "bytes", "read µs", "ratio", "written µs", "ratio", "cut µs", "ratio"];
+    let head = ["Records", "bytes", "read µs", "ratio", "by serde_json"];
+    let head = [&head[..], &["written µs", "ratio", "cut µs", "ratio"]].concat();
     let mut table = Table::new("json", title, &head);
+    lengthy::texts(1 << 16).iter().for_each(|(_, text)| agree(text));
     for records in [2, 4, 8, MOST_RECORDS] {
         let report = Report::of(records);
-        let works = [
-            ("read", read(&report.text), "texts_read"),
-            ("written", report.write(), "texts_written"),
-            ("cut", report.cut(), "texts_read"),
-        ];
-        let mut row = vec![records.to_string(), count(report.text.len())];
-        for (what, works, limit) in works {
+        agree(&report.text);
+        let subject = |what: &str, works, limit| {
             let name = format!("JSON of {records} records, {what}");
-            let subject = Subject::of_two(name, report.text.len(), works);
-            let measured = run.time(subject.held(Side::Independent, limit));
-            row.extend([microseconds(measured.ours()), measured.ratio_text(Side::Independent)]);
-        }
+            Subject::of_two(name, report.text.len(), works).held(Side::Independent, limit)
+        };
+        let mut read = subject("read", read(&report.text), "texts_read");
+        read.works.extend(by_serde::read(&report.text));
+        let read = run.time(read.held(Side::SerdeJson, "texts_serde"));
+        let written = run.time(subject("written", report.write(), "texts_written"));
+        let cut = run.time(subject("cut", report.cut(), "texts_cut"));
+        let cells = |of: &Measured| [microseconds(of.ours()), of.ratio_text(Side::Independent)];
+        let mut row = vec![records.to_string(), count(report.text.len())];
+        row.extend(cells(&read));
+        row.push(read.ratio_text(Side::SerdeJson));
+        row.extend([cells(&written), cells(&cut)].concat());
         table.row(row);
     }
     run.put(table);

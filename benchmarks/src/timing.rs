@@ -29,6 +29,11 @@ impl Pace {
     pub const QUICK: Pace =
         Pace { turn: Duration::from_millis(1), side: Duration::from_millis(4), fewest: 1 };
 
+    /// How long something is watched that cannot be called again and again.
+    pub fn span(self) -> Duration {
+        5 * self.side
+    }
+
     /// How many turns of this length a side has.
     fn turns(self, turn: Duration) -> u32 {
         let turns = self.side.as_secs_f64() / turn.as_secs_f64().max(1e-9);

@@ -57,7 +57,25 @@ const GROUPS: [(&str, &[&str]); 6] = [
         "piles",
         &["pile", "pile_runs", "pile_report", "pile_tally", "pile_signed", "walk", "walk_signed"],
     ),
-    ("JSON", &["base64", "json", "json_base64", "report_read", "report_write", "report_text"]),
+    (
+        "JSON",
+        &[
+            "base64",
+            "json_tokens",
+            "json_strings",
+            "json",
+            "json_base64",
+            "json_text",
+            "json_quote",
+            "report_read",
+            "report_write",
+            "report_text",
+            "list_address",
+            "list_read",
+            "list_parts",
+            "list_write",
+        ],
+    ),
 ];
 
 const REST: &str = "bytes, the boundary, copying";

@@ -2,27 +2,40 @@
 //! beside a usual one of the same size.
 
 use crate::inputs;
+use crate::limits;
+use crate::lists;
 use crate::operations::{self as op, Input, Operation};
 use crate::run::Run;
 use crate::sides::{Side, Subject};
 use crate::table::{count, number, or_none, Table};
 
-/// An operation with a usual input, and those among which the slowest is sought.
+/// An operation with a usual input, and those among which the slowest is sought. Where it has
+/// limits, each of them is held to them; one by the usual input is for a byte of either.
 struct Case {
     operation: Operation,
     usual: Input,
     others: Vec<Input>,
+    limits: &'static [(Side, &'static str)],
 }
 
 fn case(operation: Operation, usual: Input, others: Vec<Input>) -> Case {
-    Case { operation, usual, others }
+    Case { operation, usual, others, limits: &[] }
 }
+
+/// Those of reading a report.
+const TEXTS: &[(Side, &str)] = &[(Side::Independent, "worst_text"), (Side::Usual, "worst_usual")];
+
+/// That of reading a list of servers.
+const LISTS: &[(Side, &str)] = &[(Side::Independent, "worst_list")];
 
 fn cases() -> Vec<Case> {
     let exchange = || (inputs::usual_exchange(), inputs::exchanges());
     let ((usual, others), (checked, check)) = (exchange(), exchange());
     let text = inputs::usual_text();
     let (length, (signed, full)) = (text.bytes(), inputs::signed_piles());
+    let list = inputs::usual_list();
+    let lists = inputs::lists(list.bytes());
+    lists.iter().for_each(|input| lists::agree(&input.parts[0]));
     vec![
         case(op::READ_REQUEST, request(), inputs::requests()),
         case(op::READ_RESPONSE, usual, others),
@@ -30,11 +43,15 @@ fn cases() -> Vec<Case> {
         case(op::CHECK_REPORT, inputs::usual_pile(), inputs::piles()),
         case(op::CUT_RUN, inputs::usual_pile(), inputs::piles()),
         case(op::CUT_SIGNED_RUN, signed, full),
-        case(op::READ_REPORT, text, inputs::texts(length)),
+        Case { limits: TEXTS, ..case(op::READ_REPORT, text, inputs::texts(length)) },
         case(op::CUT_TEXT, inputs::usual_text(), inputs::texts(length)),
+        Case { limits: LISTS, ..case(op::READ_SERVERS, list, lists) },
         case(op::WRITE_REPORT, inputs::usual_pile(), inputs::piles()),
         case(op::ROWS, inputs::leaves(512), vec![inputs::leaves(513)]),
-        case(op::FIND_SERVER, found(), vec![lost()]),
+        Case {
+            limits: &[(Side::Independent, "find_server")],
+            ..case(op::FIND_SERVER, found(), vec![lost()])
+        },
         case(op::VERIFY, inputs::signature(1_000), vec![inputs::dense_signature(1_000)]),
     ]
 }
@@ -64,14 +81,32 @@ impl Case {
         each.max_by(|a, b| a.1.total_cmp(&b.1)).expect("there is one").0
     }
 
-    fn row(&self, run: &mut Run) -> Vec<String> {
-        let (Operation { name, ours, theirs }, slowest) = (&self.operation, self.slowest(run));
+    /// An input beside the usual one.
+    fn subject<'a>(&'a self, name: String, input: &'a Input) -> Subject<'a> {
+        let Operation { ours, theirs, .. } = &self.operation;
         let works = vec![
-            (Side::Ours, ours(&slowest.parts)),
+            (Side::Ours, ours(&input.parts)),
             (Side::Usual, ours(&self.usual.parts)),
-            (Side::Independent, theirs(&slowest.parts)),
+            (Side::Independent, theirs(&input.parts)),
         ];
-        let measured = run.time(Subject::new(*name, slowest.bytes(), works));
+        let longer = input.bytes() as f64 / self.usual.bytes() as f64;
+        let held = |subject: Subject<'a>, &(side, limit): &(Side, &'static str)| {
+            let times = if side == Side::Usual { longer } else { 1.0 };
+            subject.held_to(side, limit, limits::highest(limit) * times)
+        };
+        self.limits.iter().fold(Subject::new(name, input.bytes(), works), held)
+    }
+
+    /// Times each input, where there are limits.
+    fn hold_all(&self, run: &mut Run) {
+        for input in self.others.iter().filter(|_| !self.limits.is_empty()) {
+            run.time(self.subject(format!("{} of {}", self.operation.name, input.name), input));
+        }
+    }
+
+    fn row(&self, run: &mut Run) -> Vec<String> {
+        let (Operation { name, .. }, slowest) = (&self.operation, self.slowest(run));
+        let measured = run.time(self.subject(name.to_string(), slowest));
         let a_byte = |time: f64, input: &Input| time * 1e9 / input.bytes() as f64;
         let worst = a_byte(measured.ours(), slowest);
         let usual = measured.time(Side::Usual).map(|time| a_byte(time, &self.usual));
@@ -94,6 +129,7 @@ pub fn part(run: &mut Run) {
     let head = ["Operation", "slowest input", "bytes", "usual", "slowest", "by usual", "by ind."];
     let mut table = Table::new("worst", title, &head);
     for case in cases() {
+        case.hold_all(run);
         let row = case.row(run);
         table.row(row);
     }

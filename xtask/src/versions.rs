@@ -35,12 +35,14 @@ const fn lock(file: &'static str) -> Place {
 
 const PACKAGE: &str = "name = \"trawlbeacon\"";
 
-const PLACES: [Place; 7] = [
+const PLACES: [Place; 9] = [
     place("include/trawlbeacon.h", "#define TB_VERSION_MAJOR ", Part::Major),
     place("include/trawlbeacon.h", "#define TB_VERSION_MINOR ", Part::Minor),
     place("tools/exports.map", "TRAWLBEACON_", Part::Major),
     place("hosts/rust/Cargo.toml", "version = \"", Part::All),
     place("man/trawl.1", ".TH TRAWL 1 \"*\" \"Trawlbeacon ", Part::All),
+    place("programs/trawld/Cargo.toml", "version = \"", Part::All),
+    place("man/trawld.8", ".TH TRAWLD 8 \"*\" \"Trawlbeacon ", Part::All),
     lock("Cargo.lock"),
     lock("hosts/bare/Cargo.lock"),
 ];
@@ -173,6 +175,8 @@ mod tests {
             ("tools/exports.map", "TRAWLBEACON_1\n{\n};\n"),
             ("hosts/rust/Cargo.toml", "[package]\nversion = \"1.2.3\"\n"),
             ("man/trawl.1", ".TH TRAWL 1 \"a day\" \"Trawlbeacon 1.2.3\" \"\"\n"),
+            ("programs/trawld/Cargo.toml", "[package]\nversion = \"1.2.3\"\n"),
+            ("man/trawld.8", ".TH TRAWLD 8 \"a day\" \"Trawlbeacon 1.2.3\" \"\"\n"),
             ("Cargo.lock", LOCK),
             ("hosts/bare/Cargo.lock", LOCK),
             (CHANGES, "# What changed\n\n## 1.2.3\n\n## 0.9.0\n"),
@@ -182,7 +186,7 @@ mod tests {
     #[test]
     fn the_same_version_everywhere_passes() {
         let said = check(&right().tree(), &[]).unwrap();
-        assert_eq!(said, "1.2.3, in 7 other places, and first in CHANGELOG.md");
+        assert_eq!(said, "1.2.3, in 9 other places, and first in CHANGELOG.md");
     }
 
     #[test]
@@ -193,6 +197,8 @@ mod tests {
             ("tools/exports.map", "_1", "_2", 1),
             ("hosts/rust/Cargo.toml", "1.2.3", "1.2.4", 2),
             ("man/trawl.1", "1.2.3", "1.2", 1),
+            ("programs/trawld/Cargo.toml", "1.2.3", "1.2.4", 2),
+            ("man/trawld.8", "1.2.3", "1.2", 1),
             ("Cargo.lock", "1.2.3", "1.2.3-rc", 7),
             ("hosts/bare/Cargo.lock", "1.2.3", "1.2.30", 7),
             (CHANGES, "1.2.3", "1.2.4", 3),
