@@ -231,6 +231,10 @@ static inline const char *tb_code_text(uint32_t code) {
 
 /* ---- Lengths ---- */
 
+/* A length, a number of things or a place among them. It has 64 bits on every machine, as in the
+ * library, also where a size_t has 32. */
+typedef uint64_t tb_size;
+
 /* Bytes of the longest packet that is read. */
 #define TB_LONGEST_PACKET 2000
 
@@ -280,10 +284,10 @@ static inline const char *tb_code_text(uint32_t code) {
 /* ---- Hashes ---- */
 
 /* The SHA-512 digest of a message. */
-void tb_sha512(const uint8_t *message, size_t message_len, uint8_t out[64]);
+void tb_sha512(const uint8_t *message, tb_size message_len, uint8_t out[64]);
 
 /* The leaf of a request packet in the Merkle tree: H(0x00, packet). */
-void tb_leaf(const uint8_t *packet, size_t packet_len, uint8_t out[32]);
+void tb_leaf(const uint8_t *packet, tb_size packet_len, uint8_t out[32]);
 
 /* The node above two nodes of the tree: H(0x01, left, right). left and right may be the same
  * bytes. */
@@ -297,7 +301,7 @@ void tb_empty_place(uint8_t out[32]);
 void tb_srv_value(const uint8_t key[32], uint8_t out[32]);
 
 /* The nonce that ties the next request of a chain to a response: H(response, rand). */
-void tb_link(const uint8_t *response, size_t response_len, const uint8_t rand[32],
+void tb_link(const uint8_t *response, tb_size response_len, const uint8_t rand[32],
              uint8_t out[32]);
 
 /* ---- Hashes in pieces ----
@@ -326,7 +330,7 @@ struct tb_running {
 void tb_sha512_start_fields(uint64_t h[8], uint8_t rest[128], uint64_t *count);
 void tb_leaf_start_fields(uint64_t h[8], uint8_t rest[128], uint64_t *count);
 uint32_t tb_sha512_take_fields(uint64_t h[8], uint8_t rest[128], uint64_t *count,
-                               const uint8_t *piece, size_t piece_len);
+                               const uint8_t *piece, tb_size piece_len);
 void tb_sha512_finish_fields(const uint64_t h[8], const uint8_t rest[128], uint64_t count,
                              uint8_t out[64]);
 void tb_hash_finish_fields(const uint64_t h[8], const uint8_t rest[128], uint64_t count,
@@ -346,7 +350,7 @@ static inline void tb_leaf_start(struct tb_running *state) {
 /* Takes a piece, which must not overlap the state. The code is 30, where all that was taken, the
  * 0x00 of a leaf too, would come to more than 2^64 - 1 bytes; then the state stays as it was. */
 static inline uint32_t tb_sha512_take(struct tb_running *state, const uint8_t *piece,
-                                      size_t piece_len) {
+                                      tb_size piece_len) {
     return tb_sha512_take_fields(state->h, state->rest, &state->count, piece, piece_len);
 }
 
@@ -375,7 +379,7 @@ struct tb_request {
 };
 
 /* Reads a request. The codes are 1 to 8. */
-struct tb_request tb_read_request(const uint8_t *packet, size_t packet_len);
+struct tb_request tb_read_request(const uint8_t *packet, tb_size packet_len);
 
 /* What a good response says; midp is in seconds since 1970 and radi in seconds. */
 struct tb_response {
@@ -390,7 +394,7 @@ struct tb_response {
 
 /* Reads a response. The codes are 1 to 8. That it passes does not make it valid: that needs its
  * request and both signatures. */
-struct tb_response tb_read_response(const uint8_t *packet, size_t packet_len);
+struct tb_response tb_read_response(const uint8_t *packet, tb_size packet_len);
 
 /* What a writer wrote: how many bytes, 0 on a refusal. */
 struct tb_wrote {
@@ -402,7 +406,7 @@ struct tb_wrote {
 /* Writes the request with this nonce to the server with this long-term key: TB_REQUEST_LENGTH
  * bytes. The code is 19. */
 struct tb_wrote tb_write_request(const uint8_t key[32], const uint8_t nonce[32], uint8_t *out,
-                                 size_t out_len);
+                                 tb_size out_len);
 
 /* ---- Signatures ----
  *
@@ -418,14 +422,14 @@ struct tb_wrote tb_write_request(const uint8_t key[32], const uint8_t nonce[32],
  * below the group order and the group equation without the cofactor. Any lengths are taken: a key
  * that is not 32 bytes, or a signature that is not 64, is a no. It is not of one time for all
  * inputs, and is given nothing that is secret. */
-bool tb_verify(const uint8_t *key, size_t key_len, const uint8_t *text, size_t text_len,
-               const uint8_t *signature, size_t signature_len);
+bool tb_verify(const uint8_t *key, tb_size key_len, const uint8_t *text, tb_size text_len,
+               const uint8_t *signature, tb_size signature_len);
 
 /* The same of a text in two parts, one after the other, as a context and a value, so that no buffer
  * is needed for the whole. A no, too, where the two come to more than 2^64 - 65 bytes. */
-bool tb_verify_parts(const uint8_t *key, size_t key_len, const uint8_t *context, size_t context_len,
-                     const uint8_t *value, size_t value_len, const uint8_t *signature,
-                     size_t signature_len);
+bool tb_verify_parts(const uint8_t *key, tb_size key_len, const uint8_t *context,
+                     tb_size context_len, const uint8_t *value, tb_size value_len,
+                     const uint8_t *signature, tb_size signature_len);
 
 /* What is verified in a response: its signature (SIG of the outermost message), the delegation's
  * (SIG of CERT), and the delegated key (PUBK of DELE). */
@@ -438,19 +442,19 @@ struct tb_parts {
 };
 
 /* Takes these three out of a response. The codes are 1 to 7. */
-struct tb_parts tb_signed_parts(const uint8_t *packet, size_t packet_len);
+struct tb_parts tb_signed_parts(const uint8_t *packet, tb_size packet_len);
 
 /* Writes the text that the delegation signs: it verifies where tb_parts.delegation is the
  * signature of this text under the server's long-term key. TB_LONGEST_TEXT bytes are room for any.
  * The codes are 1 to 7 and 19. */
-struct tb_wrote tb_delegation_text(const uint8_t *packet, size_t packet_len, uint8_t *out,
-                                   size_t out_len);
+struct tb_wrote tb_delegation_text(const uint8_t *packet, tb_size packet_len, uint8_t *out,
+                                   tb_size out_len);
 
 /* Writes the text that the response signs: it verifies where tb_parts.signature is the signature
  * of this text under tb_parts.pubk. TB_LONGEST_TEXT bytes are room for any. The codes are 1 to 7
  * and 19. */
-struct tb_wrote tb_response_text(const uint8_t *packet, size_t packet_len, uint8_t *out,
-                                 size_t out_len);
+struct tb_wrote tb_response_text(const uint8_t *packet, tb_size packet_len, uint8_t *out,
+                                 tb_size out_len);
 
 /* What a valid response tells: the time is from low to high. low is midp - radi, but not below 0,
  * and high is midp + radi, but not above 2^64 - 1. pubk is the delegated key that signed it, and
@@ -471,23 +475,24 @@ struct tb_verdict {
 /* Checks a response against the request that it answers. delegation and signature say whether the
  * two signatures verify: 1 is yes, and every other number is no, so that what a library answers to
  * say that it failed (0, -1) never counts as a yes. The codes are 14 and 1 to 13. */
-struct tb_verdict tb_check_response(const uint8_t *request, size_t request_len,
-                                    const uint8_t *response, size_t response_len,
+struct tb_verdict tb_check_response(const uint8_t *request, tb_size request_len,
+                                    const uint8_t *response, tb_size response_len,
                                     uint32_t delegation, uint32_t signature);
 
 /* Whether the two signatures of a response verify: out[0] is 1 where that of the delegation does
  * under the server's long-term key, out[1] is 1 where that of the response does under its delegated
  * key, and each is 0 where it does not. Both are 0 where one of the codes 1 to 7 applies to the
  * response. It writes both bytes and cannot fail. */
-void tb_answers(const uint8_t key[32], const uint8_t *response, size_t response_len,
+void tb_answers(const uint8_t key[32], const uint8_t *response, tb_size response_len,
                 uint8_t out[2]);
 
 /* Checks a response against the request that it answers, and its signatures under the server's
  * long-term key: what tb_check_response says with what tb_answers says. The codes are 14 and 1 to
  * 13. Signatures are verified last, and only where no other code applies; the response's only where
  * the delegation's verifies. */
-struct tb_verdict tb_check_signed(const uint8_t key[32], const uint8_t *request, size_t request_len,
-                                  const uint8_t *response, size_t response_len);
+struct tb_verdict tb_check_signed(const uint8_t key[32], const uint8_t *request,
+                                  tb_size request_len, const uint8_t *response,
+                                  tb_size response_len);
 
 /* What the two functions below call, with the fields of answers one by one: call those instead. */
 bool tb_may_use_fields(uint32_t code, uint64_t maxt, uint64_t time);
@@ -523,7 +528,7 @@ static inline bool tb_same_delegation(struct tb_verdict first, struct tb_verdict
 /* Whether the siblings of a path lead from the leaf to the root, and indx needs no more bits than
  * there are siblings. Where a bit of indx is 0, the hash so far is the left child and the sibling
  * the right one, as in draft 19, 5.3.1. Bytes that are not 0 to 32 whole siblings lead nowhere. */
-bool tb_leads(const uint8_t leaf[32], uint32_t indx, const uint8_t *path, size_t path_len,
+bool tb_leads(const uint8_t leaf[32], uint32_t indx, const uint8_t *path, tb_size path_len,
               const uint8_t root[32]);
 
 /* The root of a tree. */
@@ -534,7 +539,7 @@ struct tb_rooted {
 };
 
 /* The root of the tree of these leaves. The code is 20. */
-struct tb_rooted tb_root(const uint8_t *leaves, size_t leaves_len);
+struct tb_rooted tb_root(const uint8_t *leaves, tb_size leaves_len);
 
 /* Where a leaf stands, and how many siblings were written. */
 struct tb_placed {
@@ -544,8 +549,8 @@ struct tb_placed {
 };
 
 /* Writes the siblings of the leaf at a place, that beside it first. The codes are 20 and 19. */
-struct tb_placed tb_path(const uint8_t *leaves, size_t leaves_len, size_t place, uint8_t *out,
-                         size_t out_len);
+struct tb_placed tb_path(const uint8_t *leaves, tb_size leaves_len, tb_size place, uint8_t *out,
+                         tb_size out_len);
 
 /* How rows were written: the depth of the tree, and how many bytes they are. */
 struct tb_laid {
@@ -557,13 +562,13 @@ struct tb_laid {
 /* Writes all rows of a tree, the leaves with every empty place first and the root last: 2^(depth +
  * 1) - 1 nodes of 32 bytes, of which the root is the 32 bytes at out + length - 32. The codes are 20
  * and 19. */
-struct tb_laid tb_rows(const uint8_t *leaves, size_t leaves_len, uint8_t *out, size_t out_len);
+struct tb_laid tb_rows(const uint8_t *leaves, tb_size leaves_len, uint8_t *out, tb_size out_len);
 
 /* Writes what tb_path writes, out of the rows that tb_rows wrote for count leaves, without a hash.
  * Other rows are taken as they are. The codes are 20, also where the rows are too short for that
  * many leaves, and 19. */
-struct tb_placed tb_path_from(const uint8_t *rows, size_t rows_len, size_t count, size_t place,
-                              uint8_t *out, size_t out_len);
+struct tb_placed tb_path_from(const uint8_t *rows, tb_size rows_len, tb_size count, tb_size place,
+                              uint8_t *out, tb_size out_len);
 
 /* ---- Signing ----
  *
@@ -581,13 +586,13 @@ struct tb_placed tb_path_from(const uint8_t *rows, size_t rows_len, size_t count
 void tb_public_key(const uint8_t seed[32], uint8_t out[32]);
 
 /* The signature of a text. It verifies by tb_verify under the seed's public key. */
-void tb_sign(const uint8_t seed[32], const uint8_t *text, size_t text_len, uint8_t out[64]);
+void tb_sign(const uint8_t seed[32], const uint8_t *text, tb_size text_len, uint8_t out[64]);
 
 /* The same of a text in two parts, one after the other, as a context and a value, so that no buffer
  * is needed for the whole. Where the two come to more than 2^64 - 65 bytes, which no host has, it
  * is 64 zero bytes. */
-void tb_sign_parts(const uint8_t seed[32], const uint8_t *context, size_t context_len,
-                   const uint8_t *value, size_t value_len, uint8_t out[64]);
+void tb_sign_parts(const uint8_t seed[32], const uint8_t *context, tb_size context_len,
+                   const uint8_t *value, tb_size value_len, uint8_t out[64]);
 
 /* ---- Servers ----
  *
@@ -625,16 +630,16 @@ void tb_sign_parts(const uint8_t seed[32], const uint8_t *context, size_t contex
 /* Writes DELE: the delegated public key, and the first and the last second at which it may sign.
  * The code is 19. */
 struct tb_wrote tb_write_dele(const uint8_t pubk[32], uint64_t mint, uint64_t maxt, uint8_t *out,
-                              size_t out_len);
+                              tb_size out_len);
 
 /* Writes CERT: the same DELE, and the long-term key's signature over it. The code is 19. */
 struct tb_wrote tb_write_cert(const uint8_t pubk[32], uint64_t mint, uint64_t maxt,
-                              const uint8_t signature[64], uint8_t *out, size_t out_len);
+                              const uint8_t signature[64], uint8_t *out, tb_size out_len);
 
 /* Writes SREP, with VER and VERS {1}: the root of a batch, the time and its radius. The codes are
  * 7, where radi is 0, and 19; 7 has no place here, and at is 0. */
 struct tb_wrote tb_write_srep(const uint8_t root[32], uint64_t midp, uint32_t radi, uint8_t *out,
-                              size_t out_len);
+                              tb_size out_len);
 
 /* Writes the response to a request: indx and path are the place of its leaf and its siblings, cert
  * the value of CERT, and signature that over what tb_write_srep writes for the same root, midp and
@@ -642,11 +647,11 @@ struct tb_wrote tb_write_srep(const uint8_t root[32], uint64_t midp, uint32_t ra
  * path is not 0 to 32 whole siblings; 11; 23, where the response would be longer than the request;
  * 19. at is a byte of the value of CERT, counted from its first; beside 7 it is 0 exactly where
  * radi is 0, since no value of CERT starts there. */
-struct tb_wrote tb_write_response(const uint8_t *request, size_t request_len, uint32_t indx,
-                                  const uint8_t root[32], const uint8_t *path, size_t path_len,
+struct tb_wrote tb_write_response(const uint8_t *request, tb_size request_len, uint32_t indx,
+                                  const uint8_t root[32], const uint8_t *path, tb_size path_len,
                                   uint64_t midp, uint32_t radi, const uint8_t *cert,
-                                  size_t cert_len, const uint8_t signature[64], uint8_t *out,
-                                  size_t out_len);
+                                  tb_size cert_len, const uint8_t signature[64], uint8_t *out,
+                                  tb_size out_len);
 
 /* What came of a batch: how many packets were answered, 0 on a refusal. */
 struct tb_batch {
@@ -689,12 +694,12 @@ struct tb_batch {
  * rows of a tree of lengths_len leaves, which are 32 * (2^(e+1) - 1) bytes, out_len below
  * lengths_len rooms, out_lengths_len below lengths_len, or room below 264 + 32 * e + cert_len, with
  * the depth e of that tree. at is as with tb_write_response. */
-struct tb_batch tb_answer_batch(const uint8_t *packets, size_t packets_len, size_t slot,
-                                const uint32_t *lengths, size_t lengths_len,
-                                const uint8_t srv[32], const uint8_t *cert, size_t cert_len,
-                                const uint8_t seed[32], uint64_t midp, uint32_t radi,
-                                uint8_t *rows, size_t rows_len, uint8_t *out, size_t out_len,
-                                size_t room, uint32_t *out_lengths, size_t out_lengths_len);
+struct tb_batch tb_answer_batch(const uint8_t *packets, tb_size packets_len, tb_size slot,
+                                const uint32_t *lengths, tb_size lengths_len, const uint8_t srv[32],
+                                const uint8_t *cert, tb_size cert_len, const uint8_t seed[32],
+                                uint64_t midp, uint32_t radi, uint8_t *rows, tb_size rows_len,
+                                uint8_t *out, tb_size out_len, tb_size room, uint32_t *out_lengths,
+                                tb_size out_lengths_len);
 
 /* ---- Lists of servers ---- */
 
@@ -709,8 +714,8 @@ struct tb_found {
 /* Looks up the server with the SRV value srv in the owner's list, and then in the shipped one. A
  * list is records of TB_SERVER_LENGTH bytes, a long-term key and then its SRV value, and may be
  * empty; the first match wins. The codes are 21 and 22. */
-struct tb_found tb_find_server(const uint8_t *owner, size_t owner_len, const uint8_t *shipped,
-                               size_t shipped_len, const uint8_t srv[32]);
+struct tb_found tb_find_server(const uint8_t *owner, tb_size owner_len, const uint8_t *shipped,
+                               tb_size shipped_len, const uint8_t srv[32]);
 
 /* Lists of servers also come as JSON (draft 19, section 8.3; RFC 8259), as others publish them:
  * an object with "servers", a list of objects with "name", "version", "publicKeyType", "publicKey"
@@ -747,13 +752,13 @@ struct tb_servers {
 
 /* Writes the record of each server that can be asked, TB_SERVER_LENGTH bytes each and in the list's
  * order: the list that tb_find_server takes. The codes are 24, 25 and 19. */
-struct tb_servers tb_read_servers(const uint8_t *text, size_t text_len, uint8_t *out,
-                                  size_t out_len);
+struct tb_servers tb_read_servers(const uint8_t *text, tb_size text_len, uint8_t *out,
+                                  tb_size out_len);
 
 /* Writes the name of the server at a place, in UTF-8. It is meant for people, may hold any
  * characters, and should not go to a terminal as it is. The codes are 24, 25, 36 and 19. */
-struct tb_wrote tb_server_name(const uint8_t *text, size_t text_len, size_t place, uint8_t *out,
-                               size_t out_len);
+struct tb_wrote tb_server_name(const uint8_t *text, tb_size text_len, tb_size place, uint8_t *out,
+                               tb_size out_len);
 
 /* An address of a server: tcp is 1 for TCP and 0 for UDP, and length how many bytes it has. */
 struct tb_addressed {
@@ -765,25 +770,26 @@ struct tb_addressed {
 /* Writes an address of the server at a place, by its own place: a host, a colon and a port from 0
  * to 65535. The host is an IPv4 address, an IPv6 address in brackets, or a name. The codes are 24,
  * 25, 36 and 19. */
-struct tb_addressed tb_server_address(const uint8_t *text, size_t text_len, size_t place,
-                                      size_t which, uint8_t *out, size_t out_len);
+struct tb_addressed tb_server_address(const uint8_t *text, tb_size text_len, tb_size place,
+                                      tb_size which, uint8_t *out, tb_size out_len);
 
 /* Writes the URL at a place of "sources", from which newer lists may be had by GET. The codes are
  * 24, 25, 36 and 19. */
-struct tb_wrote tb_list_source(const uint8_t *text, size_t text_len, size_t place, uint8_t *out,
-                               size_t out_len);
+struct tb_wrote tb_list_source(const uint8_t *text, tb_size text_len, tb_size place, uint8_t *out,
+                               tb_size out_len);
 
 /* Writes the URL of "reports", to which reports may be sent by POST (draft 19, section 8.4.2). The
  * codes are 24, 25, 36, where the list names none, and 19. */
-struct tb_wrote tb_list_reports(const uint8_t *text, size_t text_len, uint8_t *out, size_t out_len);
+struct tb_wrote tb_list_reports(const uint8_t *text, tb_size text_len, uint8_t *out,
+                                tb_size out_len);
 
 /* Writes one server as such an object, to be put into a list: no blanks, and escapes only where
  * they are needed. Its publicKeyType is "ed25519". addresses has a line for each address: udp or
  * tcp, a blank, a host, a colon and a port, and a line feed. The codes are 24, where the name is no
  * UTF-8 or a line is wrong; 25, where there are more than TB_LISTED_ADDRESSES; and 19. */
-struct tb_wrote tb_write_server(const uint8_t *name, size_t name_len, uint32_t version,
+struct tb_wrote tb_write_server(const uint8_t *name, tb_size name_len, uint32_t version,
                                 const uint8_t key[32], const uint8_t *addresses,
-                                size_t addresses_len, uint8_t *out, size_t out_len);
+                                tb_size addresses_len, uint8_t *out, tb_size out_len);
 
 /* Writes a whole list of as many servers as there are versions. keys has 32 bytes a server; names
  * and addresses have the names and the lines of each, one after the other, of as many bytes as
@@ -794,13 +800,14 @@ struct tb_wrote tb_write_server(const uint8_t *name, size_t name_len, uint32_t v
  * a server, or their sums are not names_len and addresses_len; 24, as with tb_write_server, and where
  * a URL is none of https or longer than 2,048 bytes; 25, where there is no server, more than
  * TB_LISTED_SERVERS, or more than TB_LISTED_ADDRESSES addresses of one; and 19. */
-struct tb_wrote tb_write_servers(const uint8_t *keys, size_t keys_len, const uint32_t *versions,
-                                 size_t versions_len, const uint8_t *names, size_t names_len,
-                                 const uint32_t *name_lengths, size_t name_lengths_len,
-                                 const uint8_t *addresses, size_t addresses_len,
-                                 const uint32_t *address_lengths, size_t address_lengths_len,
-                                 const uint8_t *sources, size_t sources_len, const uint8_t *reports,
-                                 size_t reports_len, uint8_t *out, size_t out_len);
+struct tb_wrote tb_write_servers(const uint8_t *keys, tb_size keys_len, const uint32_t *versions,
+                                 tb_size versions_len, const uint8_t *names, tb_size names_len,
+                                 const uint32_t *name_lengths, tb_size name_lengths_len,
+                                 const uint8_t *addresses, tb_size addresses_len,
+                                 const uint32_t *address_lengths, tb_size address_lengths_len,
+                                 const uint8_t *sources, tb_size sources_len,
+                                 const uint8_t *reports, tb_size reports_len, uint8_t *out,
+                                 tb_size out_len);
 
 /* ---- Piles and reports ----
  *
@@ -827,8 +834,8 @@ struct tb_wrote tb_write_servers(const uint8_t *keys, size_t keys_len, const uin
 
 /* 15 where a pile or its answers are not what they must be, or else 0. The records are not looked
  * at. */
-uint32_t tb_pile_code(const uint8_t *pile, size_t pile_len, const uint8_t *answers,
-                      size_t answers_len);
+uint32_t tb_pile_code(const uint8_t *pile, tb_size pile_len, const uint8_t *answers,
+                      tb_size answers_len);
 
 /* What is said of one record: its window and its key, as tb_verdict tells them, or a refusal. place
  * is the place that was asked for, also on a refusal; at is a byte of the record's response
@@ -864,22 +871,22 @@ static inline struct tb_verdict tb_verdict_of(struct tb_judged judged) {
 
 /* Judges the record at a place. Links and rands play no part. The codes are 15, also where there is
  * no such record, 16, 14 and 1 to 13. */
-struct tb_judged tb_judge(const uint8_t *pile, size_t pile_len, const uint8_t *answers,
-                          size_t answers_len, size_t place);
+struct tb_judged tb_judge(const uint8_t *pile, tb_size pile_len, const uint8_t *answers,
+                          tb_size answers_len, tb_size place);
 
 /* The same with no answers lent: the signatures are verified by tb_answers of the key that stands
  * in the record, last, and only where no other code applies. 15 is about the pile's length and the
  * place alone. */
-struct tb_judged tb_judge_signed(const uint8_t *pile, size_t pile_len, size_t place);
+struct tb_judged tb_judge_signed(const uint8_t *pile, tb_size pile_len, tb_size place);
 
 /* Whether the record at a place is linked to the one before it. It is not where that cannot be
  * asked: the pile is not 1 to 16 whole records, there is no such record or none before it, the
  * length of its request or of the response before is above 2,000, or its request is bad. */
-bool tb_linked(const uint8_t *pile, size_t pile_len, size_t place);
+bool tb_linked(const uint8_t *pile, tb_size pile_len, tb_size place);
 
 /* Whether the rand of the first record is all zero. It is not where the pile is not 1 to 16 whole
  * records. */
-bool tb_first_rand_zero(const uint8_t *pile, size_t pile_len);
+bool tb_first_rand_zero(const uint8_t *pile, tb_size pile_len);
 
 /* Whether what a server said earlier contradicts what was said later: earlier_midp - earlier_radi
  * is above later_midp + later_radi, in whole numbers that neither wrap nor stop. mint, maxt and the
@@ -892,8 +899,8 @@ bool tb_contradicts(uint64_t earlier_midp, uint32_t earlier_radi, uint64_t later
  * true. 18 says that no two do, and 15 that the pile or its answers are not what they must be. It
  * goes through the records once. Links and rands play no part, nor do bad records between the two:
  * 0 does not say that a run convicts by itself. */
-uint32_t tb_pile_contradicts(const uint8_t *pile, size_t pile_len, const uint8_t *answers,
-                             size_t answers_len);
+uint32_t tb_pile_contradicts(const uint8_t *pile, tb_size pile_len, const uint8_t *answers,
+                             tb_size answers_len);
 
 /* What is kept of windows that are judged as they come: the largest midp - radi so far, which stops
  * at 0, and 0 before any. It is the caller's, and can be copied and kept. Whatever number it holds,
@@ -934,12 +941,12 @@ struct tb_reported {
  * closest together, and of those as close the first.
  * The codes are 15; then, of the first record that is not valid, 16, 14 or 1 to 13; then 17, of the
  * first record that is not linked, or of record 0 where its rand is not zero; then 18. */
-struct tb_reported tb_check_report(const uint8_t *pile, size_t pile_len, const uint8_t *answers,
-                                   size_t answers_len);
+struct tb_reported tb_check_report(const uint8_t *pile, tb_size pile_len, const uint8_t *answers,
+                                   tb_size answers_len);
 
 /* The same with no answers lent: each record as tb_judge_signed judges it. Whose keys stand in the
  * records is for the caller to look at: anybody can make a report with keys of his own. */
-struct tb_reported tb_check_signed_report(const uint8_t *pile, size_t pile_len);
+struct tb_reported tb_check_signed_report(const uint8_t *pile, tb_size pile_len);
 
 /* Which run was cut: the places in the pile of its first and last record. */
 struct tb_cut {
@@ -954,12 +961,13 @@ struct tb_cut {
  * Writes the run's (last - first + 1) * TB_RECORD_LENGTH bytes, with the rand of its first record
  * set to zero, so that with the answers of its records it is a report. out must be as long as the
  * pile, however short the run is. The codes are 15, 19 and 18. */
-struct tb_cut tb_cut_run(const uint8_t *pile, size_t pile_len, const uint8_t *answers,
-                         size_t answers_len, uint8_t *out, size_t out_len);
+struct tb_cut tb_cut_run(const uint8_t *pile, tb_size pile_len, const uint8_t *answers,
+                         tb_size answers_len, uint8_t *out, tb_size out_len);
 
 /* The same with no answers lent: each record as tb_judge_signed judges it, so that what is written
  * is a report by tb_check_signed_report, with nothing beside it. */
-struct tb_cut tb_cut_signed_run(const uint8_t *pile, size_t pile_len, uint8_t *out, size_t out_len);
+struct tb_cut tb_cut_signed_run(const uint8_t *pile, tb_size pile_len, uint8_t *out,
+                                tb_size out_len);
 
 /* ---- Reports as JSON ----
  *
@@ -990,8 +998,8 @@ struct tb_records {
  * Names are compared, and base64 is read, after unescaping. Members that are not named here are
  * passed over, repeated or not; so is a rand in the first entry, whose record has zeros for it. A
  * packet may have no bytes. */
-struct tb_records tb_read_report(const uint8_t *text, size_t text_len, uint8_t *out,
-                                 size_t out_len);
+struct tb_records tb_read_report(const uint8_t *text, tb_size text_len, uint8_t *out,
+                                 tb_size out_len);
 
 /* How long the text is; beside a code, the place of the record that is to blame for it, and the
  * byte of its packet, as tb_check_report tells them. */
@@ -1006,12 +1014,12 @@ struct tb_published {
  * request, response, and no rand in the first entry. out of TB_LONGEST_REPORT bytes is always long
  * enough. What tb_read_report makes of the text is the pile again. The codes are those of
  * tb_check_report, and then 19. */
-struct tb_published tb_write_report(const uint8_t *pile, size_t pile_len, const uint8_t *answers,
-                                    size_t answers_len, uint8_t *out, size_t out_len);
+struct tb_published tb_write_report(const uint8_t *pile, tb_size pile_len, const uint8_t *answers,
+                                    tb_size answers_len, uint8_t *out, tb_size out_len);
 
 /* The same with no answers lent: the codes are those of tb_check_signed_report, and then 19. */
-struct tb_published tb_write_signed_report(const uint8_t *pile, size_t pile_len, uint8_t *out,
-                                           size_t out_len);
+struct tb_published tb_write_signed_report(const uint8_t *pile, tb_size pile_len, uint8_t *out,
+                                           tb_size out_len);
 
 /* The places of the run's first and last record in the text, and how long the run's own text is. */
 struct tb_forwarded {
@@ -1025,12 +1033,12 @@ struct tb_forwarded {
  * convicts by itself out of its records as tb_cut_run does, and writes that run's text. The answers
  * are two a record of the text. The codes are 24 and 25, 15 for the answers, 18, and 19 for the
  * text. The records stand on the stack meanwhile: TB_TEXT_STACK. */
-struct tb_forwarded tb_cut_text(const uint8_t *text, size_t text_len, const uint8_t *answers,
-                                size_t answers_len, uint8_t *out, size_t out_len);
+struct tb_forwarded tb_cut_text(const uint8_t *text, tb_size text_len, const uint8_t *answers,
+                                tb_size answers_len, uint8_t *out, tb_size out_len);
 
 /* The same with no answers lent. */
-struct tb_forwarded tb_cut_signed_text(const uint8_t *text, size_t text_len, uint8_t *out,
-                                       size_t out_len);
+struct tb_forwarded tb_cut_signed_text(const uint8_t *text, tb_size text_len, uint8_t *out,
+                                       tb_size out_len);
 
 /* ---- The measuring walk ----
  *
@@ -1134,22 +1142,22 @@ struct tb_took {
  * other, the inputs or the pile: call those instead. */
 uint32_t tb_walk_start_fields(uint8_t keys[256], uint64_t *count, uint64_t *step, uint8_t nonce[32],
                               uint8_t rand[32], uint64_t *last, uint64_t *most,
-                              const uint8_t *servers, size_t servers_len, const uint8_t first[32],
-                              uint64_t longest, const uint8_t *pile, size_t pile_len);
+                              const uint8_t *servers, tb_size servers_len, const uint8_t first[32],
+                              uint64_t longest, const uint8_t *pile, tb_size pile_len);
 struct tb_asked tb_walk_ask_fields(const uint8_t keys[256], uint64_t count, uint64_t step,
                                    const uint8_t nonce[32], const uint8_t rand[32], uint64_t last,
-                                   uint64_t most, uint8_t *out, size_t out_len);
+                                   uint64_t most, uint8_t *out, tb_size out_len);
 struct tb_took tb_walk_take_fields(const uint8_t keys[256], uint64_t count, uint64_t *step,
                                    uint8_t nonce[32], uint8_t rand[32], uint64_t *last,
                                    uint64_t most, uint32_t delegation, uint32_t signature,
                                    uint64_t sent, uint64_t received, const uint8_t next[32],
-                                   const uint8_t *response, size_t response_len, uint8_t *pile,
-                                   size_t pile_len);
+                                   const uint8_t *response, tb_size response_len, uint8_t *pile,
+                                   tb_size pile_len);
 struct tb_took tb_walk_take_signed_fields(const uint8_t keys[256], uint64_t count, uint64_t *step,
                                           uint8_t nonce[32], uint8_t rand[32], uint64_t *last,
                                           uint64_t most, uint64_t sent, uint64_t received,
                                           const uint8_t next[32], const uint8_t *response,
-                                          size_t response_len, uint8_t *pile, size_t pile_len);
+                                          tb_size response_len, uint8_t *pile, tb_size pile_len);
 
 /* Starts a walk over the servers with these long-term keys, 32 bytes each, in their order, from a
  * nonce of the caller's. longest is the longest delay in seconds that a response may take. Nothing
@@ -1157,8 +1165,8 @@ struct tb_took tb_walk_take_signed_fields(const uint8_t keys[256], uint64_t coun
  * the pile has under two records a server. On a refusal the state stays as it was. One of zeros is
  * no walk: every call on it is refused with 28. */
 static inline uint32_t tb_walk_start(struct tb_walk *walk, const uint8_t *servers,
-                                     size_t servers_len, const uint8_t nonce[32], uint64_t longest,
-                                     const uint8_t *pile, size_t pile_len) {
+                                     tb_size servers_len, const uint8_t nonce[32], uint64_t longest,
+                                     const uint8_t *pile, tb_size pile_len) {
     return tb_walk_start_fields(walk->keys, &walk->count, &walk->step, walk->nonce, walk->rand,
                                 &walk->last, &walk->most, servers, servers_len, nonce, longest,
                                 pile, pile_len);
@@ -1168,7 +1176,7 @@ static inline uint32_t tb_walk_start(struct tb_walk *walk, const uint8_t *server
  * TB_REQUEST_LENGTH bytes. Nothing else changes, so that asking again gives the same. The codes are
  * 28 and 19. */
 static inline struct tb_asked tb_walk_ask(const struct tb_walk *walk, uint8_t *out,
-                                          size_t out_len) {
+                                          tb_size out_len) {
     return tb_walk_ask_fields(walk->keys, walk->count, walk->step, walk->nonce, walk->rand,
                               walk->last, walk->most, out, out_len);
 }
@@ -1182,7 +1190,7 @@ static inline struct tb_asked tb_walk_ask(const struct tb_walk *walk, uint8_t *o
 static inline struct tb_took tb_walk_take(struct tb_walk *walk, uint32_t delegation,
                                           uint32_t signature, uint64_t sent, uint64_t received,
                                           const uint8_t rand[32], const uint8_t *response,
-                                          size_t response_len, uint8_t *pile, size_t pile_len) {
+                                          tb_size response_len, uint8_t *pile, tb_size pile_len) {
     return tb_walk_take_fields(walk->keys, walk->count, &walk->step, walk->nonce, walk->rand,
                                &walk->last, walk->most, delegation, signature, sent, received, rand,
                                response, response_len, pile, pile_len);
@@ -1193,8 +1201,8 @@ static inline struct tb_took tb_walk_take(struct tb_walk *walk, uint32_t delegat
  * is verified where another code than 12 and 13 refuses. */
 static inline struct tb_took tb_walk_take_signed(struct tb_walk *walk, uint64_t sent,
                                                  uint64_t received, const uint8_t rand[32],
-                                                 const uint8_t *response, size_t response_len,
-                                                 uint8_t *pile, size_t pile_len) {
+                                                 const uint8_t *response, tb_size response_len,
+                                                 uint8_t *pile, tb_size pile_len) {
     return tb_walk_take_signed_fields(walk->keys, walk->count, &walk->step, walk->nonce, walk->rand,
                                       &walk->last, walk->most, sent, received, rand, response,
                                       response_len, pile, pile_len);
@@ -1381,6 +1389,49 @@ struct tb_old {
  * are all read as the next midnight before RADI is applied.
  * The code is 29, where the day is under 40587 or the microseconds are 86,401,000,000 or more. */
 struct tb_old tb_old_window(uint64_t midp, uint32_t radi);
+
+/* ---- Layouts ----
+ *
+ * The library was compiled for structs of these sizes, in which a number of 64 bits stands at a
+ * multiple of 8. A compiler that lays them out otherwise refuses this header. */
+
+#if defined(__cplusplus) && __cplusplus >= 201103L
+#define TB_HOLDS(what) static_assert(what, #what)
+#elif defined(__STDC_VERSION__) && __STDC_VERSION__ >= 201112L
+#define TB_HOLDS(what) _Static_assert(what, #what)
+#else
+#define TB_HOLDS(what) extern char tb_holds[(what) ? 1 : -1]
+#endif
+
+TB_HOLDS(offsetof(struct tb_wrote, at) == 8);
+TB_HOLDS(sizeof(struct tb_running) == 200);
+TB_HOLDS(sizeof(struct tb_request) == 80);
+TB_HOLDS(sizeof(struct tb_response) == 96);
+TB_HOLDS(sizeof(struct tb_wrote) == 24);
+TB_HOLDS(sizeof(struct tb_parts) == 176);
+TB_HOLDS(sizeof(struct tb_verdict) == 88);
+TB_HOLDS(sizeof(struct tb_rooted) == 40);
+TB_HOLDS(sizeof(struct tb_placed) == 12);
+TB_HOLDS(sizeof(struct tb_laid) == 16);
+TB_HOLDS(sizeof(struct tb_batch) == 24);
+TB_HOLDS(sizeof(struct tb_found) == 16);
+TB_HOLDS(sizeof(struct tb_servers) == 24);
+TB_HOLDS(sizeof(struct tb_addressed) == 16);
+TB_HOLDS(sizeof(struct tb_judged) == 96);
+TB_HOLDS(sizeof(struct tb_tally) == 8);
+TB_HOLDS(sizeof(struct tb_reported) == 40);
+TB_HOLDS(sizeof(struct tb_cut) == 24);
+TB_HOLDS(sizeof(struct tb_records) == 16);
+TB_HOLDS(sizeof(struct tb_published) == 32);
+TB_HOLDS(sizeof(struct tb_forwarded) == 32);
+TB_HOLDS(sizeof(struct tb_walk) == 352);
+TB_HOLDS(sizeof(struct tb_asked) == 48);
+TB_HOLDS(sizeof(struct tb_took) == 80);
+TB_HOLDS(sizeof(struct tb_clock) == 648);
+TB_HOLDS(sizeof(struct tb_time) == 48);
+TB_HOLDS(sizeof(struct tb_old) == 24);
+
+#undef TB_HOLDS
 
 #ifdef __cplusplus
 }
