@@ -22,7 +22,8 @@ pub type tb_size = usize;
 pub type tb_size = u64;
 
 /// A length or a place of Rust's, as the library takes it. No machine has more bits than are kept.
-pub(crate) const fn size(number: usize) -> tb_size {
+#[must_use]
+pub const fn size(number: usize) -> tb_size {
     number as tb_size
 }
 
