@@ -48,7 +48,7 @@ const CHECKS: [Check; 10] = [
     check("statements", "", statements::check,
         "docs/STATEMENTS.md has each wrong program and each theorem of uniqueness"),
     check("codes", "[--write]", codes::check,
-        "the header and the Rust host have the table of refusal codes"),
+        "the header and the hosts have the table of refusal codes"),
     check("edits", "", edits::check,
         "the wrong programs fit the files that they change"),
     check("versions", "[--write]", versions::check,
