@@ -10,7 +10,9 @@ mod counts;
 mod edits;
 mod links;
 mod markdown;
+mod pages;
 mod poke;
+mod prose;
 mod refusals;
 mod report;
 mod rules;
@@ -44,7 +46,7 @@ const fn check(
 }
 
 #[rustfmt::skip] // a table
-const CHECKS: [Check; 10] = [
+const CHECKS: [Check; 11] = [
     check("statements", "", statements::check,
         "docs/STATEMENTS.md has each wrong program and each theorem of uniqueness"),
     check("codes", "[--write]", codes::check,
@@ -55,6 +57,8 @@ const CHECKS: [Check; 10] = [
         "the version is VERSION's wherever it stands"),
     check("links", "[FOLDER]", links::check,
         "relative links of the documents, or of all below FOLDER, lead somewhere"),
+    check("pages", "", pages::check,
+        "README is short, and the sentences of all pages and of the header are"),
     check("rules", "", rules::check,
         "docs/RULES.md has what is cited of the customer's papers"),
     check("refusals", "[--write] SAID", refusals::check,
