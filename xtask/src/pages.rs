@@ -2,8 +2,7 @@
 //! 40 words, those of a page have at most 25 on average, and a line of prose ends at 100 columns.
 //! The comments of the header are a page, too.
 
-use crate::markdown::columns;
-use crate::prose::{of_header, of_markdown, Sentence};
+use crate::prose::{of_header, of_markdown, Prose, Sentence};
 use crate::report::{at, no_words, unless, Verdict};
 use crate::scan::numbered;
 use crate::tree::Tree;
@@ -23,14 +22,14 @@ pub fn check(tree: &Tree, words: &[&str]) -> Verdict {
     let mut held = Vec::new();
     for page in pages(tree) {
         let text = tree.read(&page)?;
-        let sentences = if page == HEADER { of_header(&text) } else { of_markdown(&text) };
+        let prose = if page == HEADER { of_header(&text) } else { of_markdown(&text) };
         if page == README && text.lines().count() > MOST_LINES {
             let found = format!("has {} lines, above {MOST_LINES}", text.lines().count());
             problems.push(format!("{page}: {found}"));
         }
-        problems.extend(long_lines(&page, &text));
-        problems.extend(winding(&page, &sentences));
-        held.extend(sentences);
+        problems.extend(long_lines(&page, &text, &prose));
+        problems.extend(winding(&page, &prose.sentences));
+        held.extend(prose.sentences);
     }
     let longest = held.iter().map(|sentence| sentence.words).max().unwrap_or(0);
     let said = format!(
@@ -55,10 +54,10 @@ fn pages(tree: &Tree) -> Vec<String> {
     pages
 }
 
-/// The lines that are too long, but for rows of tables and for pictures.
-fn long_lines(page: &str, text: &str) -> Vec<String> {
+/// The lines of prose that are too long.
+fn long_lines(page: &str, text: &str, prose: &Prose) -> Vec<String> {
     let long = numbered(text).filter(|(_, line)| line.chars().count() > MOST_COLUMNS);
-    let long = long.filter(|(_, line)| columns(line).is_empty() && !line.starts_with("!["));
+    let long = long.filter(|(number, _)| prose.lines.contains(number));
     long.map(|(number, _)| at(page, number, "goes past 100 columns")).collect()
 }
 
@@ -146,11 +145,11 @@ mod tests {
     }
 
     #[test]
-    fn a_line_past_100_columns_is_found_but_in_tables() {
+    fn a_line_past_100_columns_is_found_but_in_tables_and_code() {
         let scratch = right();
         let long = "é".repeat(101);
-        scratch.put("docs/GUIDE.md", &format!("| {long} |\n\nWords.\n{long}\n"));
-        assert_eq!(found(check(&scratch.tree(), &[])), ["docs/GUIDE.md:4: goes past 100 columns"]);
+        scratch.put("docs/GUIDE.md", &format!("| {long} |\n\n    {long}\n\nWords.\n{long}\n"));
+        assert_eq!(found(check(&scratch.tree(), &[])), ["docs/GUIDE.md:6: goes past 100 columns"]);
     }
 
     #[test]

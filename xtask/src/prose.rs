@@ -5,6 +5,13 @@
 //! have none. A word is what blanks divide, where it has a letter or a digit.
 
 use crate::scan::numbered;
+use std::collections::BTreeSet;
+
+/// What is prose of a page: its sentences, and the numbers of its lines.
+pub struct Prose {
+    pub sentences: Vec<Sentence>,
+    pub lines: BTreeSet<usize>,
+}
 
 pub struct Sentence {
     pub line: usize,
@@ -34,13 +41,15 @@ impl<'a> Paragraphs<'a> {
         }
     }
 
-    fn sentences(mut self) -> Vec<Sentence> {
+    fn prose(mut self) -> Prose {
         self.end();
-        self.ended.iter().flat_map(|words| sentences(words)).collect()
+        let lines = self.ended.iter().flatten().map(|(number, _)| *number).collect();
+        let sentences = self.ended.iter().flat_map(|words| sentences(words)).collect();
+        Prose { sentences, lines }
     }
 }
 
-pub fn of_markdown(text: &str) -> Vec<Sentence> {
+pub fn of_markdown(text: &str) -> Prose {
     let mut found = Paragraphs::default();
     let mut fenced = false;
     for (number, line) in numbered(text) {
@@ -51,7 +60,7 @@ pub fn of_markdown(text: &str) -> Vec<Sentence> {
             markdown_line(&mut found, number, line);
         }
     }
-    found.sentences()
+    found.prose()
 }
 
 fn markdown_line<'a>(found: &mut Paragraphs<'a>, number: usize, line: &'a str) {
@@ -98,7 +107,7 @@ fn behind_mark(line: &str) -> Option<&str> {
 /// The comments of a header, from `/*` to `*/`. Each is a paragraph of its own, and so is each part
 /// of it behind an empty line or a mark of a list. Lines that are set in by four blanks or more and
 /// go on with no paragraph are code, as in Markdown.
-pub fn of_header(text: &str) -> Vec<Sentence> {
+pub fn of_header(text: &str) -> Prose {
     let mut found = Paragraphs::default();
     let mut inside = false;
     for (number, line) in numbered(text) {
@@ -117,7 +126,7 @@ pub fn of_header(text: &str) -> Vec<Sentence> {
             found.end();
         }
     }
-    found.sentences()
+    found.prose()
 }
 
 /// The text of a line of a comment, and whether the comment ends in it. The `/` alone is what is
@@ -166,8 +175,8 @@ fn start(words: &[Word]) -> String {
 mod tests {
     use super::*;
 
-    fn counts(sentences: &[Sentence]) -> Vec<(usize, usize)> {
-        sentences.iter().map(|sentence| (sentence.line, sentence.words)).collect()
+    fn counts(prose: &Prose) -> Vec<(usize, usize)> {
+        prose.sentences.iter().map(|sentence| (sentence.line, sentence.words)).collect()
     }
 
     #[test]
@@ -175,7 +184,7 @@ mod tests {
         let text = "One two. Three (four.) **Five!** Six?\nseven\n\neight 0.9 tb_.. ten:\n";
         let due = [(1, 2), (1, 2), (1, 1), (1, 1), (2, 1), (4, 4)];
         assert_eq!(counts(&of_markdown(text)), due);
-        assert_eq!(of_markdown("A b c d e f g h i.")[0].start, "A b c d e f g");
+        assert_eq!(of_markdown("A b c d e f g h i.").sentences[0].start, "A b c d e f g");
     }
 
     #[test]
@@ -189,6 +198,7 @@ mod tests {
         let text = "# One\n\n    code\n\n```c\ncode\n```\n| a | b |\n![words here](x.svg)\n\
             <!-- bench: x -->\ntwo three\n<!-- bench: y --> four\n";
         assert_eq!(counts(&of_markdown(text)), [(11, 2), (12, 1)]);
+        assert_eq!(of_markdown(text).lines, BTreeSet::from([11, 12]));
     }
 
     #[test]
