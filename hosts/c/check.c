@@ -2301,7 +2301,7 @@ int main(void) {
         printf("the C host: %d of %d comparisons differ\n", differing, compared);
         return 1;
     }
-    /* xtask counts holds README's table to this line. */
+    /* xtask counts holds the table of docs/PROVED.md to this line. */
     printf("counted: %d comparisons from C with what the header says\n", compared);
     return fflush(stdout) == 0 ? 0 : 1;
 }
