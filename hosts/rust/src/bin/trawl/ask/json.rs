@@ -53,12 +53,13 @@ impl Measured<'_> {
         let counted = self.time.as_ref().map_or(0, |time| time.counted);
         let found = self.walked.contradictions.iter().map(|found| self.found(found));
         let members = [
-            ("status", self.ended().status().to_string()),
+            ("status", self.status().to_string()),
             ("time", or_null(time)),
             ("refused", or_null(why)),
             ("mayLie", liars.to_string()),
             ("counted", counted.to_string()),
             ("exact", exact.to_string()),
+            ("machine", number(self.machine)),
             ("thereAfter", or_null(self.there.map(|there| number(there.as_micros() as u64)))),
             ("took", number(self.took.as_micros() as u64)),
             ("servers", list(servers)),

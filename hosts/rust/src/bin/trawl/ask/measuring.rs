@@ -7,7 +7,7 @@ use super::moment::Moment;
 use super::told::{middle, Measured};
 use super::walking::{self, Walked};
 use crate::output;
-use std::time::Duration;
+use std::time::{Duration, SystemTime, UNIX_EPOCH};
 use trawlbeacon::FEWEST_SERVERS;
 
 /// How long all are waited for before the walk begins without the silent: one try by UDP, and one by
@@ -38,14 +38,15 @@ pub fn measure<'a>(
     going.gather(within)?;
     let walked = going.walk()?;
     let (there, asker) = (going.there, going.asker);
-    Ok(Measured {
-        time: asker.time(),
-        asker,
-        walked,
-        there,
-        took: start.until(Moment::now()),
-        reports,
-    })
+    let (time, machine) = (asker.time(), machine());
+    let took = start.until(Moment::now());
+    Ok(Measured { asker, time, machine, walked, there, took, reports, unwritten: false })
+}
+
+/// The machine's own date, in microseconds since 1970, and 0 where it is before that.
+fn machine() -> u64 {
+    let since = SystemTime::now().duration_since(UNIX_EPOCH).unwrap_or_default();
+    u64::try_from(since.as_micros()).unwrap_or(u64::MAX)
 }
 
 impl Going<'_> {
@@ -53,12 +54,11 @@ impl Going<'_> {
     fn gather(&mut self, within: Duration) -> Result<(), Halt> {
         let grace = self.start.after(GRACE.min(within / 4));
         while !self.until.is_past() && self.asker.answered() < self.asker.servers.len() {
-            let enough = self.asker.answered() >= FEWEST_SERVERS;
-            if enough && grace.is_past() {
+            if grace.is_past() && self.asker.answered() >= FEWEST_SERVERS {
                 break;
             }
-            self.asker.next(if enough { grace } else { self.until })?;
-            self.tell();
+            self.asker.next(if grace.is_past() { self.until } else { grace })?;
+            self.tell(grace.is_past());
         }
         Ok(())
     }
@@ -67,19 +67,22 @@ impl Going<'_> {
         walking::walk(self.asker, self.until)
     }
 
-    /// Tells the time as soon as it is there.
-    fn tell(&mut self) {
+    /// Tells the time as soon as it is there: one of which no end can be a liar's, or what there is
+    /// where others are waited for.
+    fn tell(&mut self, waiting: bool) {
         let Ok(time) = self.asker.time() else { return };
-        if self.there.is_some() || !time.is_exact(self.asker.liars()) {
+        if self.there.is_some() || !(waiting || time.is_exact(self.asker.liars())) {
             return;
         }
         let there = self.start.until(Moment::now());
         self.there = Some(there);
         if self.aloud {
             let (middle, radius) = middle(&time);
-            let (after, about) = (took(there), seconds_up(radius));
-            let middle = fine(middle);
-            output::say(&format!("after {after} it is {middle} UTC, give or take {about}"));
+            let by = format!("{} of {}", self.asker.answered(), self.asker.servers.len());
+            let (after, middle, about) = (took(there), fine(middle), seconds_up(radius));
+            output::say(&format!(
+                "after {after} it is {middle} UTC, give or take {about}, by {by}"
+            ));
         }
     }
 }

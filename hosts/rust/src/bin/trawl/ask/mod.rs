@@ -31,18 +31,16 @@ use watching::Watch;
 
 pub fn run(flags: &Flags) -> Result<Ended, Stop> {
     let wanted = Wanted::of(flags)?;
+    let folder = flags.reports.clone().unwrap_or_default();
+    if flags.reports.is_some() && !folder.is_dir() {
+        return Err(Stop::file(&folder, "it is no folder, and --reports takes one"));
+    }
     let Chosen { servers, reports, notes } = choosing::choose(Path::new(&flags.words[0]), &wanted)?;
     notes.iter().for_each(|note| output::say(note));
     // Before any thread is started, so that all of them leave signals alone.
     let watch = wanted.watch.map(Watch::new);
     let mut asker = Asker::new(servers)?;
-    let mut session = Session {
-        flags,
-        wanted,
-        folder: flags.reports.clone().unwrap_or_default(),
-        reports,
-        kept: Kept::default(),
-    };
+    let mut session = Session { flags, wanted, folder, reports, kept: Kept::default(), count: 0 };
     let Some(watch) = watch else {
         return match session.measure(&mut asker) {
             Ok(ended) => Ok(ended),
@@ -62,20 +60,28 @@ struct Session<'a> {
     /// Where they may be sent.
     reports: Option<String>,
     kept: Kept,
+    /// How many measurements were printed.
+    count: usize,
 }
 
 impl Session<'_> {
     /// Measures once, and prints what it came to. What could not be written is told last, so that
     /// nobody lacks the time for it.
     fn measure(&mut self, asker: &mut Asker) -> Result<Ended, Halt> {
-        let (within, aloud) = (self.wanted.within, !self.flags.json);
+        let (within, aloud) = (self.wanted.within, !self.flags.json && self.count == 0);
         let mut measured = measuring::measure(asker, within, aloud, self.reports.as_deref())?;
         let mut unwritten = None;
         for found in &mut measured.walked.contradictions {
             unwritten = self.kept.keep(&self.folder, found).err().or(unwritten);
         }
-        let said = if self.flags.json { measured.json() } else { measured.lines() };
+        measured.unwritten = unwritten.is_some();
+        let said = match (self.flags.json, self.count) {
+            (true, _) => measured.json(),
+            (false, 0) => measured.lines(),
+            (false, _) => format!("\n{}", measured.lines()),
+        };
         output::print(said.as_bytes())?;
+        self.count += 1;
         if let Some(remedy) = measured.remedy() {
             output::say(&format!("no time: {remedy}"));
         }

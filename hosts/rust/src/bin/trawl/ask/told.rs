@@ -5,19 +5,23 @@ use super::dates::{fine, fine_up, seconds_up, took, whole};
 use super::proof::Contradiction;
 use super::walking::{WalkEnded, Walked};
 use crate::names;
-use crate::status::Ended;
+use crate::status::{Ended, Stop};
 use std::time::Duration;
 use trawlbeacon::{Refusal, Time, FEWEST_SERVERS};
 
 pub struct Measured<'a> {
     pub asker: &'a Asker,
     pub time: Result<Time, Refusal>,
+    /// What the machine's own clock says beside it, in microseconds since 1970.
+    pub machine: u64,
     pub walked: Walked,
     /// After how long the time was there, if it was.
     pub there: Option<Duration>,
     pub took: Duration,
     /// Where reports may be sent.
     pub reports: Option<&'a str>,
+    /// Whether a report could not be written.
+    pub unwritten: bool,
 }
 
 /// A number and what it counts.
@@ -45,6 +49,15 @@ impl Measured<'_> {
             Err(_) => Ended::NoTime,
             Ok(_) if self.is_contradicted() => Ended::Contradicted,
             Ok(_) => Ended::Done,
+        }
+    }
+
+    /// The status of the program, if it ends with this.
+    pub fn status(&self) -> u8 {
+        if self.unwritten {
+            Stop::Failed(String::new()).status()
+        } else {
+            self.ended().status()
         }
     }
 
@@ -98,7 +111,20 @@ impl Measured<'_> {
         lines.push(("agree", agree.unwrap_or_else(|| "none".to_string())));
         lines.push(("suspect", suspects.unwrap_or_else(|| "none".to_string())));
         lines.push(("counted", self.counted(time)));
+        lines.push(("machine", self.machine(time)));
         lines
+    }
+
+    /// What the machine's own clock says, which plays no part in it.
+    fn machine(&self, time: &Time) -> String {
+        let off = if self.machine < time.low {
+            format!("{} before that", seconds_up(time.low - self.machine))
+        } else if self.machine > time.high {
+            format!("{} after that", seconds_up(self.machine - time.high))
+        } else {
+            "between the two".to_string()
+        };
+        format!("{} UTC by its own clock, {off}", fine(self.machine))
     }
 
     /// How far the time is to be believed.
@@ -186,7 +212,8 @@ impl Measured<'_> {
         let (answered, asked) = (self.asker.answered(), self.asker.servers.len());
         Some(match why {
             Refusal::TooFew if answered == 0 => {
-                let failure = self.asker.servers[0].tally.lock().failure.clone();
+                let mut servers = self.asker.servers.iter();
+                let failure = servers.find_map(|server| server.tally.lock().failure.clone());
                 let failure = failure.map_or(String::new(), |why| format!(" ({why})"));
                 format!(
                     "no server answers{failure}; is there a network, and is the list a new one?"

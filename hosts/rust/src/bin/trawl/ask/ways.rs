@@ -2,6 +2,7 @@
 
 use crate::names::plain;
 use crate::status::reason;
+use std::collections::HashMap;
 use std::net::{SocketAddr, ToSocketAddrs};
 use trawlbeacon::{Address, Protocol};
 
@@ -30,18 +31,27 @@ impl Way {
 /// take as long as the system takes to resolve a name.
 pub fn of(addresses: &[Address]) -> Result<Vec<Way>, String> {
     let (mut ways, mut why) = (Vec::new(), "the list has no address of it".to_string());
+    // By UDP and TCP a server has the same name as a rule, and that is looked up once.
+    let mut looked_up: HashMap<&str, Result<Vec<SocketAddr>, String>> = HashMap::new();
     for Address { protocol, host_and_port } in addresses {
-        match host_and_port.to_socket_addrs() {
-            Ok(found) => ways.extend(
-                found.take(MOST_OF_A_NAME).map(|address| Way { protocol: *protocol, address }),
-            ),
-            Err(error) => why = format!("{}: {}", plain(host_and_port), reason(error)),
+        let found = looked_up.entry(host_and_port).or_insert_with(|| resolved(host_and_port));
+        match found {
+            Ok(found) => {
+                ways.extend(found.iter().map(|at| Way { protocol: *protocol, address: *at }));
+            }
+            Err(error) => why = error.clone(),
         }
     }
     if ways.is_empty() {
         return Err(why);
     }
     Ok(in_turn(ways))
+}
+
+fn resolved(host_and_port: &str) -> Result<Vec<SocketAddr>, String> {
+    let found = host_and_port.to_socket_addrs();
+    let found = found.map_err(|error| format!("{}: {}", plain(host_and_port), reason(error)))?;
+    Ok(found.take(MOST_OF_A_NAME).collect())
 }
 
 /// UDP first, and where no answer comes TCP (section 5): one of each in turn, since whatever keeps

@@ -71,6 +71,8 @@ pub struct Worker {
     /// The place of the way that is next.
     turn: usize,
     backoff: Backoff,
+    /// A job that came while another one was done.
+    newer: Option<Job>,
 }
 
 impl Worker {
@@ -82,13 +84,13 @@ impl Worker {
         events: Sender<Event>,
     ) -> Worker {
         let (ways, backoff) = (Vec::new(), Backoff::default());
-        Worker { server, key, addresses, tally, events, ways, turn: 0, backoff }
+        Worker { server, key, addresses, tally, events, ways, turn: 0, backoff, newer: None }
     }
 
     /// Does one job after the other, until nobody wants to know of them.
     pub fn run(mut self, jobs: &Receiver<Job>) {
-        for job in jobs {
-            let heard = self.exchange(&job);
+        while let Some(job) = self.newer.take().or_else(|| jobs.recv().ok()) {
+            let heard = self.exchange(&job, jobs);
             let done = Event::Done { server: self.server, ticket: job.ticket, heard };
             if self.events.send(done).is_err() {
                 break;
@@ -96,17 +98,22 @@ impl Worker {
         }
     }
 
-    /// Sends the request until it is answered: each time after a longer wait, and the next way.
-    fn exchange(&mut self, job: &Job) -> Option<Heard> {
+    /// Sends the request until it is answered: each time after a longer wait, and the next way. Where
+    /// another one waits, this one is not sent any more: a server that comes back is not to be asked
+    /// all at once what it was not before.
+    fn exchange(&mut self, job: &Job, jobs: &Receiver<Job>) -> Option<Heard> {
         let (mut lines, mut sent) = (Vec::new(), None);
         loop {
             let may = self.backoff.next().min(job.until);
             if let Some(heard) = self.listen(job, sent, &mut lines, may) {
                 return Some(heard);
             }
+            self.newer = jobs.try_iter().last();
             if job.until.is_past() {
                 // Its addresses may be others by now.
                 self.ways.clear();
+            }
+            if self.newer.is_some() || job.until.is_past() {
                 return None;
             }
             self.resolve();
@@ -125,7 +132,7 @@ impl Worker {
             return;
         }
         match ways::of(&self.addresses) {
-            Ok(ways) => (self.ways, self.turn) = (ways, 0),
+            Ok(ways) => self.ways = ways,
             Err(why) => self.tally.lock().failure = Some(why),
         }
     }
