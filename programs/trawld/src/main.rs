@@ -12,6 +12,7 @@ mod delegation;
 mod ending;
 mod fields;
 mod figures;
+#[path = "../../../hosts/rust/shared/frame.rs"]
 mod frame;
 mod grease;
 mod hex;
@@ -27,6 +28,7 @@ mod secret_file;
 mod serve;
 mod server_list;
 mod serving;
+#[path = "../../../hosts/rust/shared/signals.rs"]
 mod signals;
 mod sockets;
 #[path = "../../../hosts/rust/shared/standard_output.rs"]
