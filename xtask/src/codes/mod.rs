@@ -1,9 +1,10 @@
 //! The refusal codes have one table, src/codes.rt of the crate that has it: their numbers, names
-//! and words. The header and the Rust host have them between two comments of a line each, "codes:
-//! begin" and "codes: end"; this fails where either says anything else, and with --write writes
-//! both anew.
+//! and words. The header and the hosts in Rust and JavaScript have them between two comments of a
+//! line each, "codes: begin" and "codes: end"; this fails where one says anything else, and with
+//! --write writes them anew.
 
 mod in_c;
+mod in_js;
 mod in_rust;
 mod lines;
 pub mod table;
@@ -21,7 +22,7 @@ struct Place {
     part: fn(&[table::Code]) -> String,
 }
 
-const PLACES: [Place; 2] = [
+const PLACES: [Place; 4] = [
     Place {
         file: "include/trawlbeacon.h",
         begin: "/* codes: begin */",
@@ -33,6 +34,18 @@ const PLACES: [Place; 2] = [
         begin: "// codes: begin",
         end: "// codes: end",
         part: in_rust::part,
+    },
+    Place {
+        file: "hosts/js/codes.js",
+        begin: "// codes: begin",
+        end: "// codes: end",
+        part: in_js::part,
+    },
+    Place {
+        file: "hosts/js/trawlbeacon.d.ts",
+        begin: "// codes: begin",
+        end: "// codes: end",
+        part: in_js::types,
     },
 ];
 
@@ -57,7 +70,7 @@ pub fn check(tree: &Tree, words: &[&str]) -> Verdict {
         }
     }
     let files: Vec<&str> = PLACES.iter().map(|place| place.file).collect();
-    let held = format!("{} codes are as in {table} in {}", codes.len(), files.join(" and "));
+    let held = format!("{} codes are as in {table} in {}", codes.len(), files.join(", "));
     unless(problems, held + &written)
 }
 
@@ -97,8 +110,9 @@ mod tests {
     fn right() -> Scratch {
         let header = "a\n/* codes: begin */\nold\n/* codes: end */\nb\n";
         let host = "a\n// codes: begin\n// codes: end\n";
-        let files =
-            [("crates/some/src/codes.rt", TABLE), (PLACES[0].file, header), (PLACES[1].file, host)];
+        let hosts = PLACES[1..].iter().map(|place| (place.file, host));
+        let first = [("crates/some/src/codes.rt", TABLE), (PLACES[0].file, header)];
+        let files: Vec<(&str, &str)> = first.into_iter().chain(hosts).collect();
         let scratch = Scratch::new(&files);
         let said = check(&scratch.tree(), &["--write"]).unwrap();
         assert!(said.contains("trawlbeacon.h is written anew"), "{said}");
@@ -134,7 +148,7 @@ mod tests {
         let scratch = right();
         let more = format!("{TABLE}\n// too short\npub const SHORT: u8 = 2;\n");
         scratch.put("crates/some/src/codes.rt", &more);
-        assert_eq!(found(check(&scratch.tree(), &[])).len(), 2);
+        assert_eq!(found(check(&scratch.tree(), &[])).len(), PLACES.len());
     }
 
     #[test]
