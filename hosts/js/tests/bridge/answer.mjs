@@ -69,7 +69,7 @@ function lay(lent) {
     placed(lent);
     for (const { at, bytes } of lent) {
         memory.fill(BESIDE, at - WATCHED, at);
-        memory.fill(BESIDE, at + bytes.length, at + bytes.length + WATCHED);
+        memory.fill(BESIDE, at + bytes.length, Math.min(at + bytes.length + WATCHED, memory.length));
         bytes.copy(memory, at);
     }
 }
