@@ -1,9 +1,10 @@
 //! The refusal codes have one table, src/codes.rt of the crate that has it: their numbers, names
-//! and words. The header and the hosts in Rust and Python have them between two comments of a line
-//! each, "codes: begin" and "codes: end"; this fails where one says anything else, and with --write
-//! writes them anew.
+//! and words. The header and the hosts in Rust, Python and JavaScript have them between two
+//! comments of a line each, "codes: begin" and "codes: end"; this fails where one says anything
+//! else, and with --write writes them anew.
 
 mod in_c;
+mod in_js;
 mod in_python;
 mod in_rust;
 mod lines;
@@ -22,7 +23,7 @@ struct Place {
     part: fn(&[table::Code]) -> String,
 }
 
-const PLACES: [Place; 3] = [
+const PLACES: [Place; 5] = [
     Place {
         file: "include/trawlbeacon.h",
         begin: "/* codes: begin */",
@@ -40,6 +41,18 @@ const PLACES: [Place; 3] = [
         begin: "# codes: begin",
         end: "# codes: end",
         part: in_python::part,
+    },
+    Place {
+        file: "hosts/js/codes.js",
+        begin: "// codes: begin",
+        end: "// codes: end",
+        part: in_js::part,
+    },
+    Place {
+        file: "hosts/js/trawlbeacon.d.ts",
+        begin: "// codes: begin",
+        end: "// codes: end",
+        part: in_js::types,
     },
 ];
 
