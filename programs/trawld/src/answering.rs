@@ -129,12 +129,13 @@ impl Answering {
     }
 
     /// The answers, with the places of their packets.
-    pub fn answers(&self) -> Vec<(usize, &[u8])> {
+    pub fn answers(&self) -> impl Iterator<Item = (usize, &[u8])> {
         let mut spoilt = self.spoilt.iter().peekable();
-        let instead = |(place, answer)| match spoilt.next_if(|(at, _)| *at == place) {
-            Some((_, other)) => (place, &other[..]),
-            None => (place, answer),
-        };
-        self.batch.answers().map(instead).collect()
+        self.batch.answers().map(move |(place, answer)| {
+            match spoilt.next_if(|(at, _)| *at == place) {
+                Some((_, other)) => (place, &other[..]),
+                None => (place, answer),
+            }
+        })
     }
 }

@@ -142,7 +142,8 @@ mod tests {
     /// No client that takes the signatures for good finds anything else wrong with these.
     #[test]
     fn a_wrong_time_has_one_bad_signature() {
-        for (form, why) in [(Form::Time, Refusal::Signature), (Form::Delegation, Refusal::Delegation)]
+        for (form, why) in
+            [(Form::Time, Refusal::Signature), (Form::Delegation, Refusal::Delegation)]
         {
             let sent = sent(form, 10);
             assert!(refused(&sent.said(), why));

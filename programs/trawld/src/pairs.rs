@@ -27,7 +27,8 @@ impl Pairs {
         let count = word(message, 0)?;
         let head = count.checked_mul(8).filter(|head| (8..=message.len()).contains(head))?;
         let values = &message[head..];
-        let starts = (0..count).map(|pair| if pair == 0 { Some(0) } else { word(message, 4 * pair) });
+        let starts =
+            (0..count).map(|pair| if pair == 0 { Some(0) } else { word(message, 4 * pair) });
         let mut starts = starts.collect::<Option<Vec<usize>>>()?;
         starts.push(values.len());
         let pair = |at: usize| {

@@ -10,8 +10,7 @@ use crate::timekeeper::Told;
 use trawlbeacon::{response_length, Reply, SigningKey, SREP_LENGTH};
 
 /// The tags that a response must have (5.2).
-pub const MANDATORY: [&Tag; 7] =
-    [b"SIG\0", b"NONC", b"TYPE", b"PATH", b"SREP", b"CERT", b"INDX"];
+pub const MANDATORY: [&Tag; 7] = [b"SIG\0", b"NONC", b"TYPE", b"PATH", b"SREP", b"CERT", b"INDX"];
 
 /// The letters of a tag.
 const LETTERS: u64 = 26;

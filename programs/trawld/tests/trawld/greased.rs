@@ -56,7 +56,8 @@ fn codes(words: &[&str]) -> [u64; 14] {
 /// A right client refuses each form by its own code, and takes the one that it must ignore.
 #[test]
 fn a_form_by_itself() {
-    let forms = [("time", 13), ("delegation", 12), ("missing", 6), ("version", 8), ("undefined", 0)];
+    let forms =
+        [("time", 13), ("delegation", 12), ("missing", 6), ("version", 8), ("undefined", 0)];
     for (form, code) in forms {
         let codes = codes(&["--grease", "1", "--grease-form", form]);
         assert_eq!(codes[code], ASKED, "{form}: {codes:?}");
