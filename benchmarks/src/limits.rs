@@ -107,6 +107,8 @@ pub const LIMITS: &[Limit] = &[
           "as runs"),
     limit("daemon", 2.0, 1.905, "an answer of trawld by an echo of a bare UDP echo",
           "asked: half as many answers as echoes at the least"),
+    limit("daemon_rate", 2.0, 1.9, "echoes a second by answers of trawld a second",
+          "asked: the same, by the clock on the wall"),
     limit("doubled", 2.5, 2.4, "twice the bytes by once the bytes",
           "nothing grows faster than the bytes; 0.5 is for caches and the clock"),
 ];

@@ -13,6 +13,10 @@ _trawld() {
         mapfile -t COMPREPLY < <(compgen -W "udp: tcp:" -- "$word")
         return
         ;;
+    --grease-form)
+        mapfile -t COMPREPLY < <(compgen -W "time delegation missing version undefined" -- "$word")
+        return
+        ;;
     --days | --from | --name | --listen | --sockets | --tcp-connections | --tcp-idle | --tcp-bytes | \
         --radius | --margin | --grease | --line)
         COMPREPLY=()
@@ -25,7 +29,7 @@ _trawld() {
     *" --server-list "*) flags="--name --address" ;;
     *)
         flags="--listen --sockets --no-tcp --tcp-connections --tcp-idle --tcp-bytes --radius --margin
-            --trust-clock --grease --metrics --line --test-clock"
+            --trust-clock --grease --grease-form --metrics --line --test-clock"
         [ "$COMP_CWORD" -gt 1 ] ||
             flags+=" --make-key --delegate --show --server-list --help --version"
         ;;

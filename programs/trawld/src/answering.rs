@@ -2,7 +2,8 @@
 
 use crate::counts::Counts;
 use crate::delegation::Delegation;
-use crate::grease::{wrong, Grease};
+use crate::grease::Grease;
+use crate::spoilt::Spoiling;
 use crate::timekeeper::{Timekeeper, Told};
 use std::sync::mpsc::Receiver;
 use std::sync::Arc;
@@ -19,7 +20,7 @@ pub struct Answering {
     keeper: Timekeeper,
     grease: Option<Grease>,
     /// Answers that stand in the place of those of the batch.
-    wrong: Vec<(usize, Vec<u8>)>,
+    spoilt: Vec<(usize, Vec<u8>)>,
 }
 
 impl Answering {
@@ -32,8 +33,8 @@ impl Answering {
     ) -> Answering {
         let (batch, key) = (delegation.batch(), delegation.seed.signing_key());
         let srv = srv_value(&delegation.long_term);
-        let wrong = Vec::new();
-        Answering { batch, counts, delegation, key, srv, newer, keeper, grease, wrong }
+        let spoilt = Vec::new();
+        Answering { batch, counts, delegation, key, srv, newer, keeper, grease, spoilt }
     }
 
     /// Between batches: takes the newest delegation that came, and looks at the clock, so that no
@@ -61,7 +62,7 @@ impl Answering {
     /// Answers what is in the batch. Where no time may be signed nothing is answered.
     pub fn answer(&mut self) {
         self.refresh();
-        self.wrong.clear();
+        self.spoilt.clear();
         let waiting = self.batch.len() as u64;
         self.counts.asked.add(waiting);
         let answered = self.time().and_then(|told| {
@@ -114,24 +115,27 @@ impl Answering {
         }
     }
 
-    /// Puts wrong answers in the place of some, where that was asked for.
+    /// Puts spoilt answers in the place of some, where that was asked for.
     fn spoil(&mut self, told: Told) {
         let Some(grease) = &mut self.grease else { return };
-        for (place, _) in self.batch.answers() {
-            let packet = self.batch.packet(place).filter(|_| grease.chooses());
-            let made = packet.and_then(|it| wrong(it, &self.delegation, &self.key, told));
-            self.wrong.extend(made.map(|answer| (place, answer)));
+        let (delegation, key) = (&self.delegation, &self.key);
+        for (place, answer) in self.batch.answers() {
+            if let Some(request) = self.batch.packet(place).filter(|_| grease.chooses()) {
+                let made = grease.spoil(&Spoiling { request, answer, delegation, key, told });
+                self.spoilt.extend(made.map(|answer| (place, answer)));
+            }
         }
-        self.counts.greased.add(self.wrong.len() as u64);
+        self.counts.greased.add(self.spoilt.len() as u64);
     }
 
     /// The answers, with the places of their packets.
-    pub fn answers(&self) -> Vec<(usize, &[u8])> {
-        let mut wrong = self.wrong.iter().peekable();
-        let instead = |(place, answer)| match wrong.next_if(|(at, _)| *at == place) {
-            Some((_, other)) => (place, &other[..]),
-            None => (place, answer),
-        };
-        self.batch.answers().map(instead).collect()
+    pub fn answers(&self) -> impl Iterator<Item = (usize, &[u8])> {
+        let mut spoilt = self.spoilt.iter().peekable();
+        self.batch.answers().map(move |(place, answer)| {
+            match spoilt.next_if(|(at, _)| *at == place) {
+                Some((_, other)) => (place, &other[..]),
+                None => (place, answer),
+            }
+        })
     }
 }

@@ -32,7 +32,7 @@ pub struct Counts {
     pub asked: Count,
     /// Answers that were sent.
     pub answered: Count,
-    /// Of those, the ones that are wrong on purpose (draft 19, section 7).
+    /// Of those, the ones that are spoilt on purpose (draft 19, section 7).
     pub greased: Count,
     /// Packets that are no request, by the code.
     pub refused: [Count; CODES],

@@ -66,7 +66,7 @@ pub fn metrics(udp: &Sum, tcp: &Sum, state: State) -> String {
     let silent = both(|sum| sum.silent);
     tell("silent_total", "counter", "Packets while no time could be signed.", &silent);
     tell("unsent_total", "counter", "Answers the system did not take.", &both(|sum| sum.unsent));
-    tell("greased_total", "counter", "Answers wrong on purpose.", &both(|sum| sum.greased));
+    tell("greased_total", "counter", "Answers spoilt on purpose.", &both(|sum| sum.greased));
     tell("signatures_total", "counter", "Signatures of a batch.", &both(|sum| sum.batches));
     let plain = |value| [(String::new(), value)];
     tell("dropped_total", "counter", "Packets the system dropped.", &plain(udp.dropped));

@@ -9,6 +9,7 @@ mod connection;
 mod counts;
 mod date;
 mod delegation;
+mod draw;
 mod ending;
 mod fields;
 mod figures;
@@ -21,6 +22,7 @@ mod keys;
 mod lines;
 mod listening;
 mod long_term;
+mod pairs;
 mod poll;
 mod post;
 mod secret;
@@ -31,6 +33,7 @@ mod serving;
 #[path = "../../../hosts/rust/shared/signals.rs"]
 mod signals;
 mod sockets;
+mod spoilt;
 #[path = "../../../hosts/rust/shared/standard_output.rs"]
 mod standard_output;
 mod stop;

@@ -98,9 +98,12 @@ impl Peer {
     }
 }
 
-/// The memory that both calls work with. It stays in the thread that made it.
+/// The memory that both calls work with, all of it taken at the start. It stays in the thread that
+/// made it.
 pub struct Post {
     peers: Vec<Peer>,
+    /// The packets that answers are for, by their places.
+    places: Vec<usize>,
     pieces: Vec<Piece>,
     messages: Vec<Many>,
 }
@@ -116,6 +119,7 @@ impl Post {
     pub fn new() -> Post {
         Post {
             peers: vec![NOBODY; MOST_LEAVES],
+            places: Vec::with_capacity(MOST_LEAVES),
             pieces: Vec::with_capacity(MOST_LEAVES),
             messages: Vec::with_capacity(MOST_LEAVES),
         }
@@ -160,21 +164,31 @@ impl Post {
     }
 
     /// Sends each answer to whom the packet at its place came from.
-    pub fn send(&mut self, socket: RawFd, answers: &[(usize, &[u8])]) -> Sent {
+    pub fn send<'a>(
+        &mut self,
+        socket: RawFd,
+        answers: impl Iterator<Item = (usize, &'a [u8])> + 'a,
+    ) -> Sent {
         self.pieces.clear();
-        // The system only reads what is sent.
-        let piece = |(_, bytes): &(usize, &[u8])| Piece {
-            base: bytes.as_ptr().cast_mut().cast(),
-            length: bytes.len(),
-        };
-        self.pieces.extend(answers.iter().map(piece));
+        self.places.clear();
+        for (place, bytes) in answers {
+            // The system only reads what is sent.
+            let base = bytes.as_ptr().cast_mut().cast();
+            self.pieces.push(Piece { base, length: bytes.len() });
+            self.places.push(place);
+        }
         self.messages.clear();
-        for ((place, _), piece) in answers.iter().zip(&mut self.pieces) {
+        for (place, piece) in self.places.iter().zip(&mut self.pieces) {
             self.messages.push(message(&mut self.peers[*place], piece));
         }
+        self.send_all(socket)
+    }
+
+    /// Sends the messages, in as few calls as the system takes.
+    fn send_all(&mut self, socket: RawFd) -> Sent {
         let (mut done, mut sent) = (0, Sent::default());
         while let Some(left) = self.messages.get_mut(done..).filter(|left| !left.is_empty()) {
-            // SAFETY: as above; what is sent lives as long as the answers.
+            // SAFETY: as above; the answers outlive the call of `send` that lent them.
             let told = unsafe { sendmmsg(socket, left.as_mut_ptr(), left.len() as c_uint, 0) };
             match usize::try_from(told) {
                 Ok(count) => {

@@ -2,6 +2,7 @@
 
 use crate::clock::Source;
 use crate::delegation::Delegation;
+use crate::grease::Greasing;
 use crate::lines::Lines;
 use crate::listening::{listen, Listening};
 use crate::long_term;
@@ -25,7 +26,7 @@ pub struct Served {
     pub sockets: usize,
     pub tcp: Option<Limits>,
     pub policy: Policy,
-    pub grease: Option<u64>,
+    pub grease: Option<Greasing>,
     pub metrics: Option<PathBuf>,
     /// How often a line is said.
     pub every: Duration,
@@ -59,7 +60,7 @@ fn started(served: &Served, lines: &Lines, delegation: &Delegation) -> Result<Th
     for at in all {
         let tcp = if at.tcp.is_some() { " and tcp" } else { "" };
         lines.say(&format!("listening at udp{tcp} {}", at.address));
-        threads.start(at, served, delegation);
+        threads.start(at, served, delegation)?;
     }
     Ok(threads)
 }

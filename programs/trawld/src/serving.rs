@@ -1,6 +1,7 @@
 //! What the command line says of a server that is to be started.
 
 use crate::clock::Source;
+use crate::grease::{Form, Greasing};
 use crate::serve::Served;
 use crate::stop::{usage, Stop};
 use crate::tcp::Limits;
@@ -53,6 +54,35 @@ fn policy(words: &Words) -> Result<Policy, Stop> {
     })
 }
 
+fn form(word: &OsStr) -> Result<Form, Stop> {
+    let known = word.to_str().and_then(Form::named);
+    known.map_or_else(
+        || {
+            usage(format!(
+                "--grease-form takes {}, and not '{}'",
+                Form::ALL.map(|(name, _)| name).join(", "),
+                word.to_string_lossy().escape_debug()
+            ))
+        },
+        Ok,
+    )
+}
+
+/// How often an answer is spoilt, and how: without a word of it, in each way in turn.
+fn greasing(words: &Words) -> Result<Option<Greasing>, Stop> {
+    let mut forms = words.values("--grease-form").map(form).collect::<Result<Vec<_>, Stop>>()?;
+    match words.number("--grease", 1, u64::MAX)? {
+        None if !forms.is_empty() => usage("--grease-form goes with --grease"),
+        None => Ok(None),
+        Some(among) => {
+            if forms.is_empty() {
+                forms.extend(Form::ALL.map(|(_, form)| form));
+            }
+            Ok(Some(Greasing { among, forms }))
+        }
+    }
+}
+
 pub fn served(words: &Words) -> Result<Served, Stop> {
     let [delegation] = &words.words[..] else {
         return usage("one file is wanted, a delegation; 'trawld --help' says how it is made");
@@ -73,7 +103,7 @@ pub fn served(words: &Words) -> Result<Served, Stop> {
         sockets: usize::try_from(sockets).unwrap_or(1),
         tcp: limits(words)?,
         policy: policy(words)?,
-        grease: words.number("--grease", 1, u64::MAX)?,
+        grease: greasing(words)?,
         metrics: words.value("--metrics").map(PathBuf::from),
         every: Duration::from_secs(every),
     })

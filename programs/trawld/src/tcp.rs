@@ -148,11 +148,12 @@ impl Tcp {
             return;
         }
         self.answering.answer();
-        let answers = self.answering.answers();
-        for (place, answer) in &answers {
-            self.connections[self.owners[*place]].answer(answer);
+        let mut count = 0;
+        for (place, answer) in self.answering.answers() {
+            self.connections[self.owners[place]].answer(answer);
+            count += 1;
         }
-        self.answering.counts.answered.add(answers.len() as u64);
+        self.answering.counts.answered.add(count);
     }
 
     /// Closes what is over and what is late.

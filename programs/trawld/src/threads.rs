@@ -37,26 +37,32 @@ impl Threads {
         Ok(Threads { ender, ending, handles, newer, udp, tcp })
     }
 
-    fn answering(&mut self, served: &Served, delegation: &Delegation) -> Answering {
+    fn answering(&mut self, served: &Served, delegation: &Delegation) -> Result<Answering, Stop> {
         let (sender, newer) = channel();
         self.newer.push(sender);
         let keeper = Timekeeper::new(served.policy.clone());
-        let grease = served.grease.map(Grease::new);
-        Answering::new(delegation.again(), newer, keeper, grease, Arc::default())
+        let grease = served.grease.clone().map(Grease::new).transpose()?;
+        Ok(Answering::new(delegation.again(), newer, keeper, grease, Arc::default()))
     }
 
-    pub fn start(&mut self, at: Listening, served: &Served, delegation: &Delegation) {
+    pub fn start(
+        &mut self,
+        at: Listening,
+        served: &Served,
+        delegation: &Delegation,
+    ) -> Result<(), Stop> {
         for socket in at.udp {
-            let (answering, ending) = (self.answering(served, delegation), self.ending.clone());
+            let (answering, ending) = (self.answering(served, delegation)?, self.ending.clone());
             self.udp.push((socket.clone(), answering.counts.clone()));
             self.handles.push(thread::spawn(move || udp::serve(&socket, answering, &ending)));
         }
         if let (Some(listener), Some(limits)) = (at.tcp, served.tcp) {
-            let (answering, ending) = (self.answering(served, delegation), self.ending.clone());
+            let (answering, ending) = (self.answering(served, delegation)?, self.ending.clone());
             self.tcp.push(answering.counts.clone());
             let tcp = Tcp::new(listener, answering, limits);
             self.handles.push(thread::spawn(move || tcp.serve(&ending)));
         }
+        Ok(())
     }
 
     /// Sends each a delegation, which it takes before its next batch.

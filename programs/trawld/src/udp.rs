@@ -21,7 +21,7 @@ pub fn serve(socket: &Arc<UdpSocket>, mut answering: Answering, ending: &Ending)
         match post.receive(socket, &mut answering.batch) {
             Ok(count) if count > 0 => {
                 answering.answer();
-                let sent = post.send(socket, &answering.answers());
+                let sent = post.send(socket, answering.answers());
                 answering.counts.answered.add(sent.sent);
                 answering.counts.unsent.add(sent.failed);
                 last += usize::from(ending.told());

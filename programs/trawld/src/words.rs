@@ -45,6 +45,7 @@ pub const FLAGS: &[Flag] = &[
     flag("--margin", SERVE, true, false),
     flag("--trust-clock", SERVE, false, false),
     flag("--grease", SERVE, true, false),
+    flag("--grease-form", SERVE, true, true),
     flag("--metrics", SERVE, true, false),
     flag("--line", SERVE, true, false),
     flag("--test-clock", SERVE, true, false),

@@ -33,7 +33,11 @@ pub fn checked(key: &[u8; 32], request: &[u8], response: &[u8]) -> Checked {
 
 /// A socket that sends to a server, and hears from that address alone.
 pub fn connected(server: SocketAddr) -> UdpSocket {
-    let any = if server.is_ipv4() { "127.0.0.1:0" } else { "[::1]:0" };
+    connected_from(if server.is_ipv4() { "127.0.0.1:0" } else { "[::1]:0" }, server)
+}
+
+/// The same from another address than loopback's.
+pub fn connected_from(any: &str, server: SocketAddr) -> UdpSocket {
     let socket = UdpSocket::bind(any).expect("there is a free port");
     socket.connect(server).expect("it is an address");
     socket

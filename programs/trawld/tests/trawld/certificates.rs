@@ -3,6 +3,7 @@
 use crate::asking::{ask, ask_stream, is_silent};
 use crate::folder::Folder;
 use crate::server::{Server, SIGHUP, SIGTERM};
+use std::fs;
 
 #[test]
 fn a_new_delegation_is_taken_and_a_wrong_one_is_not() {
@@ -19,6 +20,11 @@ fn a_new_delegation_is_taken_and_a_wrong_one_is_not() {
     folder.write("delegation", "seed\n");
     server.signal(SIGHUP);
     server.line("the old delegation stays");
+    assert_eq!(ask(server.address(), &server.key).pubk, second.pubk);
+    fs::remove_file(folder.file("delegation")).expect("it is there");
+    fs::create_dir(folder.file("delegation")).expect("it can be made");
+    server.signal(SIGHUP);
+    server.line("the old delegation stays: delegation could not be read");
     assert_eq!(ask(server.address(), &server.key).pubk, second.pubk);
     assert!(server.end(SIGTERM).success());
 }

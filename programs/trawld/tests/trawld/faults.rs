@@ -4,7 +4,7 @@ use crate::asking::{ask, ask_stream};
 use crate::folder::{Folder, PROGRAM};
 use crate::server::{signal, Server, PATIENCE, SIGKILL, SIGTERM};
 use std::fs;
-use std::io::Write;
+use std::io::{Read, Write};
 use std::net::{SocketAddr, UdpSocket};
 use std::os::unix::io::OwnedFd;
 use std::os::unix::net::UnixStream;
@@ -58,6 +58,38 @@ fn figures_that_cannot_be_written_are_told_of_and_not_missed() {
         ask(server.address(), &server.key);
         assert!(server.end(SIGTERM).success());
     }
+}
+
+/// A disk with one page, on which the figures do not fit. It is mounted in a namespace of its own,
+/// where the system lets us make one.
+#[test]
+fn a_full_disk_costs_the_figures_alone() {
+    let (folder, address) = (Folder::with_delegation(3), free_port());
+    fs::create_dir(folder.file("disk")).expect("it can be made");
+    let mount = "mount -t tmpfs -o size=4k none disk";
+    let mut tried = Command::new("unshare");
+    tried.args(["-m", "sh", "-c", mount]).current_dir(folder.path()).stderr(Stdio::null());
+    if !tried.status().is_ok_and(|status| status.success()) {
+        println!("LEFT OUT: a disk that is full, since none can be mounted here");
+        return;
+    }
+    let start = format!(
+        "{mount}; exec '{PROGRAM}' delegation --trust-clock --metrics disk/figures --listen \
+         {address}"
+    );
+    let mut command = Command::new("unshare");
+    command.args(["-m", "sh", "-c", &start]).current_dir(folder.path()).stdout(Stdio::piped());
+    let mut started = Started(command.spawn().expect("it can be started"));
+    ask(address, &folder.public_key());
+    thread::sleep(Duration::from_millis(500));
+    ask_stream(address, &folder.public_key());
+    signal(started.0.id(), SIGTERM);
+    assert!(started.0.wait().expect("it is ours").success());
+    let mut said = String::new();
+    let out = started.0.stdout.as_mut().expect("it is piped");
+    out.read_to_string(&mut said).expect("it is text");
+    assert!(said.contains("disk/figures could not be written: No space left"), "{said}");
+    assert!(said.contains(" answered 2 "), "{said}");
 }
 
 /// Who reads no lines holds up nothing, not even the end.

@@ -98,6 +98,8 @@ fn wrong_words_are_told_in_a_line() {
         &["a", "--radius", "3", "--margin", "3"],
         &["a", "--listen", "localhost"],
         &["a", "--grease", "none"],
+        &["a", "--grease", "9", "--grease-form", "none"],
+        &["a", "--grease-form", "time"],
         &["--server-list", "key"],
         &["--no-such"],
     ] {

@@ -69,28 +69,3 @@ fn what_is_not_answered_is_counted() {
         assert!(figures.contains(&format!("\ntrawld_{name} {count}\n")), "{name}: {figures}");
     }
 }
-
-/// Some answers are wrong on purpose, and none of them verifies.
-#[test]
-fn grease_is_refused_by_who_verifies() {
-    let folder = Folder::with_delegation(3);
-    let server = Server::trusting(&folder, &["--grease", "3", "--metrics", "figures"]);
-    let (socket, mut random) = (connected(server.address()), Random::new(2));
-    let mut wrong = 0;
-    for _ in 0..60 {
-        let request = request(&server.key, &mut random);
-        socket.send(&request).expect("it is sent");
-        let answer = heard(&socket, PATIENCE).expect("it is answered");
-        match trawlbeacon::check_signed(&server.key, &request, &answer) {
-            Ok(_) => {}
-            Err(why) => {
-                assert_eq!(why.refusal, trawlbeacon::Refusal::Signature);
-                wrong += 1;
-            }
-        }
-    }
-    assert!((5..40).contains(&wrong), "{wrong}");
-    assert!(server.end(SIGTERM).success());
-    let line = format!("\ntrawld_greased_total{{transport=\"udp\"}} {wrong}\n");
-    assert!(folder.read("figures").contains(&line));
-}
