@@ -5,7 +5,8 @@
 # The package as Python and, where it is there, mypy read it; and its tests, with the shared library
 # and with a program in C that answers the same cases.
 python_host() {
-    local library=build/native/libtrawlbeacon.so.$(cut -d. -f1 VERSION) own=hosts/python
+    local library own=hosts/python
+    library=build/native/libtrawlbeacon.so.$(cut -d. -f1 VERSION)
     tools/shared-lib --made "build/native/$archive" "$library" || tools/shared-lib "build/native/$archive" "$library" || return
     c_program answers || return
     (
