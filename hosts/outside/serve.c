@@ -4,8 +4,8 @@
  *     ./serve PORT
  *
  * It prints its long-term public key, for which ask.c asks, and makes both of its keys anew at each
- * start. A server that people rely on keeps its long-term key on another machine, and is silent where
- * its clock is not kept right: trawld is one.
+ * start. A server that people rely on keeps its long-term key on another machine, and is silent
+ * where its clock is not kept right: trawld is one.
  */
 #define _DEFAULT_SOURCE /* for getentropy */
 #include <arpa/inet.h>
