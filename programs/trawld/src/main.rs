@@ -21,6 +21,7 @@ mod keys;
 mod lines;
 mod listening;
 mod long_term;
+#[path = "../../../hosts/rust/shared/poll.rs"]
 mod poll;
 mod post;
 mod secret;
