@@ -14,7 +14,7 @@ python_host() {
         export TRAWLBEACON_LIBRARY=$PWD/$library TRAWLBEACON_ANSWERS=$PWD/build/c/answers
         python3 -m py_compile $own/trawlbeacon/*.py $own/tests/*.py $own/examples/*.py $own/wheel.py hosts/outside/first.py || exit
         if command -v mypy >/dev/null; then
-            (cd "$own" && mypy --strict --no-error-summary --cache-dir="$OLDPWD/build/mypy" trawlbeacon examples/ask.py wheel.py) || exit
+            (cd "$own" && mypy --strict --no-error-summary --cache-dir="$OLDPWD/build/mypy" trawlbeacon examples/ask_several.py wheel.py) || exit
         else
             say "LEFT OUT: mypy, which is not installed here"
         fi

@@ -48,7 +48,7 @@ def asked(servers: List[Answering]) -> "subprocess.CompletedProcess[str]":
     with tempfile.NamedTemporaryFile("w", suffix=".json") as file:
         json.dump({"servers": [server.listed() for server in servers]}, file)
         file.flush()
-        example = support.ROOT / "hosts/python/examples/ask.py"
+        example = support.ROOT / "hosts/python/examples/ask_several.py"
         path = {**os.environ, "PYTHONPATH": str(support.ROOT / "hosts/python")}
         return subprocess.run([sys.executable, str(example), file.name], env=path, text=True,
                               stdout=subprocess.PIPE, stderr=subprocess.PIPE, timeout=60)

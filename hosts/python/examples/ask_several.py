@@ -1,7 +1,7 @@
 """Asks servers of a list for the time, by UDP, and prints what their answers allow, though one of
 three may lie.
 
-    python3 ask.py LIST.json
+    python3 ask_several.py LIST.json
 
 It asks each server three times at the most. It ends with status 1 where too few answered or agreed.
 """
@@ -60,7 +60,7 @@ def listened(
 
 def main() -> int:
     if len(sys.argv) != 2:
-        print("usage: ask.py LIST.json", file=sys.stderr)
+        print("usage: ask_several.py LIST.json", file=sys.stderr)
         return 2
     try:
         with open(sys.argv[1], "rb") as file:
@@ -69,7 +69,7 @@ def main() -> int:
         answered = [ask(clock, number, server) for number, server in enumerate(servers)]
         told = clock.now(microseconds(), liars=(len(servers) - 1) // 2)
     except (OSError, Refused) as why:
-        print(f"ask: {why}", file=sys.stderr)
+        print(f"ask_several: {why}", file=sys.stderr)
         return 1
     print(f"{sum(answered)} of {len(servers)} servers answered")
     print(f"the time is from {told.low} to {told.high} microseconds since 1970", flush=True)
