@@ -9,6 +9,8 @@ cd "$(dirname "$(readlink -f "${BASH_SOURCE[0]}")")/.." || exit 1
 
 # shellcheck source=tools/names.sh
 . tools/names.sh
+# shellcheck source=tools/processors.sh
+. tools/processors.sh
 
 # Nothing of the caller's environment may lead a script elsewhere: cd by a relative name, tar and
 # gzip to other options, cargo to another folder or processor than those whose programs are then
@@ -92,7 +94,7 @@ have_sodium() {
 
 # A disassembler for a processor: this machine's, or that which comes with the compiler for it.
 reader_of() { # PROCESSOR
-    if [ "$1" = "$(uname -m)" ]; then command -v objdump; else command -v "$1-linux-gnu-objdump"; fi
+    if [ "$1" = "$(uname -m)" ]; then command -v objdump; else command -v "$(gnu_name "$1")-objdump"; fi
 }
 
 # Puts a copy of a file in its place in one step, once it is on the disk, so that there is the old
