@@ -2,13 +2,12 @@
 //! waits for what it waits for.
 
 use super::backoff::Backoff;
-use super::line::Line;
+use super::line::{self, Line};
 use super::moment::Moment;
 use super::ways::{self, Way};
 use crate::status::reason;
 use std::sync::mpsc::{Receiver, Sender};
 use std::sync::{Arc, Mutex, MutexGuard, PoisonError};
-use std::thread;
 use trawlbeacon::{Address, Checked, PacketRefusal, Protocol, REQUEST_LENGTH};
 
 /// A request, which is sent over and over up to a moment.
@@ -159,36 +158,27 @@ impl Worker {
         None
     }
 
-    /// Waits for an answer, up to a moment, at the newest line that is open; and looks then what has
-    /// come by the others.
+    /// Waits for an answer, up to a moment, by whichever line it comes.
     fn listen(
         &mut self,
         job: &Job,
         sent: Option<Moment>,
-        lines: &mut [Line],
+        lines: &mut Vec<Line>,
         until: Moment,
     ) -> Option<Heard> {
-        while let Some(line) = lines.iter_mut().rev().find(|line| line.is_open()) {
-            let Some(packet) = line.next(until) else {
-                if until.is_past() {
-                    break;
-                }
-                continue;
-            };
-            let way = line.way;
-            if let Some(heard) = self.check(job, sent?, packet, way) {
-                return Some(heard);
-            }
-        }
-        thread::sleep(until.left());
-        for line in lines {
-            let way = line.way;
-            self.note(line);
-            for packet in line.waiting() {
-                if let Some(heard) = self.check(job, sent?, packet, way) {
-                    return Some(heard);
+        while !until.is_past() {
+            line::wait(lines, until.left());
+            for line in lines.iter_mut() {
+                let (way, packets) = (line.way, line.waiting());
+                self.note(line);
+                for packet in packets {
+                    let heard = self.check(job, sent?, packet, way);
+                    if heard.is_some() {
+                        return heard;
+                    }
                 }
             }
+            lines.retain(Line::is_open);
         }
         None
     }
