@@ -55,7 +55,8 @@ fn the_walk_goes_on_without_the_silent() {
     assert_eq!(told.status, Some(0), "{}", told.said);
     assert!(json.holds_now() && json.is_true("exact"));
     assert_eq!((json.text("walk.outcome"), json.number("walk.answers")), ("consistent".into(), 6));
-    // Nobody waits to the end for one that is silent.
+    // The time was there at once, and nobody waits to the end for one that is silent.
+    assert!(json.number("thereAfter") < 1_000_000, "{json:?}");
     assert!(start.elapsed() < Duration::from_secs(3) + SLACK);
 }
 
@@ -98,10 +99,13 @@ fn two_of_three_are_silent() {
     let (json, told) = ask_json(&room, &list(&[&a, &b, &c]), &["--within", "0.5"]);
     assert_eq!(told.status, Some(7));
     assert!(json.is_null("time") && json.number("refused.code") == 33);
-    let due =
-        "trawl: no time: 1 of 3 servers answered, and 1 may lie; --all asks more of them, and \
-               --within waits longer\n";
-    assert_eq!(told.said, due);
+    let due = "trawl: no time: 1 of 3 servers answered, and 1 may lie; --within waits longer, and";
+    assert_eq!(told.said, format!("{due} a longer list has others\n"));
+    let d = Plan::silent("dogwood").start();
+    let told = ask(&room, &list(&[&b, &c, &d, &a]), &["--of", "3", "--within", "0.3"]);
+    let others = format!("{due} --all asks more of the list\n");
+    let none = "trawl: no time: no server answers";
+    assert!(told.said.ends_with(&others) || told.said.starts_with(none), "{}", told.said);
     let told = ask(&room, &list(&[&b, &c]), &["--within", "0.3"]);
     assert_eq!(told.status, Some(7));
     assert!(told.said.ends_with("is there a network, and is the list a new one?\n"));

@@ -18,6 +18,8 @@ const LONGEST: u64 = 1 << 20;
 
 pub struct Chosen {
     pub servers: Vec<ListedServer>,
+    /// Whether the list has others.
+    pub others: bool,
     /// Where reports may be sent.
     pub reports: Option<String>,
     /// What is to be said of the choice.
@@ -35,9 +37,10 @@ pub fn choose(file: &Path, wanted: &Wanted) -> Result<Chosen, Stop> {
     let mut notes = Vec::new();
     notes.extend(count(servers.len(), wanted));
     notes.extend(too_few(servers.len()));
+    let others = servers.len() > wanted.servers;
     let mut servers = random::some(servers, wanted.servers)?;
     name(&mut servers);
-    Ok(Chosen { servers, reports, notes })
+    Ok(Chosen { servers, others, reports, notes })
 }
 
 fn read(file: &Path) -> Result<ServerList, Stop> {

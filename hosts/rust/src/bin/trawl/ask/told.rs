@@ -206,8 +206,8 @@ impl Measured<'_> {
         lines
     }
 
-    /// One line for who has no time: why, and what may help.
-    pub fn remedy(&self) -> Option<String> {
+    /// One line for who has no time: why, and what may help. The list may have others to ask.
+    pub fn remedy(&self, others: bool) -> Option<String> {
         let why = self.time.as_ref().err()?;
         let (answered, asked) = (self.asker.answered(), self.asker.servers.len());
         Some(match why {
@@ -220,9 +220,10 @@ impl Measured<'_> {
                 )
             }
             Refusal::TooFew => format!(
-                "{answered} of {asked} servers answered, and {} may lie; --all asks more of them, \
-                 and --within waits longer",
-                self.asker.liars()
+                "{answered} of {asked} servers answered, and {} may lie; --within waits longer, and \
+                 {}",
+                self.asker.liars(),
+                if others { "--all asks more of the list" } else { "a longer list has others" }
             ),
             Refusal::NoAgreement => format!(
                 "more than {} of {asked} servers lie: no time is in the windows of the others; \

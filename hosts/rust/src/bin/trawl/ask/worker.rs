@@ -116,6 +116,10 @@ impl Worker {
                 return None;
             }
             self.resolve();
+            // A name may have taken all the time there was.
+            if job.until.is_past() {
+                continue;
+            }
             let now = Moment::now();
             self.backoff.tries(now);
             let next = self.backoff.next().min(job.until);
