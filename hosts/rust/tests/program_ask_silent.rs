@@ -9,8 +9,10 @@ mod room;
 mod time_servers;
 
 use asked::{ask, ask_json};
-use room::Room;
-use std::net::UdpSocket;
+use room::{installed, Ran, Room};
+use std::net::{TcpListener, TcpStream, UdpSocket};
+use std::os::unix::io::AsRawFd;
+use std::process::Command;
 use std::time::{Duration, Instant};
 use time_servers::{honest, list, list_of, Plan};
 use trawlbeacon::{Address, ListedServer, Protocol};
@@ -149,23 +151,39 @@ fn a_silent_server_is_asked_less_and_less() {
     }
 }
 
+extern "C" {
+    fn listen(socket: i32, waiting: i32) -> i32;
+}
+
+/// One whose queue is full, so that whoever connects waits without end.
+fn full_queue() -> (TcpListener, Vec<TcpStream>) {
+    let listener = TcpListener::bind("127.0.0.1:0").expect("there is a free port");
+    // SAFETY: no pointer is passed, and the socket is ours.
+    assert_eq!(unsafe { listen(listener.as_raw_fd(), 0) }, 0);
+    let at = listener.local_addr().expect("it has one");
+    let connect = |_| TcpStream::connect_timeout(&at, Duration::from_millis(100)).ok();
+    let waiting = (0..8).map_while(connect).collect();
+    (listener, waiting)
+}
+
 #[test]
 fn it_never_takes_longer_than_it_may() {
     let room = Room::new("within");
     let [a] = honest(["alder"]);
     // It takes connections, and says nothing.
-    let quiet = std::net::TcpListener::bind("127.0.0.1:0").expect("there is a free port");
-    let quiet = quiet.local_addr().map(|at| (at.to_string(), quiet)).expect("it has one");
-    let tcp = |name: &str, key, at: &str| {
-        let at = Address { protocol: Protocol::Tcp, host_and_port: at.to_string() };
+    let quiet = TcpListener::bind("127.0.0.1:0").expect("there is a free port");
+    let (full, _waiting) = full_queue();
+    let tcp = |name: &str, key, at: String| {
+        let at = Address { protocol: Protocol::Tcp, host_and_port: at };
         ListedServer { name: name.into(), key: [key; 32], addresses: vec![at] }
     };
+    let at = |listener: &TcpListener| listener.local_addr().expect("it has one").to_string();
     let servers = vec![
         a.listed(),
-        tcp("quiet", 1, &quiet.0),
-        // Nobody has this address (RFC 5737), and this name does not resolve (RFC 6761).
-        tcp("nowhere", 2, "192.0.2.1:2002"),
-        tcp("nameless", 3, "no-such-host.invalid:2002"),
+        tcp("quiet", 1, at(&quiet)),
+        tcp("full", 2, at(&full)),
+        // No such name resolves (RFC 6761).
+        tcp("nameless", 3, "no-such-host.invalid:2002".to_string()),
     ];
     for within in ["0.1", "0.7", "1.6"] {
         let start = Instant::now();
@@ -176,4 +194,28 @@ fn it_never_takes_longer_than_it_may() {
         let took = json.number("took");
         assert!(took < (seconds * 1e6) as u64 + OWN_SLACK, "{took} within {within}");
     }
+}
+
+/// Where there is no network at all, that is what it says.
+#[test]
+fn without_a_network() {
+    let (room, [a, b, c]) = (Room::new("offline"), honest(["alder", "birch", "cedar"]));
+    let alone = |program: &str| {
+        let mut command = Command::new("unshare");
+        command.args(["--map-root-user", "--net", program]);
+        command
+    };
+    if !alone("true").output().map_or(false, |ran| ran.status.success()) {
+        println!("LEFT OUT: no network, since none can be taken away here");
+        return;
+    }
+    room.put("list", &list(&[&a, &b, &c]));
+    let program = installed().join("bin/trawl");
+    let mut command = alone(program.to_str().expect("it is text"));
+    command.args(["--ask", "list", "--within", "0.3"]).current_dir(&room.folder);
+    let told = Ran::of(command.output().expect("it can be run"));
+    assert_eq!(told.status, Some(7));
+    let due = "Network is unreachable); is there a network, and is the list a new one?\n";
+    assert!(told.said.ends_with(due), "{}", told.said);
+    assert!(told.out.contains(": 0 requests, and no answer; "), "{}", told.out);
 }
