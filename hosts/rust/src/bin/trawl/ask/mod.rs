@@ -8,6 +8,7 @@ mod choosing;
 mod dates;
 mod json;
 mod line;
+mod listed;
 mod measuring;
 mod moment;
 mod proof;
