@@ -73,6 +73,7 @@ fn one_is_nine_seconds_ahead() {
     let told = ask(&room, &list, &[]);
     assert_eq!(told.status, Some(6), "{}", told.said);
     assert_eq!(line(&told.out, "suspect"), "cedar");
+    assert!(line(&told.out, "said").starts_with("cedar: from 20"), "{}", told.out);
     assert!(line(&told.out, "walk").starts_with("malfeasance: 6 answers of 3 servers"));
     assert!(line(&told.out, "lie").starts_with("cedar said that it was 20"));
     assert!(told.out.contains(", asked after that, said that it was 20"));
@@ -127,6 +128,8 @@ fn a_lying_majority_leaves_no_time() {
     assert_eq!(told.status, Some(7));
     assert_eq!(line(&told.out, "time"), "none: no time lies in the windows of enough servers");
     assert!(told.said.contains("trawl: no time: more than 1 of 3 servers lie"), "{}", told.said);
+    // What each of them said is there.
+    assert_eq!(told.out.matches("\nsaid     ").count(), 3, "{}", told.out);
     // What it shows is kept all the same.
     assert_eq!(line(&told.out, "report"), "'malfeasance-1.json'");
 }
