@@ -23,6 +23,7 @@ mod lines;
 mod listening;
 mod long_term;
 mod pairs;
+#[path = "../../../hosts/rust/shared/poll.rs"]
 mod poll;
 mod post;
 mod secret;

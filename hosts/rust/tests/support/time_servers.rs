@@ -146,6 +146,13 @@ impl Server {
         self.listed_at(&self.address.to_string())
     }
 
+    /// The same by one protocol alone.
+    pub fn listed_by(&self, protocol: Protocol) -> ListedServer {
+        let mut listed = self.listed();
+        listed.addresses.retain(|address| address.protocol == protocol);
+        listed
+    }
+
     pub fn listed_at(&self, host_and_port: &str) -> ListedServer {
         let at = |protocol| Address { protocol, host_and_port: host_and_port.to_string() };
         let addresses = vec![at(Protocol::Udp), at(Protocol::Tcp)];
@@ -277,4 +284,9 @@ pub fn list(servers: &[&Server]) -> Vec<u8> {
 /// So many honest ones.
 pub fn honest<const N: usize>(names: [&'static str; N]) -> [Server; N] {
     names.map(|name| Plan::new(name).start())
+}
+
+/// The same servers, lent.
+pub fn lent<const N: usize>(servers: &[Server; N]) -> [&Server; N] {
+    std::array::from_fn(|place| &servers[place])
 }

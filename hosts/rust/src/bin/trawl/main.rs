@@ -23,6 +23,10 @@ mod make;
 mod names;
 mod output;
 mod plain;
+// What is said of writing, and of one among many, is for the server.
+#[allow(dead_code)]
+#[path = "../../../shared/poll.rs"]
+mod poll;
 #[path = "../../../shared/signals.rs"]
 mod signals;
 #[path = "../../../shared/standard_output.rs"]

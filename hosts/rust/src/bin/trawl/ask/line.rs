@@ -3,13 +3,16 @@
 use super::moment::Moment;
 use super::ways::Way;
 use crate::frame::{frame, Frame};
+use crate::poll::{self, Waited, READ};
+use crate::status::reason;
 use std::io::{self, ErrorKind, Read, Write};
 use std::net::{SocketAddr, TcpStream, UdpSocket};
+use std::os::unix::io::AsRawFd;
 use std::thread;
 use std::time::Duration;
 use trawlbeacon::{Protocol, LONGEST_PACKET};
 
-/// The shortest time that a socket can be told to wait.
+/// The shortest time that a connection can be told to wait.
 const SHORTEST: Duration = Duration::from_millis(1);
 
 /// So many packets at the most are taken of what waits at a socket: who floods it keeps nobody
@@ -46,21 +49,11 @@ impl Line {
         !matches!(self.end, End::Closed)
     }
 
-    /// The next packet, if one comes up to this moment. Where none can come any more, it is closed.
-    pub fn next(&mut self, until: Moment) -> Option<Vec<u8>> {
-        while self.is_open() && !until.is_past() {
-            if let Some(packet) = self.wait(until.left()) {
-                return Some(packet);
-            }
-        }
-        None
-    }
-
-    /// The packets that wait already.
+    /// The packets that wait. Where none can come any more, it is closed.
     pub fn waiting(&mut self) -> Vec<Vec<u8>> {
         let mut packets = Vec::new();
         while packets.len() < MOST_WAITING {
-            match self.wait(SHORTEST) {
+            match self.read() {
                 Some(packet) => packets.push(packet),
                 None => break,
             }
@@ -68,18 +61,17 @@ impl Line {
         packets
     }
 
-    /// Waits so long at the most.
-    fn wait(&mut self, up_to: Duration) -> Option<Vec<u8>> {
+    fn read(&mut self) -> Option<Vec<u8>> {
         let heard = match &mut self.end {
-            End::Udp(socket) => datagram(socket, up_to),
-            End::Tcp(stream, bytes) => packet(stream, bytes, up_to),
+            End::Udp(socket) => datagram(socket),
+            End::Tcp(stream, bytes) => packet(stream, bytes),
             End::Closed => return None,
         };
         let error = match heard {
             Ok(packet) => return packet,
             Err(error) => error,
         };
-        self.failure = Some(crate::status::reason(&error));
+        self.failure = Some(reason(&error));
         match self.end {
             // Anybody may have told the system that nobody is there: the right answer may come yet.
             End::Udp(_) => thread::sleep(SHORTEST),
@@ -87,6 +79,23 @@ impl Line {
         }
         None
     }
+
+    /// What is waited for.
+    fn waited(&self) -> Option<Waited> {
+        match &self.end {
+            End::Udp(socket) => Some(Waited::new(socket.as_raw_fd(), READ)),
+            End::Tcp(stream, _) => Some(Waited::new(stream.as_raw_fd(), READ)),
+            End::Closed => None,
+        }
+    }
+}
+
+/// Waits until something has come by one of the lines, or for so long.
+pub fn wait(lines: &[Line], up_to: Duration) {
+    let mut waited: Vec<Waited> = lines.iter().filter_map(Line::waited).collect();
+    // Rounded up, so that nobody asks over and over in the last millisecond.
+    let millis = u16::try_from(up_to.as_millis() + 1).unwrap_or(u16::MAX);
+    poll::wait(&mut waited, millis);
 }
 
 fn sent(to: SocketAddr, request: &[u8]) -> io::Result<UdpSocket> {
@@ -94,6 +103,7 @@ fn sent(to: SocketAddr, request: &[u8]) -> io::Result<UdpSocket> {
     let socket = UdpSocket::bind(any)?;
     socket.connect(to)?;
     socket.send(request)?;
+    socket.set_nonblocking(true)?;
     Ok(socket)
 }
 
@@ -102,40 +112,36 @@ fn connected(to: SocketAddr, request: &[u8], until: Moment) -> io::Result<TcpStr
     stream.set_nodelay(true)?;
     stream.set_write_timeout(Some(until.left().max(SHORTEST)))?;
     stream.write_all(request)?;
+    stream.set_nonblocking(true)?;
     Ok(stream)
 }
 
-/// Nothing where the time is over.
-fn datagram(socket: &UdpSocket, up_to: Duration) -> io::Result<Option<Vec<u8>>> {
-    socket.set_read_timeout(Some(up_to.max(SHORTEST)))?;
+/// Nothing where none waits.
+fn datagram(socket: &UdpSocket) -> io::Result<Option<Vec<u8>>> {
     // One byte more than the longest packet, so that a longer one is not cut to a good one.
     let mut packet = [0; LONGEST_PACKET + 1];
     match socket.recv(&mut packet) {
         Ok(length) => Ok(Some(packet[..length].to_vec())),
-        Err(error) if is_over(&error) => Ok(None),
+        Err(error) if is_empty(&error) => Ok(None),
         Err(error) => Err(error),
     }
 }
 
-/// Nothing where the time is over, or where what came is no whole packet yet.
-fn packet(
-    stream: &mut TcpStream,
-    bytes: &mut Vec<u8>,
-    up_to: Duration,
-) -> io::Result<Option<Vec<u8>>> {
-    if let Some(packet) = whole(bytes)? {
-        return Ok(Some(packet));
-    }
-    stream.set_read_timeout(Some(up_to.max(SHORTEST)))?;
-    let mut more = [0; LONGEST_PACKET];
-    match stream.read(&mut more) {
-        Ok(0) => Err(io::Error::new(ErrorKind::Other, "the server closed the connection")),
-        Ok(length) => {
-            bytes.extend_from_slice(&more[..length]);
-            whole(bytes)
+/// Nothing where what came is no whole packet yet.
+fn packet(stream: &mut TcpStream, bytes: &mut Vec<u8>) -> io::Result<Option<Vec<u8>>> {
+    loop {
+        if let Some(packet) = whole(bytes)? {
+            return Ok(Some(packet));
         }
-        Err(error) if is_over(&error) => Ok(None),
-        Err(error) => Err(error),
+        let mut more = [0; LONGEST_PACKET];
+        match stream.read(&mut more) {
+            Ok(0) => {
+                return Err(io::Error::new(ErrorKind::Other, "the server closed the connection"))
+            }
+            Ok(length) => bytes.extend_from_slice(&more[..length]),
+            Err(error) if is_empty(&error) => return Ok(None),
+            Err(error) => return Err(error),
+        }
     }
 }
 
@@ -148,8 +154,7 @@ fn whole(bytes: &mut Vec<u8>) -> io::Result<Option<Vec<u8>>> {
     }
 }
 
-/// Whether nothing came in time. A signal that interrupts is no other thing.
-fn is_over(error: &io::Error) -> bool {
-    let kind = error.kind();
-    [ErrorKind::WouldBlock, ErrorKind::TimedOut, ErrorKind::Interrupted].contains(&kind)
+/// Whether nothing waits. A signal that interrupts is no other thing.
+fn is_empty(error: &io::Error) -> bool {
+    [ErrorKind::WouldBlock, ErrorKind::Interrupted].contains(&error.kind())
 }

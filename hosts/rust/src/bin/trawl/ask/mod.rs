@@ -8,6 +8,7 @@ mod choosing;
 mod dates;
 mod json;
 mod line;
+mod listed;
 mod measuring;
 mod moment;
 mod proof;
@@ -35,12 +36,14 @@ pub fn run(flags: &Flags) -> Result<Ended, Stop> {
     if flags.reports.is_some() && !folder.is_dir() {
         return Err(Stop::file(&folder, "it is no folder, and --reports takes one"));
     }
-    let Chosen { servers, reports, notes } = choosing::choose(Path::new(&flags.words[0]), &wanted)?;
+    let Chosen { servers, others, reports, notes } =
+        choosing::choose(Path::new(&flags.words[0]), &wanted)?;
     notes.iter().for_each(|note| output::say(note));
     // Before any thread is started, so that all of them leave signals alone.
     let watch = wanted.watch.map(Watch::new);
     let mut asker = Asker::new(servers)?;
-    let mut session = Session { flags, wanted, folder, reports, kept: Kept::default(), count: 0 };
+    let mut session =
+        Session { flags, wanted, folder, others, reports, kept: Kept::default(), count: 0 };
     let Some(watch) = watch else {
         return match session.measure(&mut asker) {
             Ok(ended) => Ok(ended),
@@ -59,6 +62,8 @@ struct Session<'a> {
     folder: PathBuf,
     /// Where they may be sent.
     reports: Option<String>,
+    /// Whether the list has more servers than are asked.
+    others: bool,
     kept: Kept,
     /// How many measurements were printed.
     count: usize,
@@ -82,14 +87,14 @@ impl Session<'_> {
         };
         output::print(said.as_bytes())?;
         self.count += 1;
-        if let Some(remedy) = measured.remedy() {
+        if let Some(remedy) = measured.remedy(self.others) {
             output::say(&format!("no time: {remedy}"));
         }
-        match unwritten {
-            None => Ok(measured.ended()),
-            Some(stop) => Err(Halt::Failed(Stop::Failed(format!(
+        if let Some(stop) = unwritten {
+            output::say(&format!(
                 "the report is not written: {stop}; --reports names another folder"
-            )))),
+            ));
         }
+        Ok(measured.ended())
     }
 }

@@ -81,8 +81,17 @@ mod tests {
     fn it_goes_forward() {
         let (one, other) = (Moment::now(), Moment::now());
         assert!(one <= other && one > Moment::default());
-        assert_eq!(other.until(one), if one == other { Duration::ZERO } else { other.until(one) });
         assert!(one.is_past() && !one.after(Duration::from_secs(60)).is_past());
+        assert_eq!(one.after(Duration::from_secs(60)).until(one), Duration::ZERO);
+    }
+
+    /// The system has the time since it was started, with its sleep, in a file, too.
+    #[test]
+    fn it_counts_from_the_start_of_the_machine() {
+        let text = std::fs::read_to_string("/proc/uptime").expect("Linux has it");
+        let uptime: f64 = text.split(' ').next().expect("it has one").parse().expect("a number");
+        let ours = Moment::now().micros_down() as f64 / 1e6;
+        assert!((ours - uptime).abs() < 5.0, "{ours} and {uptime}");
     }
 
     #[test]

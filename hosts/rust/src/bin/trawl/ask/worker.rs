@@ -2,13 +2,12 @@
 //! waits for what it waits for.
 
 use super::backoff::Backoff;
-use super::line::Line;
+use super::line::{self, Line};
 use super::moment::Moment;
 use super::ways::{self, Way};
 use crate::status::reason;
 use std::sync::mpsc::{Receiver, Sender};
 use std::sync::{Arc, Mutex, MutexGuard, PoisonError};
-use std::thread;
 use trawlbeacon::{Address, Checked, PacketRefusal, Protocol, REQUEST_LENGTH};
 
 /// A request, which is sent over and over up to a moment.
@@ -36,7 +35,7 @@ pub enum Event {
     End,
 }
 
-/// What a thread has done so far, for all to see.
+/// What a thread has done in this measurement, for all to see.
 #[derive(Clone, Debug, Default)]
 pub struct Tally {
     /// Requests that were sent.
@@ -58,15 +57,21 @@ impl Shared {
         // A number that is half counted is no harm.
         self.0.lock().unwrap_or_else(PoisonError::into_inner)
     }
+
+    /// A measurement begins, and what was counted before is over.
+    pub fn start(&self) {
+        let mut tally = self.lock();
+        *tally = Tally { way: tally.way, ..Tally::default() };
+    }
 }
 
 /// What the thread holds.
 pub struct Worker {
-    pub server: usize,
-    pub key: [u8; 32],
-    pub addresses: Vec<Address>,
-    pub tally: Shared,
-    pub events: Sender<Event>,
+    server: usize,
+    key: [u8; 32],
+    addresses: Vec<Address>,
+    tally: Shared,
+    events: Sender<Event>,
     ways: Vec<Way>,
     /// The place of the way that is next.
     turn: usize,
@@ -117,6 +122,10 @@ impl Worker {
                 return None;
             }
             self.resolve();
+            // A name may have taken all the time there was.
+            if job.until.is_past() {
+                continue;
+            }
             let now = Moment::now();
             self.backoff.tries(now);
             let next = self.backoff.next().min(job.until);
@@ -159,36 +168,27 @@ impl Worker {
         None
     }
 
-    /// Waits for an answer, up to a moment, at the newest line that is open; and looks then what has
-    /// come by the others.
+    /// Waits for an answer, up to a moment, by whichever line it comes.
     fn listen(
         &mut self,
         job: &Job,
         sent: Option<Moment>,
-        lines: &mut [Line],
+        lines: &mut Vec<Line>,
         until: Moment,
     ) -> Option<Heard> {
-        while let Some(line) = lines.iter_mut().rev().find(|line| line.is_open()) {
-            let Some(packet) = line.next(until) else {
-                if until.is_past() {
-                    break;
-                }
-                continue;
-            };
-            let way = line.way;
-            if let Some(heard) = self.check(job, sent?, packet, way) {
-                return Some(heard);
-            }
-        }
-        thread::sleep(until.left());
-        for line in lines {
-            let way = line.way;
-            self.note(line);
-            for packet in line.waiting() {
-                if let Some(heard) = self.check(job, sent?, packet, way) {
-                    return Some(heard);
+        while !until.is_past() {
+            line::wait(lines, until.left());
+            for line in lines.iter_mut() {
+                let (way, packets) = (line.way, line.waiting());
+                self.note(line);
+                for packet in packets {
+                    let heard = self.check(job, sent?, packet, way);
+                    if heard.is_some() {
+                        return heard;
+                    }
                 }
             }
+            lines.retain(Line::is_open);
         }
         None
     }
