@@ -105,10 +105,8 @@ pub const LIMITS: &[Limit] = &[
           "the goal"),
     limit("texts_written", 0.33 + RUNS, 0.33, "JSON written by the independent writer",
           "as runs"),
-    limit("daemon", 2.0, 1.905, "an answer of trawld by an echo of a bare UDP echo",
+    limit("daemon", 2.0, 1.94, "an answer of trawld by an echo, each with its client, by the processor's time",
           "asked: half as many answers as echoes at the least"),
-    limit("daemon_rate", 2.0, 1.9, "echoes a second by answers of trawld a second",
-          "asked: the same, by the clock on the wall"),
     limit("doubled", 2.5, 2.4, "twice the bytes by once the bytes",
           "nothing grows faster than the bytes; 0.5 is for caches and the clock"),
 ];

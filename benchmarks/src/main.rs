@@ -28,9 +28,6 @@ mod page;
 mod parts;
 mod picture;
 mod piles;
-#[allow(dead_code)]
-#[path = "../../programs/trawld/src/poll.rs"]
-mod poll;
 mod programs;
 mod refused;
 mod run;

@@ -14,8 +14,9 @@ use std::collections::BTreeSet;
 use std::fs::{self, File};
 use std::io::{BufRead, BufReader};
 use std::process::Stdio;
+use std::time::{Duration, Instant};
 use time_servers::{honest, list, list_of, Plan, Server};
-use trawlbeacon::{Protocol, ServerList};
+use trawlbeacon::{ListedServer, Protocol, ServerList};
 
 const NAMES: [&str; 3] = ["alder", "birch", "cedar"];
 
@@ -72,6 +73,7 @@ fn one_is_nine_seconds_ahead() {
     let told = ask(&room, &list, &[]);
     assert_eq!(told.status, Some(6), "{}", told.said);
     assert_eq!(line(&told.out, "suspect"), "cedar");
+    assert!(line(&told.out, "said").starts_with("cedar: from 20"), "{}", told.out);
     assert!(line(&told.out, "walk").starts_with("malfeasance: 6 answers of 3 servers"));
     assert!(line(&told.out, "lie").starts_with("cedar said that it was 20"));
     assert!(told.out.contains(", asked after that, said that it was 20"));
@@ -126,6 +128,8 @@ fn a_lying_majority_leaves_no_time() {
     assert_eq!(told.status, Some(7));
     assert_eq!(line(&told.out, "time"), "none: no time lies in the windows of enough servers");
     assert!(told.said.contains("trawl: no time: more than 1 of 3 servers lie"), "{}", told.said);
+    // What each of them said is there.
+    assert_eq!(told.out.matches("\nsaid     ").count(), 3, "{}", told.out);
     // What it shows is kept all the same.
     assert_eq!(line(&told.out, "report"), "'malfeasance-1.json'");
 }
@@ -182,12 +186,30 @@ fn fewer_than_three_servers() {
     assert!(told.said.starts_with("trawl: 3 servers are asked, and not 4: "), "{}", told.said);
 }
 
+/// A name that is too long to be told is cut, and what a list has beside its servers costs no time.
+#[test]
+fn lists_that_are_made_to_take_long() {
+    let (room, [a, b, c]) = (room("long"), honest(NAMES));
+    let mut servers = [&a, &b, &c].map(Server::listed).to_vec();
+    servers[0].name = "é".repeat(100_000);
+    let sources = vec!["https://a".to_string(); 30_000];
+    let list = ServerList { servers, sources, ..ServerList::default() };
+    let list = list.write().expect("it is one").into_bytes();
+    let start = Instant::now();
+    let (json, told) = ask_json(&room, &list, &[]);
+    assert_eq!(told.status, Some(0), "{}", told.said);
+    assert_eq!(json.server(&("é".repeat(60) + "..")).text("state"), "agrees");
+    assert!(start.elapsed() < Duration::from_secs(5));
+}
+
 /// A server is one however often its key stands in a list, and no name steers a terminal.
 #[test]
 fn keys_that_stand_there_twice_and_names_of_any_kind() {
     let room = room("names");
     let [a, b, c, d] = honest(["same", "same", "\u{1b}[2J\u{202e}x", " "]);
     let mut servers = [&a, &b, &c, &d].map(Server::listed).to_vec();
+    // One that has no address is not chosen.
+    servers.push(ListedServer { name: "nowhere".into(), key: [5; 32], addresses: vec![] });
     servers.push(Server::listed(&a));
     let list = list_of(servers);
     let (json, told) = ask_json(&room, &list, &["--all"]);
@@ -249,6 +271,8 @@ fn measuring_over_and_over() {
         [false, true]
     );
     assert_eq!(second.text("walk.outcome"), "none");
+    // What is counted is of this measurement.
+    assert!(second.server("birch").number("sent") <= 2, "{second:?}");
     // SAFETY: no pointer is passed, and the process is ours and not waited for yet.
     assert_eq!(unsafe { kill(child.id() as i32, SIGINT) }, 0);
     let told = finished(child);

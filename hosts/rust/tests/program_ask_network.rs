@@ -12,7 +12,7 @@ use asked::{ask, ask_json};
 use room::Room;
 use std::net::{Ipv6Addr, ToSocketAddrs, UdpSocket};
 use std::time::Duration;
-use time_servers::{honest, list, list_of, Plan, Server};
+use time_servers::{honest, lent, list, list_of, Plan, Server};
 use trawlbeacon::Protocol;
 
 #[test]
@@ -58,7 +58,7 @@ fn what_is_lost_is_sent_again() {
     let room = Room::new("lossy");
     let servers =
         ["alder", "birch", "cedar"].map(|name| Plan { loses: 1, ..Plan::new(name) }.start());
-    let udp = servers.each_ref().map(|one| one.listed_by(Protocol::Udp)).to_vec();
+    let udp = lent(&servers).map(|one| one.listed_by(Protocol::Udp)).to_vec();
     let (json, told) = ask_json(&room, &list_of(udp), &[]);
     assert_eq!(told.status, Some(0), "{}", told.said);
     assert!(json.holds_now());
@@ -72,7 +72,7 @@ fn damaged_packets_are_counted_and_waited_past() {
     let room = Room::new("damaged");
     let servers =
         ["alder", "birch", "cedar"].map(|name| Plan { damages: 20, ..Plan::new(name) }.start());
-    let (json, told) = ask_json(&room, &list(&servers.each_ref()), &[]);
+    let (json, told) = ask_json(&room, &list(&lent(&servers)), &[]);
     assert_eq!(told.status, Some(0), "{}", told.said);
     assert!(json.holds_now());
     for name in ["alder", "birch", "cedar"] {
@@ -81,7 +81,7 @@ fn damaged_packets_are_counted_and_waited_past() {
         assert_eq!((server.number("refused"), server.number("sent")), (60, 3), "{server:?}");
         assert!(server.number("refusal.code") > 0);
     }
-    let told = ask(&room, &list(&servers.each_ref()), &[]);
+    let told = ask(&room, &list(&lent(&servers)), &[]);
     assert!(
         told.out.contains("\nrefused  60 packets of alder, the last with code "),
         "{}",
@@ -96,14 +96,14 @@ fn slow_answers_widen_the_time() {
     let late =
         |name, millis| Plan { delay: Duration::from_millis(millis), ..Plan::new(name) }.start();
     let servers = [late("alder", 300), late("birch", 300), late("cedar", 300)];
-    let (json, told) = ask_json(&room, &list(&servers.each_ref()), &[]);
+    let (json, told) = ask_json(&room, &list(&lent(&servers)), &[]);
     assert_eq!(told.status, Some(0), "{}", told.said);
     assert!(json.holds_now());
     assert!(json.number("took") >= 7 * 300_000, "{json:?}");
     assert_eq!(json.text("walk.outcome"), "consistent");
     // What comes after the next try is taken, too: it answers the first one.
     let servers = [late("alder", 1_300), late("birch", 1_300)];
-    let udp = servers.each_ref().map(|one| one.listed_by(Protocol::Udp)).to_vec();
+    let udp = lent(&servers).map(|one| one.listed_by(Protocol::Udp)).to_vec();
     let (json, told) = ask_json(&room, &list_of(udp), &["--within", "6"]);
     assert_eq!(told.status, Some(0), "{}", told.said);
     assert!(json.holds_now());
@@ -151,7 +151,7 @@ fn servers_of_both_families() {
     let room = Room::new("families");
     let six = |name| Plan { host: Ipv6Addr::LOCALHOST.into(), ..Plan::new(name) }.start();
     let servers = [six("alder"), Plan::new("birch").start(), six("cedar")];
-    let (json, told) = ask_json(&room, &list(&servers.each_ref()), &[]);
+    let (json, told) = ask_json(&room, &list(&lent(&servers)), &[]);
     assert_eq!(told.status, Some(0), "{}", told.said);
     assert!(json.holds_now());
     assert!(json.server("alder").text("by").starts_with("udp [::1]:"));
@@ -163,7 +163,7 @@ fn servers_of_both_families() {
         return;
     }
     let named = |server: &Server| server.listed_at(&format!("localhost:{}", server.address.port()));
-    let (json, told) = ask_json(&room, &list_of(servers.each_ref().map(named).to_vec()), &[]);
+    let (json, told) = ask_json(&room, &list_of(lent(&servers).map(named).to_vec()), &[]);
     assert_eq!(told.status, Some(0), "{}", told.said);
     assert!(json.holds_now());
 }

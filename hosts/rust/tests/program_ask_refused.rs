@@ -12,6 +12,7 @@ use asked::{ask, finished};
 use room::{Ran, Room, ROOT};
 use std::collections::BTreeSet;
 use std::fs::{self, OpenOptions};
+use std::io::{BufRead, BufReader};
 use std::process::{Command, Stdio};
 use time_servers::{honest, list, list_of, Plan, Server};
 use trawlbeacon::ListedServer;
@@ -139,6 +140,32 @@ fn reports_that_cannot_be_written() {
         assert_eq!(files.len(), 1, "{files:?}");
     }
 }
+
+/// A watch does not end by it, and tells the time on.
+#[test]
+fn a_watch_without_room_for_reports() {
+    let (room, ([a, b], c)) = (Room::new("no room"), with_a_liar());
+    room.put("list", &list(&[&a, &b, &c]));
+    let words = ["--ask", "list", "--json", "--watch", "1"];
+    let mut command = room.by_shell("trap '' XFSZ; ulimit -f 1;", &words);
+    let child = command.stdout(Stdio::piped()).stderr(Stdio::piped()).spawn();
+    let mut child = child.expect("sh runs");
+    let mut lines = BufReader::new(child.stdout.take().expect("it is piped")).lines();
+    for _ in 0..2 {
+        let line = lines.next().expect("there is more").expect("it is text");
+        assert!(line.starts_with("{\"status\":1,\"time\":{"), "{line}");
+    }
+    // SAFETY: no pointer is passed, and the process is ours and not waited for yet.
+    assert_eq!(unsafe { kill(child.id() as i32, SIGTERM) }, 0);
+    let told = finished(child);
+    assert_eq!((told.status, told.said.lines().count()), (Some(1), 2), "{}", told.said);
+}
+
+extern "C" {
+    fn kill(process: i32, signal: i32) -> i32;
+}
+
+const SIGTERM: i32 = 15;
 
 /// What cannot be printed is no success, and the evidence is kept all the same.
 #[test]

@@ -88,14 +88,15 @@ fn bound(socket: OwnedFd, address: &SocketAddr) -> io::Result<OwnedFd> {
     Ok(socket)
 }
 
-/// A UDP socket among which and others of its address the system shares out what comes. It says of
-/// each packet to which of the machine's addresses it was sent.
+/// A UDP socket among which and others of its address the system shares out what comes. Where it is
+/// one of all addresses, it says of each packet to which of them it was sent.
 pub fn udp(address: &SocketAddr) -> io::Result<UdpSocket> {
     let socket = made(address, SOCK_DGRAM)?;
     set(&socket, SOL_SOCKET, SO_REUSEPORT, 1)?;
     // Where less is allowed, less is what there is.
     let _ = set(&socket, SOL_SOCKET, SO_RCVBUF, WAITING);
     match address {
+        _ if !address.ip().is_unspecified() => {}
         SocketAddr::V4(_) => set(&socket, IPPROTO_IP, IP_PKTINFO, 1)?,
         SocketAddr::V6(_) => set(&socket, IPPROTO_IPV6, IPV6_RECVPKTINFO, 1)?,
     }

@@ -285,3 +285,8 @@ pub fn list(servers: &[&Server]) -> Vec<u8> {
 pub fn honest<const N: usize>(names: [&'static str; N]) -> [Server; N] {
     names.map(|name| Plan::new(name).start())
 }
+
+/// The same servers, lent.
+pub fn lent<const N: usize>(servers: &[Server; N]) -> [&Server; N] {
+    std::array::from_fn(|place| &servers[place])
+}

@@ -11,11 +11,12 @@ use std::time::Duration;
 use trawlbeacon::{link, Checked, REQUEST_LENGTH};
 
 /// Requests over UDP and over TCP, each of a flow of its own.
-const UDP: usize = 300;
+const UDP: usize = 200;
 const TCP: usize = 30;
 
-/// So long an answer is waited for, before it is asked again by another flow.
-const PATIENCE: Duration = Duration::from_millis(500);
+/// So long an answer is waited for, where it can be asked again by another flow, and where not.
+const SOON: Duration = Duration::from_millis(100);
+const LATE: Duration = Duration::from_secs(10);
 
 fn variable(name: &str) -> String {
     let name = format!("TRAWLD_FLEET{name}");
@@ -55,16 +56,26 @@ impl Fleet {
         panic!("there is no answer to a request that was sent {} times", self.tries);
     }
 
+    fn patience(&self) -> Duration {
+        if self.tries > 1 {
+            SOON
+        } else {
+            LATE
+        }
+    }
+
     fn udp(&self, request: &[u8]) -> Option<Vec<u8>> {
         let socket = connected_from("0.0.0.0:0", self.address);
         socket.send(request).ok()?;
-        heard(&socket, PATIENCE)
+        heard(&socket, self.patience())
     }
 
     fn tcp(&self, request: &[u8]) -> Option<Vec<u8>> {
-        let mut stream = TcpStream::connect_timeout(&self.address, PATIENCE).ok()?;
-        stream.set_read_timeout(Some(PATIENCE)).ok()?;
+        let mut stream = TcpStream::connect_timeout(&self.address, self.patience()).ok()?;
+        stream.set_read_timeout(Some(self.patience())).ok()?;
         stream.write_all(request).ok()?;
+        let mut first = [0; 1];
+        stream.peek(&mut first).ok().filter(|count| *count > 0)?;
         packet(&mut stream)
     }
 }

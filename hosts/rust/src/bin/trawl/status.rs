@@ -20,6 +20,8 @@ pub enum Ended {
     Contradicted,
     /// Servers were asked, and there is no time.
     NoTime,
+    /// Servers contradict each other, and the report on it could not be written.
+    Unwritten,
 }
 
 impl Ended {
@@ -31,6 +33,7 @@ impl Ended {
             Ended::Unlisted => 5,
             Ended::Contradicted => 6,
             Ended::NoTime => 7,
+            Ended::Unwritten => 1,
         }
     }
 

@@ -89,6 +89,7 @@ impl Asker {
     pub fn ask_all(&mut self, until: Moment) -> Result<(), Stop> {
         for server in 0..self.servers.len() {
             self.servers[server].answered = false;
+            self.servers[server].tally.start();
             let mut request = [0; REQUEST_LENGTH];
             trawlbeacon::write_request(&self.servers[server].key, &random::bytes()?, &mut request)?;
             self.ask(server, request, until);

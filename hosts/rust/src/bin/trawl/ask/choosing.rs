@@ -1,20 +1,17 @@
 //! Who is asked: servers of the list, at random and in a random order (draft 19, section 8.2).
 
+use super::listed::Listed;
 use super::random;
 use super::told::plural;
 use super::wanted::{Count, Wanted};
-use crate::evidence::read_up_to;
-use crate::hints;
 use crate::keys::hex;
-use crate::lists;
 use crate::names::{self, plain};
 use crate::status::Stop;
 use std::path::Path;
-use trawlbeacon::{ListedServer, ServerList, FEWEST_SERVERS, MOST_SERVERS};
+use trawlbeacon::{ListedServer, FEWEST_SERVERS, MOST_SERVERS};
 
-/// The longest list that is read. Its 64 servers would take a tenth of it with names of 1,000 bytes;
-/// and a longer one would take longer to read than one waits for the time.
-const LONGEST: u64 = 1 << 20;
+/// So many letters of a name are told. A list may have longer ones, and not without end.
+const LONGEST_NAME: usize = 60;
 
 pub struct Chosen {
     pub servers: Vec<ListedServer>,
@@ -28,44 +25,28 @@ pub struct Chosen {
 
 /// The servers of a list that are asked.
 pub fn choose(file: &Path, wanted: &Wanted) -> Result<Chosen, Stop> {
-    let list = read(file)?;
-    let (passed_over, reports) = (list.passed_over, list.reports);
-    let servers = asked_once(list.servers);
+    let mut list = Listed::read(file)?;
+    let all = list.servers();
+    let there = all.len();
+    let mut servers = drawn(&mut list, all, wanted.servers)?;
     if servers.is_empty() {
-        return Err(nobody(file, passed_over));
+        return Err(nobody(file, list.passed_over));
     }
-    let mut notes = Vec::new();
-    notes.extend(count(servers.len(), wanted));
-    notes.extend(too_few(servers.len()));
-    let others = servers.len() > wanted.servers;
-    let mut servers = random::some(servers, wanted.servers)?;
     name(&mut servers);
-    Ok(Chosen { servers, others, reports, notes })
+    let notes = count(servers.len(), there, wanted).into_iter().chain(too_few(servers.len()));
+    let others = there > servers.len();
+    Ok(Chosen { notes: notes.collect(), others, reports: list.reports(), servers })
 }
 
-fn read(file: &Path) -> Result<ServerList, Stop> {
-    let bytes = read_up_to(file, LONGEST)?;
-    if !lists::is_json(&bytes) && !bytes.is_empty() && bytes.contains(&0) {
-        let file = names::file(file);
-        return Err(Stop::Refused(format!(
-            "{file} is no list in JSON; one of records has no addresses to ask at"
-        )));
-    }
-    ServerList::read(&bytes)
-        .map_err(|refusal| Stop::refused(refusal, &hints::on_list((file, &bytes))))
-}
-
-/// Each server once, however often its key stands there, with all its addresses; and none without
-/// an address.
-fn asked_once(servers: Vec<ListedServer>) -> Vec<ListedServer> {
-    let mut once: Vec<ListedServer> = Vec::new();
-    for server in servers.into_iter().filter(|server| !server.addresses.is_empty()) {
-        match once.iter_mut().find(|other| other.key == server.key) {
-            Some(other) => other.addresses.extend(server.addresses),
-            None => once.push(server),
+/// So many of the servers, at random and in a random order. One without an address does not count.
+fn drawn(list: &mut Listed, all: Vec<Vec<usize>>, count: usize) -> Result<Vec<ListedServer>, Stop> {
+    let (there, mut servers) = (all.len(), Vec::new());
+    for places in random::some(all, there)? {
+        if servers.len() < count {
+            servers.extend(list.server(&places)?);
         }
     }
-    once
+    Ok(servers)
 }
 
 fn nobody(file: &Path, passed_over: usize) -> Stop {
@@ -80,14 +61,14 @@ fn nobody(file: &Path, passed_over: usize) -> Stop {
 }
 
 /// What is said where another number is asked than was wanted.
-fn count(there: usize, wanted: &Wanted) -> Option<String> {
+fn count(asked: usize, there: usize, wanted: &Wanted) -> Option<String> {
     match wanted.count {
-        Count::All if there > MOST_SERVERS => Some(format!(
+        Count::All if asked == MOST_SERVERS && there > asked => Some(format!(
             "{MOST_SERVERS} of {there} servers are asked, by chance: a clock has no more; ask again \
              for others"
         )),
-        Count::Of if there < wanted.servers => Some(format!(
-            "{there} servers are asked, and not {}: the list has no more that can be",
+        Count::Of if asked < wanted.servers => Some(format!(
+            "{asked} servers are asked, and not {}: the list has no more that can be",
             wanted.servers
         )),
         _ => None,
@@ -108,7 +89,7 @@ fn too_few(there: usize) -> Option<String> {
 /// Gives each a name of its own that steers no terminal: where it has none, or another has the same,
 /// the start of its key is in it.
 fn name(servers: &mut [ListedServer]) {
-    let names: Vec<String> = servers.iter().map(|server| plain(server.name.trim())).collect();
+    let names: Vec<String> = servers.iter().map(|server| short(server.name.trim())).collect();
     for (server, name) in servers.iter_mut().zip(&names) {
         let alone = names.iter().filter(|other| *other == name).count() == 1;
         let key = format!("key {}", &hex(&server.key)[..8]);
@@ -118,4 +99,10 @@ fn name(servers: &mut [ListedServer]) {
             (false, false) => format!("{name} ({key})"),
         };
     }
+}
+
+/// A name as it is told.
+fn short(name: &str) -> String {
+    let front: String = name.chars().take(LONGEST_NAME).collect();
+    format!("{}{}", plain(&front), if front.len() < name.len() { ".." } else { "" })
 }

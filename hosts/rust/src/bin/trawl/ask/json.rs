@@ -53,7 +53,7 @@ impl Measured<'_> {
         let counted = self.time.as_ref().map_or(0, |time| time.counted);
         let found = self.walked.contradictions.iter().map(|found| self.found(found));
         let members = [
-            ("status", self.status().to_string()),
+            ("status", self.ended().status().to_string()),
             ("time", or_null(time)),
             ("refused", or_null(why)),
             ("mayLie", liars.to_string()),

@@ -8,6 +8,7 @@ mod choosing;
 mod dates;
 mod json;
 mod line;
+mod listed;
 mod measuring;
 mod moment;
 mod proof;
@@ -89,11 +90,11 @@ impl Session<'_> {
         if let Some(remedy) = measured.remedy(self.others) {
             output::say(&format!("no time: {remedy}"));
         }
-        match unwritten {
-            None => Ok(measured.ended()),
-            Some(stop) => Err(Halt::Failed(Stop::Failed(format!(
+        if let Some(stop) = unwritten {
+            output::say(&format!(
                 "the report is not written: {stop}; --reports names another folder"
-            )))),
+            ));
         }
+        Ok(measured.ended())
     }
 }

@@ -5,7 +5,7 @@ use super::dates::{fine, fine_up, seconds_up, took, whole};
 use super::proof::Contradiction;
 use super::walking::{WalkEnded, Walked};
 use crate::names;
-use crate::status::{Ended, Stop};
+use crate::status::Ended;
 use std::time::Duration;
 use trawlbeacon::{Refusal, Time, FEWEST_SERVERS};
 
@@ -46,18 +46,10 @@ impl Measured<'_> {
 
     pub fn ended(&self) -> Ended {
         match self.time {
+            _ if self.unwritten => Ended::Unwritten,
             Err(_) => Ended::NoTime,
             Ok(_) if self.is_contradicted() => Ended::Contradicted,
             Ok(_) => Ended::Done,
-        }
-    }
-
-    /// The status of the program, if it ends with this.
-    pub fn status(&self) -> u8 {
-        if self.unwritten {
-            Stop::Failed(String::new()).status()
-        } else {
-            self.ended().status()
         }
     }
 
@@ -84,6 +76,7 @@ impl Measured<'_> {
             Ok(time) => self.time_lines(time),
             Err(why) => vec![("time", format!("none: {why}"))],
         };
+        lines.extend(self.said_lines());
         lines.extend(self.silent_lines());
         lines.extend(self.refused_lines());
         lines.push(("walk", self.walk()));
@@ -136,6 +129,17 @@ impl Measured<'_> {
         } else {
             format!("{may}: it is between the ends, but an end may be a liar's")
         }
+    }
+
+    /// What the suspects said last; and where there is no time, what all did.
+    fn said_lines(&self) -> Vec<(&'static str, String)> {
+        let told = |server: usize| {
+            let suspect = self.time.as_ref().map_or(true, |time| time.suspects.contains(server));
+            let window = self.asker.servers[server].window.filter(|_| suspect)?;
+            let (low, high) = (whole(window.low), whole(window.high));
+            Some(("said", format!("{}: from {low} to {high} UTC", self.name(server))))
+        };
+        (0..self.asker.servers.len()).filter_map(told).collect()
     }
 
     fn silent_lines(&self) -> Vec<(&'static str, String)> {

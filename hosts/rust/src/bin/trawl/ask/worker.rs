@@ -35,7 +35,7 @@ pub enum Event {
     End,
 }
 
-/// What a thread has done so far, for all to see.
+/// What a thread has done in this measurement, for all to see.
 #[derive(Clone, Debug, Default)]
 pub struct Tally {
     /// Requests that were sent.
@@ -57,15 +57,21 @@ impl Shared {
         // A number that is half counted is no harm.
         self.0.lock().unwrap_or_else(PoisonError::into_inner)
     }
+
+    /// A measurement begins, and what was counted before is over.
+    pub fn start(&self) {
+        let mut tally = self.lock();
+        *tally = Tally { way: tally.way, ..Tally::default() };
+    }
 }
 
 /// What the thread holds.
 pub struct Worker {
-    pub server: usize,
-    pub key: [u8; 32],
-    pub addresses: Vec<Address>,
-    pub tally: Shared,
-    pub events: Sender<Event>,
+    server: usize,
+    key: [u8; 32],
+    addresses: Vec<Address>,
+    tally: Shared,
+    events: Sender<Event>,
     ways: Vec<Way>,
     /// The place of the way that is next.
     turn: usize,
