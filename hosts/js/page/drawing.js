@@ -19,10 +19,10 @@ const NARROW = 640;
 
 /** Where things stand in a row, and how wide a break of the axis is: with much room, and with little. */
 const WIDE = {
-    chain: 32, beside: 52, from: 160, end: 100, gap: 44, bar: 6, told: 36, row: 48, name: 13,
+    chain: 32, beside: 52, from: 160, end: 100, right: 20, gap: 44, bar: 6, told: 36, row: 48, name: 13,
 };
 const SLIM = {
-    chain: 22, beside: 42, from: 14, end: 14, gap: 34, bar: 30, told: 60, row: 68, name: 26,
+    chain: 18, beside: 40, from: 40, end: 10, right: 4, gap: 34, bar: 26, told: 54, row: 64, name: 22,
 };
 const LINE = 15;
 
@@ -55,13 +55,14 @@ function layoutOf(verdict, width) {
     const slim = width < NARROW;
     const at = slim ? SLIM : WIDE;
     const axisWidth = width - at.from - at.end;
-    const most = Math.floor((slim ? axisWidth : width - at.from - 20) / LETTER);
+    const most = Math.floor((width - at.from - at.right) / LETTER);
     const windows = verdict.records.filter(({ window }) => window);
     const ends = windows.map(({ window }) => [window.low, window.high]);
     const axis = axisOf(ends, axisWidth, at.gap);
     let y = 8;
     const rows = verdict.records.map((record) => {
-        const told = wrapped(toldOf(record), most);
+        const parts = slim ? toldOf(record) : [toldOf(record).join(" ")];
+        const told = parts.flatMap((part) => wrapped(part, most));
         const row = { y, told };
         y += at.row + LINE * (told.length - 1);
         return { ...row, end: y };

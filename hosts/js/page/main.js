@@ -31,6 +31,8 @@ function show(...parts) {
     const verdict = byId("verdict");
     verdict.replaceChildren(...parts);
     verdict.hidden = parts.length === 0;
+    // Beside the verdict nobody has to see the same sentence twice.
+    byId("said").classList.toggle("heard", parts.length > 0);
     if (parts.length) verdict.focus({ preventScroll: false });
 }
 
@@ -146,6 +148,7 @@ function listen() {
     );
     byId("stop").addEventListener("click", () => {
         stop();
+        show();
         say("Stopped. Nothing was judged.");
         byId("files").focus();
     });

@@ -33,10 +33,10 @@ export function refusalWords({ code, words, at }) {
     return `refused with code ${code}: ${words}${at === undefined ? "" : `, at byte ${at}`}`;
 }
 
-/** What a record tells, or why it is refused. */
+/** What a record tells, its dates and its seconds, or why it is refused. */
 export function toldOf({ window, refusal }) {
-    if (refusal) return refusalWords(refusal);
-    return `${datesOf(window.low, window.high)} (${window.low} to ${window.high})`;
+    if (refusal) return [refusalWords(refusal)];
+    return [datesOf(window.low, window.high), `(${window.low} to ${window.high})`];
 }
 
 /** Whether a record is linked to the one before it. */
@@ -66,7 +66,7 @@ export function verdictWords({ run, records, servers }) {
         `By record ${whose(earlier)} it was ${dateOf(earlier.window.low)} at the least. ` +
             `By record ${whose(later)}, asked for after that, it was ` +
             `${dateOf(later.window.high)} at the most.`,
-        `The two are ${long(apart)} apart: no honest servers say both. ` +
+        `The two are ${long(apart)} apart: honest servers never say both. ` +
             `The run of records ${run.first} to ${run.last} convicts by itself.`,
     ];
 }

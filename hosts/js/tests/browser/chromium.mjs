@@ -171,16 +171,17 @@ class Page {
         }
     }
 
+    /** The middle of an element, which is brought into view. */
     middle(selector) {
         return this.value(`(() => {
-            const { x, y, width, height } =
-                document.querySelector(${JSON.stringify(selector)}).getBoundingClientRect();
+            const element = document.querySelector(${JSON.stringify(selector)});
+            element.scrollIntoView({ block: "center" });
+            const { x, y, width, height } = element.getBoundingClientRect();
             return { x: x + width / 2, y: y + height / 2 };
         })()`);
     }
 
     async click(selector) {
-        await this.value(`document.querySelector(${JSON.stringify(selector)}).scrollIntoView()`);
         const { x, y } = await this.middle(selector);
         for (const type of ["mousePressed", "mouseReleased"]) {
             const event = { type, x, y, button: "left", clickCount: 1 };
