@@ -33,6 +33,9 @@ function put(name, content) {
 const open = (how) => browser.open(pathToFileURL(PAGE).href, how);
 const shown = (page) => page.until("!document.querySelector('#verdict').hidden", 60_000);
 
+/** The picture is drawn once it is known how wide it may be. */
+const drawn = (page) => page.until("document.querySelector('#verdict svg')");
+
 /** Opens the page, gives it these files, and waits for what it says of them. */
 async function judged(...files) {
     const page = await open();
@@ -101,6 +104,7 @@ test("draft 19's report: the verdict, each record, the pair and the run", async 
 
 test("the picture says what the program's own picture says", async () => {
     const page = await judged(put("report.json", REPORT));
+    await drawn(page);
     const own = await page.value(
         `[...document.querySelectorAll("#verdict svg text")].map((one) => one.textContent)`,
     );
@@ -310,6 +314,7 @@ test("by keyboard alone", async () => {
 
 test("for a screen reader: everything has a role and a name", async () => {
     const page = await judged(put("report.json", REPORT), put("list.json", listOf("a", "b")));
+    await drawn(page);
     const { nodes } = await page.send("Accessibility.getFullAXTree");
     const of = (role) => nodes.filter((node) => !node.ignored && node.role?.value === role);
     const names = (role) => of(role).map((node) => node.name?.value ?? "");
@@ -363,7 +368,7 @@ test("light, dark and on a phone: nothing is cut off, and every text can be read
         const page = await open(how);
         await page.choose(put("report.json", REPORT), put("list.json", listOf("alder", "birch")));
         await shown(page);
-        await page.until("document.querySelector('#verdict svg')");
+        await drawn(page);
         const wide = "document.documentElement.scrollWidth - innerWidth";
         assert.ok((await page.value(wide)) <= 0, `${name} is wider than its screen`);
         for (const [colour, ground] of await page.value(COLOURS)) {
