@@ -4,7 +4,11 @@
 import { CODE } from "../codes.js";
 import { Refusal } from "../errors.js";
 import { RECORD_LENGTH } from "../reports.js";
+import { SERVER_LENGTH } from "../server-lists.js";
 import { isUtf16, meansList, noList, noReport } from "./why.js";
+
+/** The longest list of servers that is read. For each server it is gone through once more. */
+const LONGEST_LIST = 1 << 20;
 
 /** Bytes that are no text are a pile: every record has bytes that must be zero, and JSON has none. */
 const isText = (bytes) => bytes.length > 0 && !bytes.includes(0);
@@ -38,12 +42,25 @@ export function sorted(library, bytes) {
     if (!isText(bytes)) return { pile: bytes };
     const report = orRefusal(() => library.readReport(bytes));
     if (report.value) return { pile: report.value };
-    const list = isNoText(report) ? orRefusal(() => library.serverList(bytes)) : report;
+    const list = isNoText(report) ? orRefusal(() => listOf(library, bytes)) : report;
     if (list.value) return { list: list.value };
-    if (isNoText(report) && meansList(bytes)) {
-        return { refusal: list.refusal, why: noList(bytes), of: "list" };
+    if (!isNoText(report) || !meansList(bytes)) {
+        return { refusal: report.refusal, why: noReport(bytes), of: "report" };
     }
-    return { refusal: report.refusal, why: noReport(bytes), of: "report" };
+    const long = bytes.length > LONGEST_LIST ? "a list may have 1 MiB here" : null;
+    return { refusal: list.refusal, why: long ?? noList(bytes), of: "list" };
+}
+
+/** The names and keys of a list; addresses are of no use here. */
+function listOf(library, bytes) {
+    if (bytes.length > LONGEST_LIST) throw new Refusal(CODE.REPORT_TEXT);
+    const { records, passedOver } = library.readServers(bytes);
+    const servers = [];
+    for (let place = 0; place * SERVER_LENGTH < records.length; place++) {
+        const key = records.slice(place * SERVER_LENGTH, place * SERVER_LENGTH + 32);
+        servers.push({ key, name: library.serverName(bytes, place) });
+    }
+    return { servers, passedOver };
 }
 
 const hex = (bytes) => Array.from(bytes, (byte) => byte.toString(16).padStart(2, "0")).join("");

@@ -119,6 +119,10 @@ test("a list is told from a report and from a pile, whatever their order", () =>
     assert.equal(sorted(tb, file("vectors/server-list.json")).list.servers.length, 2);
     assert.equal(sorted(tb, utf8('{"servers": []}')).of, "list");
     assert.equal(sorted(tb, utf8("{}")).of, "report");
+    const long = new Uint8Array((1 << 20) + 1).fill(0x20);
+    long.set(file("vectors/server-list.json"));
+    assert.equal(sorted(tb, long).why, "a list may have 1 MiB here");
+    assert.equal(sorted(tb, long.subarray(0, 1 << 20)).list.servers.length, 2);
 });
 
 test("a verdict is what the library says of each record", () => {
