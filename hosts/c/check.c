@@ -14,6 +14,7 @@
  * which it writes again out of its values, and by one that it signs itself, the words of a code by
  * some of them. Whether all of that is right on every input is for the tests of hosts/rust.
  */
+#include "layout.h"
 #include "report.h"
 #include "response.h"
 #include "trawlbeacon.h"
@@ -265,8 +266,8 @@ static void expect_parts(const uint8_t *packet) {
     expect_refused_parts(packet, 0, 1, 0);
 }
 
-typedef struct tb_wrote writer(const uint8_t *packet, size_t packet_len, uint8_t *out,
-                               size_t out_len);
+typedef struct tb_wrote writer(const uint8_t *packet, tb_size packet_len, uint8_t *out,
+                               tb_size out_len);
 
 /* Writes a text, where there is room and where there is none: the context with its zero byte, then
  * the value. */
@@ -2300,7 +2301,7 @@ int main(void) {
         printf("the C host: %d of %d comparisons differ\n", differing, compared);
         return 1;
     }
-    /* xtask counts holds README's table to this line. */
+    /* xtask counts holds the table of docs/PROVED.md to this line. */
     printf("counted: %d comparisons from C with what the header says\n", compared);
     return fflush(stdout) == 0 ? 0 : 1;
 }

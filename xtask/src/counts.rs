@@ -1,6 +1,6 @@
-//! Holds README's table of what is compared, and how often, to what the tests said. Each of them
-//! says `counted: NUMBER WHAT` of the cases that it held; numbers of the same WHAT are added up.
-//! The table has just these, and none is missing.
+//! Holds the table of docs/PROVED.md, of what is compared and how often, to what the tests said. Each
+//! of them says `counted: NUMBER WHAT` of the cases that it held; numbers of the same WHAT are added
+//! up. The table has just these, and none is missing.
 
 use crate::report::{at, unless, Checked, Verdict, Wrong};
 use crate::scan::{digits, numbered};
@@ -8,7 +8,7 @@ use crate::tree::Tree;
 use std::collections::BTreeMap;
 use std::fs;
 
-const PAGE: &str = "README.md";
+const PAGE: &str = "docs/PROVED.md";
 
 pub fn check(tree: &Tree, words: &[&str]) -> Verdict {
     if words.is_empty() {
@@ -26,7 +26,7 @@ pub fn check(tree: &Tree, words: &[&str]) -> Verdict {
         }
     }
     problems.extend(due.keys().map(|row| format!("{PAGE}: its table lacks this row: {row}")));
-    unless(problems, format!("{} rows of README's table are what the tests counted", rows.len()))
+    unless(problems, format!("{} rows of {PAGE} are what the tests counted", rows.len()))
 }
 
 /// What the tests counted, as rows of the table. A line may begin with what the test runner prints
@@ -102,7 +102,7 @@ mod tests {
     fn numbers_of_the_same_words_are_added_up() {
         let (scratch, file) = right();
         let verdict = check(&scratch.tree(), &[&file]).unwrap();
-        assert_eq!(verdict, "2 rows of README's table are what the tests counted");
+        assert_eq!(verdict, "2 rows of docs/PROVED.md are what the tests counted");
     }
 
     #[test]
@@ -110,8 +110,8 @@ mod tests {
         let (scratch, file) = right();
         scratch.alter(PAGE, "1,234,567", "1,234,568");
         let due = [
-            "README.md:7: no test counted this row: | packets | 1,234,568 |",
-            "README.md: its table lacks this row: | packets | 1,234,567 |",
+            "docs/PROVED.md:7: no test counted this row: | packets | 1,234,568 |",
+            "docs/PROVED.md: its table lacks this row: | packets | 1,234,567 |",
         ];
         assert_eq!(found(check(&scratch.tree(), &[&file])), due);
     }

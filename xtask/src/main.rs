@@ -8,9 +8,12 @@ mod assumptions;
 mod codes;
 mod counts;
 mod edits;
+mod excerpts;
 mod links;
 mod markdown;
+mod pages;
 mod poke;
+mod prose;
 mod refusals;
 mod report;
 mod rules;
@@ -44,17 +47,21 @@ const fn check(
 }
 
 #[rustfmt::skip] // a table
-const CHECKS: [Check; 10] = [
+const CHECKS: [Check; 12] = [
     check("statements", "", statements::check,
         "docs/STATEMENTS.md has each wrong program and each theorem of uniqueness"),
     check("codes", "[--write]", codes::check,
-        "the header and the Rust host have the table of refusal codes"),
+        "the header and the hosts have the table of refusal codes"),
     check("edits", "", edits::check,
         "the wrong programs fit the files that they change"),
     check("versions", "[--write]", versions::check,
         "the version is VERSION's wherever it stands"),
     check("links", "[FOLDER]", links::check,
         "relative links of the documents, or of all below FOLDER, lead somewhere"),
+    check("pages", "", pages::check,
+        "README is short, and the sentences of all pages and of the header are"),
+    check("excerpts", "", excerpts::check,
+        "programs in README and docs/GUIDE.md are parts of the files that they name"),
     check("rules", "", rules::check,
         "docs/RULES.md has what is cited of the customer's papers"),
     check("refusals", "[--write] SAID", refusals::check,
@@ -62,7 +69,7 @@ const CHECKS: [Check; 10] = [
     check("assumptions", "", assumptions::check,
         "rt's logs in target/log have no library that assumes anything"),
     check("counts", "FILE...", counts::check,
-        "README's table of comparisons has what the tests counted; they said it in FILEs"),
+        "the table of docs/PROVED.md has what the tests counted; they said it in FILEs"),
     check("poke", "FILE OFFSET BYTE", poke::check,
         "puts another byte into a file"),
 ];

@@ -35,7 +35,7 @@ const fn lock(file: &'static str) -> Place {
 
 const PACKAGE: &str = "name = \"trawlbeacon\"";
 
-const PLACES: [Place; 9] = [
+const PLACES: [Place; 11] = [
     place("include/trawlbeacon.h", "#define TB_VERSION_MAJOR ", Part::Major),
     place("include/trawlbeacon.h", "#define TB_VERSION_MINOR ", Part::Minor),
     place("tools/exports.map", "TRAWLBEACON_", Part::Major),
@@ -43,6 +43,8 @@ const PLACES: [Place; 9] = [
     place("man/trawl.1", ".TH TRAWL 1 \"*\" \"Trawlbeacon ", Part::All),
     place("programs/trawld/Cargo.toml", "version = \"", Part::All),
     place("man/trawld.8", ".TH TRAWLD 8 \"*\" \"Trawlbeacon ", Part::All),
+    place("hosts/python/trawlbeacon/__init__.py", "__version__ = \"", Part::All),
+    place("hosts/python/trawlbeacon/_library.py", "NAME = \"libtrawlbeacon.so.", Part::Major),
     lock("Cargo.lock"),
     lock("hosts/bare/Cargo.lock"),
 ];
@@ -177,6 +179,8 @@ mod tests {
             ("man/trawl.1", ".TH TRAWL 1 \"a day\" \"Trawlbeacon 1.2.3\" \"\"\n"),
             ("programs/trawld/Cargo.toml", "[package]\nversion = \"1.2.3\"\n"),
             ("man/trawld.8", ".TH TRAWLD 8 \"a day\" \"Trawlbeacon 1.2.3\" \"\"\n"),
+            ("hosts/python/trawlbeacon/__init__.py", "__version__ = \"1.2.3\"\n"),
+            ("hosts/python/trawlbeacon/_library.py", "NAME = \"libtrawlbeacon.so.1\"\n"),
             ("Cargo.lock", LOCK),
             ("hosts/bare/Cargo.lock", LOCK),
             (CHANGES, "# What changed\n\n## 1.2.3\n\n## 0.9.0\n"),
@@ -186,7 +190,7 @@ mod tests {
     #[test]
     fn the_same_version_everywhere_passes() {
         let said = check(&right().tree(), &[]).unwrap();
-        assert_eq!(said, "1.2.3, in 9 other places, and first in CHANGELOG.md");
+        assert_eq!(said, "1.2.3, in 11 other places, and first in CHANGELOG.md");
     }
 
     #[test]
@@ -199,6 +203,8 @@ mod tests {
             ("man/trawl.1", "1.2.3", "1.2", 1),
             ("programs/trawld/Cargo.toml", "1.2.3", "1.2.4", 2),
             ("man/trawld.8", "1.2.3", "1.2", 1),
+            ("hosts/python/trawlbeacon/__init__.py", "1.2.3", "1.2.4", 1),
+            ("hosts/python/trawlbeacon/_library.py", "so.1", "so.2", 1),
             ("Cargo.lock", "1.2.3", "1.2.3-rc", 7),
             ("hosts/bare/Cargo.lock", "1.2.3", "1.2.30", 7),
             (CHANGES, "1.2.3", "1.2.4", 3),

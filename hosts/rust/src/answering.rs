@@ -1,7 +1,8 @@
 //! A whole batch in one call: the packets that wait, and the answers to those that get one.
 
+use crate::raw::{self, size};
 use crate::serving::of_cert;
-use crate::{raw, response_length, Hash, PacketRefusal, SigningKey, MOST_LEAVES};
+use crate::{response_length, Hash, PacketRefusal, SigningKey, MOST_LEAVES};
 
 /// Bytes that are room for each answer to a batch of up to [`MOST_LEAVES`] packets, with so many
 /// bytes of CERT.
@@ -64,23 +65,23 @@ pub fn answer_batch(waiting: &Waiting, sending: Sending) -> Result<usize, Packet
     let told = unsafe {
         raw::tb_answer_batch(
             packets.as_ptr(),
-            packets.len(),
-            slot,
+            size(packets.len()),
+            size(slot),
             lengths.as_ptr(),
-            lengths.len(),
+            size(lengths.len()),
             srv,
             cert.as_ptr(),
-            cert.len(),
+            size(cert.len()),
             key.seed(),
             midp,
             radi,
             rows.as_mut_ptr(),
-            rows.len(),
+            size(rows.len()),
             out.as_mut_ptr(),
-            out.len(),
-            room,
+            size(out.len()),
+            size(room),
             out_lengths.as_mut_ptr(),
-            out_lengths.len(),
+            size(out_lengths.len()),
         )
     };
     PacketRefusal::check(told.code, told.at).map_err(of_cert)?;

@@ -1,6 +1,7 @@
 //! The check of a response against its request, and what is asked of answers that were kept.
 
-use crate::{raw, PacketRefusal};
+use crate::raw::{self, size};
+use crate::PacketRefusal;
 
 /// What a valid response tells: the true time is from `low` to `high`, in seconds since 1970.
 #[derive(Clone, Copy, Debug, PartialEq, Eq)]
@@ -46,9 +47,9 @@ pub fn check_response(
     let verdict = unsafe {
         raw::tb_check_response(
             request.as_ptr(),
-            request.len(),
+            size(request.len()),
             response.as_ptr(),
-            response.len(),
+            size(response.len()),
             u32::from(delegation),
             u32::from(signature),
         )

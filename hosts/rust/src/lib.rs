@@ -136,7 +136,7 @@ pub type Hash = [u8; 32];
 pub fn sha512(message: &[u8]) -> Digest {
     let mut out = [0; 64];
     // SAFETY: see raw.
-    unsafe { raw::tb_sha512(message.as_ptr(), message.len(), &mut out) };
+    unsafe { raw::tb_sha512(message.as_ptr(), raw::size(message.len()), &mut out) };
     out
 }
 
@@ -145,7 +145,7 @@ pub fn sha512(message: &[u8]) -> Digest {
 pub fn leaf(packet: &[u8]) -> Hash {
     let mut out = [0; 32];
     // SAFETY: see raw.
-    unsafe { raw::tb_leaf(packet.as_ptr(), packet.len(), &mut out) };
+    unsafe { raw::tb_leaf(packet.as_ptr(), raw::size(packet.len()), &mut out) };
     out
 }
 
@@ -182,6 +182,6 @@ pub fn srv_value(key: &[u8; 32]) -> Hash {
 pub fn link(response: &[u8], rand: &[u8; 32]) -> Hash {
     let mut out = [0; 32];
     // SAFETY: see raw.
-    unsafe { raw::tb_link(response.as_ptr(), response.len(), rand, &mut out) };
+    unsafe { raw::tb_link(response.as_ptr(), raw::size(response.len()), rand, &mut out) };
     out
 }

@@ -1,6 +1,7 @@
 //! Requests and responses: reading both, and writing a request.
 
-use crate::{raw, Hash, PacketRefusal, Refusal};
+use crate::raw::{self, size};
+use crate::{Hash, PacketRefusal, Refusal};
 
 /// Bytes of the longest packet that is read.
 pub const LONGEST_PACKET: usize = 2000;
@@ -36,7 +37,7 @@ pub struct Response {
 /// Reads a request. The refusals are 1 to 8.
 pub fn read_request(packet: &[u8]) -> Result<Request, PacketRefusal> {
     // SAFETY: see raw.
-    let read = unsafe { raw::tb_read_request(packet.as_ptr(), packet.len()) };
+    let read = unsafe { raw::tb_read_request(packet.as_ptr(), size(packet.len())) };
     PacketRefusal::check(read.code, read.at)?;
     Ok(Request { nonc: read.nonc, srv: (read.with_srv != 0).then_some(read.srv) })
 }
@@ -44,7 +45,7 @@ pub fn read_request(packet: &[u8]) -> Result<Request, PacketRefusal> {
 /// Reads a response. The refusals are 1 to 8.
 pub fn read_response(packet: &[u8]) -> Result<Response, PacketRefusal> {
     // SAFETY: see raw.
-    let read = unsafe { raw::tb_read_response(packet.as_ptr(), packet.len()) };
+    let read = unsafe { raw::tb_read_response(packet.as_ptr(), size(packet.len())) };
     PacketRefusal::check(read.code, read.at)?;
     let raw::tb_response { nonc, indx, midp, radi, root, .. } = read;
     Ok(Response { nonc, indx, midp, radi, root })
@@ -55,7 +56,7 @@ pub fn read_response(packet: &[u8]) -> Result<Response, PacketRefusal> {
 /// refusal is 19, and then all of `out` stays.
 pub fn write_request(key: &[u8; 32], nonce: &[u8; 32], out: &mut [u8]) -> Result<usize, Refusal> {
     // SAFETY: see raw.
-    Ok(wrote(unsafe { raw::tb_write_request(key, nonce, out.as_mut_ptr(), out.len()) })?)
+    Ok(wrote(unsafe { raw::tb_write_request(key, nonce, out.as_mut_ptr(), size(out.len())) })?)
 }
 
 /// How many bytes were written, or why none were. They are a part of a slice, so that nothing is

@@ -1,6 +1,6 @@
 //! A hash whose message comes in pieces.
 
-use crate::raw::{self, tb_running};
+use crate::raw::{self, size, tb_running};
 use crate::{Digest, Hash, Refusal};
 #[cfg(feature = "std")]
 use std::io;
@@ -70,7 +70,7 @@ impl Sha512 {
                 &mut state.rest,
                 &mut state.count,
                 piece.as_ptr(),
-                piece.len(),
+                size(piece.len()),
             )
         })
     }

@@ -9,7 +9,8 @@
 use core::fmt;
 
 use crate::check::of_judged;
-use crate::{raw, Checked, PacketRefusal, Refusal};
+use crate::raw::{self, size};
+use crate::{Checked, PacketRefusal, Refusal};
 
 /// Bytes of a record of a pile. Numbers in it are least significant byte first.
 ///
@@ -100,7 +101,7 @@ impl std::error::Error for ReportRefusal {}
 pub fn pile_code(pile: &[u8], answers: &[u8]) -> Result<(), Refusal> {
     let (from, told) = (pile.as_ptr(), answers.as_ptr());
     // SAFETY: see raw.
-    Refusal::check(unsafe { raw::tb_pile_code(from, pile.len(), told, answers.len()) })
+    Refusal::check(unsafe { raw::tb_pile_code(from, size(pile.len()), told, size(answers.len())) })
 }
 
 /// The window and the key of the record at `place`, where it is valid. The refusals are 15, also
@@ -117,7 +118,9 @@ pub fn pile_code(pile: &[u8], answers: &[u8]) -> Result<(), Refusal> {
 pub fn judge(pile: &[u8], answers: &[u8], place: usize) -> Result<Checked, PacketRefusal> {
     let (from, told) = (pile.as_ptr(), answers.as_ptr());
     // SAFETY: see raw.
-    of_judged(unsafe { raw::tb_judge(from, pile.len(), told, answers.len(), place) })
+    of_judged(unsafe {
+        raw::tb_judge(from, size(pile.len()), told, size(answers.len()), size(place))
+    })
 }
 
 /// Whether the record at `place` is linked: the NONC of its request is H(whole response packet of
@@ -127,7 +130,7 @@ pub fn judge(pile: &[u8], answers: &[u8], place: usize) -> Result<Checked, Packe
 #[must_use]
 pub fn linked(pile: &[u8], place: usize) -> bool {
     // SAFETY: see raw.
-    unsafe { raw::tb_linked(pile.as_ptr(), pile.len(), place) }
+    unsafe { raw::tb_linked(pile.as_ptr(), size(pile.len()), size(place)) }
 }
 
 /// Whether the rand of the first record is all zero. It is not where the pile is not 1 to 16 whole
@@ -135,7 +138,7 @@ pub fn linked(pile: &[u8], place: usize) -> bool {
 #[must_use]
 pub fn first_rand_zero(pile: &[u8]) -> bool {
     // SAFETY: see raw.
-    unsafe { raw::tb_first_rand_zero(pile.as_ptr(), pile.len()) }
+    unsafe { raw::tb_first_rand_zero(pile.as_ptr(), size(pile.len())) }
 }
 
 /// Whether two windows contradict each other, of which `earlier` was told before `later`, each by
@@ -173,7 +176,7 @@ pub fn contradicts(earlier: (u64, u32), later: (u64, u32)) -> bool {
 pub fn check_report(pile: &[u8], answers: &[u8]) -> Result<Pair, ReportRefusal> {
     let (from, told) = (pile.as_ptr(), answers.as_ptr());
     // SAFETY: see raw.
-    of_reported(unsafe { raw::tb_check_report(from, pile.len(), told, answers.len()) })
+    of_reported(unsafe { raw::tb_check_report(from, size(pile.len()), told, size(answers.len())) })
 }
 
 /// What the library answered about a report, as a result.
@@ -205,7 +208,9 @@ pub(crate) fn of_reported(checked: raw::tb_reported) -> Result<Pair, ReportRefus
 pub fn cut_run(pile: &[u8], answers: &[u8], out: &mut [u8]) -> Result<Run, Refusal> {
     let (from, told, to) = (pile.as_ptr(), answers.as_ptr(), out.as_mut_ptr());
     // SAFETY: see raw.
-    of_cut(unsafe { raw::tb_cut_run(from, pile.len(), told, answers.len(), to, out.len()) })
+    of_cut(unsafe {
+        raw::tb_cut_run(from, size(pile.len()), told, size(answers.len()), to, size(out.len()))
+    })
 }
 
 /// What the library answered about a run, as a result.

@@ -13,6 +13,20 @@
 
 #![allow(non_camel_case_types)]
 
+/// A length, a number of things or a place among them, as `tb_size` of the header. It has 64 bits on
+/// every machine: where a pointer has as many it is `usize`, and where it has fewer `u64`.
+#[cfg(target_pointer_width = "64")]
+pub type tb_size = usize;
+#[cfg(not(target_pointer_width = "64"))]
+#[allow(missing_docs)] // see above
+pub type tb_size = u64;
+
+/// A length or a place of Rust's, as the library takes it. No machine has more bits than are kept.
+#[must_use]
+pub const fn size(number: usize) -> tb_size {
+    number as tb_size
+}
+
 /// The state of a hash in pieces. It is the caller's, and any content does no harm.
 #[repr(C)]
 #[derive(Clone, Copy, Debug, PartialEq, Eq)]
@@ -425,9 +439,9 @@ pub struct tb_old {
 
 extern "C" {
     /// SHA-512.
-    pub fn tb_sha512(message: *const u8, message_len: usize, out: &mut [u8; 64]);
+    pub fn tb_sha512(message: *const u8, message_len: tb_size, out: &mut [u8; 64]);
     /// The leaf of a request packet.
-    pub fn tb_leaf(packet: *const u8, packet_len: usize, out: &mut [u8; 32]);
+    pub fn tb_leaf(packet: *const u8, packet_len: tb_size, out: &mut [u8; 32]);
     /// The node above two nodes.
     pub fn tb_parent(left: &[u8; 32], right: &[u8; 32], out: &mut [u8; 32]);
     /// A leaf without a packet.
@@ -435,7 +449,7 @@ extern "C" {
     /// The SRV value of a server's key.
     pub fn tb_srv_value(key: &[u8; 32], out: &mut [u8; 32]);
     /// The nonce of the next request of a chain.
-    pub fn tb_link(response: *const u8, response_len: usize, rand: &[u8; 32], out: &mut [u8; 32]);
+    pub fn tb_link(response: *const u8, response_len: tb_size, rand: &[u8; 32], out: &mut [u8; 32]);
 
     /// Starts the hash of a message.
     pub fn tb_sha512_start_fields(h: &mut [u64; 8], rest: &mut [u8; 128], count: &mut u64);
@@ -447,7 +461,7 @@ extern "C" {
         rest: &mut [u8; 128],
         count: &mut u64,
         piece: *const u8,
-        piece_len: usize,
+        piece_len: tb_size,
     ) -> u32;
     /// The SHA-512 digest of what was taken so far.
     pub fn tb_sha512_finish_fields(h: &[u64; 8], rest: &[u8; 128], count: u64, out: &mut [u8; 64]);
@@ -455,15 +469,15 @@ extern "C" {
     pub fn tb_hash_finish_fields(h: &[u64; 8], rest: &[u8; 128], count: u64, out: &mut [u8; 32]);
 
     /// Reads a request.
-    pub fn tb_read_request(packet: *const u8, packet_len: usize) -> tb_request;
+    pub fn tb_read_request(packet: *const u8, packet_len: tb_size) -> tb_request;
     /// Reads a response.
-    pub fn tb_read_response(packet: *const u8, packet_len: usize) -> tb_response;
+    pub fn tb_read_response(packet: *const u8, packet_len: tb_size) -> tb_response;
     /// Writes a request.
     pub fn tb_write_request(
         key: &[u8; 32],
         nonce: &[u8; 32],
         out: *mut u8,
-        out_len: usize,
+        out_len: tb_size,
     ) -> tb_wrote;
 
     /// Writes DELE.
@@ -472,7 +486,7 @@ extern "C" {
         mint: u64,
         maxt: u64,
         out: *mut u8,
-        out_len: usize,
+        out_len: tb_size,
     ) -> tb_wrote;
     /// Writes CERT.
     pub fn tb_write_cert(
@@ -481,7 +495,7 @@ extern "C" {
         maxt: u64,
         signature: &[u8; 64],
         out: *mut u8,
-        out_len: usize,
+        out_len: tb_size,
     ) -> tb_wrote;
     /// Writes SREP.
     pub fn tb_write_srep(
@@ -489,115 +503,120 @@ extern "C" {
         midp: u64,
         radi: u32,
         out: *mut u8,
-        out_len: usize,
+        out_len: tb_size,
     ) -> tb_wrote;
     /// Writes the response to a request. A place is one in the value of CERT.
     pub fn tb_write_response(
         request: *const u8,
-        request_len: usize,
+        request_len: tb_size,
         indx: u32,
         root: &[u8; 32],
         path: *const u8,
-        path_len: usize,
+        path_len: tb_size,
         midp: u64,
         radi: u32,
         cert: *const u8,
-        cert_len: usize,
+        cert_len: tb_size,
         signature: &[u8; 64],
         out: *mut u8,
-        out_len: usize,
+        out_len: tb_size,
     ) -> tb_wrote;
     /// Answers a batch. A place is one in the value of CERT.
     pub fn tb_answer_batch(
         packets: *const u8,
-        packets_len: usize,
-        slot: usize,
+        packets_len: tb_size,
+        slot: tb_size,
         lengths: *const u32,
-        lengths_len: usize,
+        lengths_len: tb_size,
         srv: &[u8; 32],
         cert: *const u8,
-        cert_len: usize,
+        cert_len: tb_size,
         seed: &[u8; 32],
         midp: u64,
         radi: u32,
         rows: *mut u8,
-        rows_len: usize,
+        rows_len: tb_size,
         out: *mut u8,
-        out_len: usize,
-        room: usize,
+        out_len: tb_size,
+        room: tb_size,
         out_lengths: *mut u32,
-        out_lengths_len: usize,
+        out_lengths_len: tb_size,
     ) -> tb_batch;
 
     /// Whether a signature of a text verifies under a key.
     pub fn tb_verify(
         key: *const u8,
-        key_len: usize,
+        key_len: tb_size,
         text: *const u8,
-        text_len: usize,
+        text_len: tb_size,
         signature: *const u8,
-        signature_len: usize,
+        signature_len: tb_size,
     ) -> bool;
     /// The same of a text in two parts.
     pub fn tb_verify_parts(
         key: *const u8,
-        key_len: usize,
+        key_len: tb_size,
         context: *const u8,
-        context_len: usize,
+        context_len: tb_size,
         value: *const u8,
-        value_len: usize,
+        value_len: tb_size,
         signature: *const u8,
-        signature_len: usize,
+        signature_len: tb_size,
     ) -> bool;
 
     /// The public key of a seed.
     pub fn tb_public_key(seed: &[u8; 32], out: &mut [u8; 32]);
     /// The signature of a text.
-    pub fn tb_sign(seed: &[u8; 32], text: *const u8, text_len: usize, out: &mut [u8; 64]);
+    pub fn tb_sign(seed: &[u8; 32], text: *const u8, text_len: tb_size, out: &mut [u8; 64]);
     /// The same of a text in two parts.
     pub fn tb_sign_parts(
         seed: &[u8; 32],
         context: *const u8,
-        context_len: usize,
+        context_len: tb_size,
         value: *const u8,
-        value_len: usize,
+        value_len: tb_size,
         out: &mut [u8; 64],
     );
 
     /// Takes out of a response what is verified.
-    pub fn tb_signed_parts(packet: *const u8, packet_len: usize) -> tb_parts;
+    pub fn tb_signed_parts(packet: *const u8, packet_len: tb_size) -> tb_parts;
     /// Writes the text that the delegation signs.
     pub fn tb_delegation_text(
         packet: *const u8,
-        packet_len: usize,
+        packet_len: tb_size,
         out: *mut u8,
-        out_len: usize,
+        out_len: tb_size,
     ) -> tb_wrote;
     /// Writes the text that the response signs.
     pub fn tb_response_text(
         packet: *const u8,
-        packet_len: usize,
+        packet_len: tb_size,
         out: *mut u8,
-        out_len: usize,
+        out_len: tb_size,
     ) -> tb_wrote;
     /// Checks a response. Of the two answers 1 is yes, and every other number is no.
     pub fn tb_check_response(
         request: *const u8,
-        request_len: usize,
+        request_len: tb_size,
         response: *const u8,
-        response_len: usize,
+        response_len: tb_size,
         delegation: u32,
         signature: u32,
     ) -> tb_verdict;
     /// Whether the two signatures of a response verify: the delegation's, then the response's own.
-    pub fn tb_answers(key: &[u8; 32], response: *const u8, response_len: usize, out: &mut [u8; 2]);
+    pub fn tb_answers(
+        key: &[u8; 32],
+        response: *const u8,
+        response_len: tb_size,
+        out: &mut [u8; 2],
+    );
     /// Checks a response, and verifies its signatures.
     pub fn tb_check_signed(
         key: &[u8; 32],
         request: *const u8,
-        request_len: usize,
+        request_len: tb_size,
         response: *const u8,
-        response_len: usize,
+        response_len: tb_size,
     ) -> tb_verdict;
     /// Whether the window of an answer may still be used at a time.
     pub fn tb_may_use_fields(code: u32, maxt: u64, time: u64) -> bool;
@@ -619,131 +638,136 @@ extern "C" {
         leaf: &[u8; 32],
         indx: u32,
         path: *const u8,
-        path_len: usize,
+        path_len: tb_size,
         root: &[u8; 32],
     ) -> bool;
     /// The root of a tree.
-    pub fn tb_root(leaves: *const u8, leaves_len: usize) -> tb_rooted;
+    pub fn tb_root(leaves: *const u8, leaves_len: tb_size) -> tb_rooted;
     /// Writes the path of a leaf.
     pub fn tb_path(
         leaves: *const u8,
-        leaves_len: usize,
-        place: usize,
+        leaves_len: tb_size,
+        place: tb_size,
         out: *mut u8,
-        out_len: usize,
+        out_len: tb_size,
     ) -> tb_placed;
     /// Writes all rows of a tree.
-    pub fn tb_rows(leaves: *const u8, leaves_len: usize, out: *mut u8, out_len: usize) -> tb_laid;
+    pub fn tb_rows(
+        leaves: *const u8,
+        leaves_len: tb_size,
+        out: *mut u8,
+        out_len: tb_size,
+    ) -> tb_laid;
     /// Writes the path of a leaf as it stands in rows.
     pub fn tb_path_from(
         rows: *const u8,
-        rows_len: usize,
-        count: usize,
-        place: usize,
+        rows_len: tb_size,
+        count: tb_size,
+        place: tb_size,
         out: *mut u8,
-        out_len: usize,
+        out_len: tb_size,
     ) -> tb_placed;
 
     /// Looks a server up.
     pub fn tb_find_server(
         owner: *const u8,
-        owner_len: usize,
+        owner_len: tb_size,
         shipped: *const u8,
-        shipped_len: usize,
+        shipped_len: tb_size,
         srv: &[u8; 32],
     ) -> tb_found;
 
     /// Reads a list of servers as JSON into records.
     pub fn tb_read_servers(
         text: *const u8,
-        text_len: usize,
+        text_len: tb_size,
         out: *mut u8,
-        out_len: usize,
+        out_len: tb_size,
     ) -> tb_servers;
     /// Writes the name of a server of such a list.
     pub fn tb_server_name(
         text: *const u8,
-        text_len: usize,
-        place: usize,
+        text_len: tb_size,
+        place: tb_size,
         out: *mut u8,
-        out_len: usize,
+        out_len: tb_size,
     ) -> tb_wrote;
     /// Writes an address of such a server.
     pub fn tb_server_address(
         text: *const u8,
-        text_len: usize,
-        place: usize,
-        which: usize,
+        text_len: tb_size,
+        place: tb_size,
+        which: tb_size,
         out: *mut u8,
-        out_len: usize,
+        out_len: tb_size,
     ) -> tb_addressed;
     /// Writes one of the places where newer lists are.
     pub fn tb_list_source(
         text: *const u8,
-        text_len: usize,
-        place: usize,
+        text_len: tb_size,
+        place: tb_size,
         out: *mut u8,
-        out_len: usize,
+        out_len: tb_size,
     ) -> tb_wrote;
     /// Writes where reports are sent to.
     pub fn tb_list_reports(
         text: *const u8,
-        text_len: usize,
+        text_len: tb_size,
         out: *mut u8,
-        out_len: usize,
+        out_len: tb_size,
     ) -> tb_wrote;
     /// Writes the object of one server of a list as JSON.
     pub fn tb_write_server(
         name: *const u8,
-        name_len: usize,
+        name_len: tb_size,
         version: u32,
         key: &[u8; 32],
         addresses: *const u8,
-        addresses_len: usize,
+        addresses_len: tb_size,
         out: *mut u8,
-        out_len: usize,
+        out_len: tb_size,
     ) -> tb_wrote;
     /// Writes a list of servers as JSON.
     pub fn tb_write_servers(
         keys: *const u8,
-        keys_len: usize,
+        keys_len: tb_size,
         versions: *const u32,
-        versions_len: usize,
+        versions_len: tb_size,
         names: *const u8,
-        names_len: usize,
+        names_len: tb_size,
         name_lengths: *const u32,
-        name_lengths_len: usize,
+        name_lengths_len: tb_size,
         addresses: *const u8,
-        addresses_len: usize,
+        addresses_len: tb_size,
         address_lengths: *const u32,
-        address_lengths_len: usize,
+        address_lengths_len: tb_size,
         sources: *const u8,
-        sources_len: usize,
+        sources_len: tb_size,
         reports: *const u8,
-        reports_len: usize,
+        reports_len: tb_size,
         out: *mut u8,
-        out_len: usize,
+        out_len: tb_size,
     ) -> tb_wrote;
 
     /// Code 15 of a pile and its answers, or 0.
     pub fn tb_pile_code(
         pile: *const u8,
-        pile_len: usize,
+        pile_len: tb_size,
         answers: *const u8,
-        answers_len: usize,
+        answers_len: tb_size,
     ) -> u32;
     /// Judges a record of a pile.
     pub fn tb_judge(
         pile: *const u8,
-        pile_len: usize,
+        pile_len: tb_size,
         answers: *const u8,
-        answers_len: usize,
-        place: usize,
+        answers_len: tb_size,
+        place: tb_size,
     ) -> tb_judged;
     /// Whether a record of a pile is linked to the one before it.
-    pub fn tb_linked(pile: *const u8, pile_len: usize, place: usize) -> bool;
+    pub fn tb_linked(pile: *const u8, pile_len: tb_size, place: tb_size) -> bool;
     /// Whether the first rand of a pile is all zero.
-    pub fn tb_first_rand_zero(pile: *const u8, pile_len: usize) -> bool;
+    pub fn tb_first_rand_zero(pile: *const u8, pile_len: tb_size) -> bool;
     /// Whether two windows contradict each other: true is yes.
     pub fn tb_contradicts(
         earlier_midp: u64,
@@ -755,9 +779,9 @@ extern "C" {
     /// it is no pile.
     pub fn tb_pile_contradicts(
         pile: *const u8,
-        pile_len: usize,
+        pile_len: tb_size,
         answers: *const u8,
-        answers_len: usize,
+        answers_len: tb_size,
     ) -> u32;
     /// Before any window.
     pub fn tb_tally_start_field(most: &mut u64);
@@ -766,69 +790,69 @@ extern "C" {
     /// Checks whether a pile is a report.
     pub fn tb_check_report(
         pile: *const u8,
-        pile_len: usize,
+        pile_len: tb_size,
         answers: *const u8,
-        answers_len: usize,
+        answers_len: tb_size,
     ) -> tb_reported;
     /// Writes the run of a pile that convicts by itself.
     pub fn tb_cut_run(
         pile: *const u8,
-        pile_len: usize,
+        pile_len: tb_size,
         answers: *const u8,
-        answers_len: usize,
+        answers_len: tb_size,
         out: *mut u8,
-        out_len: usize,
+        out_len: tb_size,
     ) -> tb_cut;
     /// Judges a record of a pile by its own signatures.
-    pub fn tb_judge_signed(pile: *const u8, pile_len: usize, place: usize) -> tb_judged;
+    pub fn tb_judge_signed(pile: *const u8, pile_len: tb_size, place: tb_size) -> tb_judged;
     /// Checks whether a pile is a report by its own signatures.
-    pub fn tb_check_signed_report(pile: *const u8, pile_len: usize) -> tb_reported;
+    pub fn tb_check_signed_report(pile: *const u8, pile_len: tb_size) -> tb_reported;
     /// Writes the run of a pile that convicts by its own signatures.
     pub fn tb_cut_signed_run(
         pile: *const u8,
-        pile_len: usize,
+        pile_len: tb_size,
         out: *mut u8,
-        out_len: usize,
+        out_len: tb_size,
     ) -> tb_cut;
 
     /// Reads a report as JSON into records.
     pub fn tb_read_report(
         text: *const u8,
-        text_len: usize,
+        text_len: tb_size,
         out: *mut u8,
-        out_len: usize,
+        out_len: tb_size,
     ) -> tb_records;
     /// Writes a pile that is a report as JSON.
     pub fn tb_write_report(
         pile: *const u8,
-        pile_len: usize,
+        pile_len: tb_size,
         answers: *const u8,
-        answers_len: usize,
+        answers_len: tb_size,
         out: *mut u8,
-        out_len: usize,
+        out_len: tb_size,
     ) -> tb_published;
     /// Writes a pile that is a report by its own signatures as JSON.
     pub fn tb_write_signed_report(
         pile: *const u8,
-        pile_len: usize,
+        pile_len: tb_size,
         out: *mut u8,
-        out_len: usize,
+        out_len: tb_size,
     ) -> tb_published;
     /// Reads a report as JSON, and writes the run of it that convicts by itself.
     pub fn tb_cut_text(
         text: *const u8,
-        text_len: usize,
+        text_len: tb_size,
         answers: *const u8,
-        answers_len: usize,
+        answers_len: tb_size,
         out: *mut u8,
-        out_len: usize,
+        out_len: tb_size,
     ) -> tb_forwarded;
     /// The same by its own signatures.
     pub fn tb_cut_signed_text(
         text: *const u8,
-        text_len: usize,
+        text_len: tb_size,
         out: *mut u8,
-        out_len: usize,
+        out_len: tb_size,
     ) -> tb_forwarded;
 
     /// Starts a walk: 0, 31 or 19.
@@ -841,11 +865,11 @@ extern "C" {
         last: &mut u64,
         most: &mut u64,
         servers: *const u8,
-        servers_len: usize,
+        servers_len: tb_size,
         first: &[u8; 32],
         longest: u64,
         pile: *const u8,
-        pile_len: usize,
+        pile_len: tb_size,
     ) -> u32;
     /// Writes the request that is asked next.
     pub fn tb_walk_ask_fields(
@@ -857,7 +881,7 @@ extern "C" {
         last: u64,
         most: u64,
         out: *mut u8,
-        out_len: usize,
+        out_len: tb_size,
     ) -> tb_asked;
     /// Takes the response to it. Of the two answers 1 is yes, and every other number is no.
     pub fn tb_walk_take_fields(
@@ -874,9 +898,9 @@ extern "C" {
         received: u64,
         next: &[u8; 32],
         response: *const u8,
-        response_len: usize,
+        response_len: tb_size,
         pile: *mut u8,
-        pile_len: usize,
+        pile_len: tb_size,
     ) -> tb_took;
     /// The same with no answers lent: the signatures are verified under the key of the server that
     /// is asked.
@@ -892,9 +916,9 @@ extern "C" {
         received: u64,
         next: &[u8; 32],
         response: *const u8,
-        response_len: usize,
+        response_len: tb_size,
         pile: *mut u8,
-        pile_len: usize,
+        pile_len: tb_size,
     ) -> tb_took;
 
     /// Starts a clock: 0 or 32.

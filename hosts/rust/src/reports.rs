@@ -4,7 +4,8 @@
 // How many records or bytes there are, and a place, is told of what stands in a buffer that was
 // lent, so nothing is lost where it becomes a usize.
 
-use crate::{raw, PacketRefusal, Refusal, ReportRefusal, Run};
+use crate::raw::{self, size};
+use crate::{PacketRefusal, Refusal, ReportRefusal, Run};
 
 /// The most bytes that a report has that is written here: 16 records with packets of 2,000 bytes. A
 /// text that is read may be longer.
@@ -45,7 +46,7 @@ pub struct CutText {
 pub fn read_report(text: &[u8], out: &mut [u8]) -> Result<usize, Refusal> {
     let (from, to) = (text.as_ptr(), out.as_mut_ptr());
     // SAFETY: see raw.
-    let read = unsafe { raw::tb_read_report(from, text.len(), to, out.len()) };
+    let read = unsafe { raw::tb_read_report(from, size(text.len()), to, size(out.len())) };
     Refusal::check(read.code)?;
     Ok(read.records as usize)
 }
@@ -67,7 +68,9 @@ pub fn read_report(text: &[u8], out: &mut [u8]) -> Result<usize, Refusal> {
 pub fn write_report(pile: &[u8], answers: &[u8], out: &mut [u8]) -> Result<usize, ReportRefusal> {
     let (from, told, to) = (pile.as_ptr(), answers.as_ptr(), out.as_mut_ptr());
     // SAFETY: see raw.
-    of_wrote(unsafe { raw::tb_write_report(from, pile.len(), told, answers.len(), to, out.len()) })
+    of_wrote(unsafe {
+        raw::tb_write_report(from, size(pile.len()), told, size(answers.len()), to, size(out.len()))
+    })
 }
 
 /// What [`write_report`] does, with each record judged by its own signatures and not by answers. 15
@@ -88,7 +91,7 @@ pub fn write_report(pile: &[u8], answers: &[u8], out: &mut [u8]) -> Result<usize
 pub fn write_signed_report(pile: &[u8], out: &mut [u8]) -> Result<usize, ReportRefusal> {
     let (from, to) = (pile.as_ptr(), out.as_mut_ptr());
     // SAFETY: see raw.
-    of_wrote(unsafe { raw::tb_write_signed_report(from, pile.len(), to, out.len()) })
+    of_wrote(unsafe { raw::tb_write_signed_report(from, size(pile.len()), to, size(out.len())) })
 }
 
 /// What the library answered about a report that is written, as a result.
@@ -120,7 +123,9 @@ fn of_wrote(wrote: raw::tb_published) -> Result<usize, ReportRefusal> {
 pub fn cut_text(text: &[u8], answers: &[u8], out: &mut [u8]) -> Result<CutText, Refusal> {
     let (from, told, to) = (text.as_ptr(), answers.as_ptr(), out.as_mut_ptr());
     // SAFETY: see raw.
-    of_cut_text(unsafe { raw::tb_cut_text(from, text.len(), told, answers.len(), to, out.len()) })
+    of_cut_text(unsafe {
+        raw::tb_cut_text(from, size(text.len()), told, size(answers.len()), to, size(out.len()))
+    })
 }
 
 /// What [`cut_text`] does, with each record judged by its own signatures and not by answers. The
@@ -139,7 +144,7 @@ pub fn cut_text(text: &[u8], answers: &[u8], out: &mut [u8]) -> Result<CutText, 
 pub fn cut_signed_text(text: &[u8], out: &mut [u8]) -> Result<CutText, Refusal> {
     let (from, to) = (text.as_ptr(), out.as_mut_ptr());
     // SAFETY: see raw.
-    of_cut_text(unsafe { raw::tb_cut_signed_text(from, text.len(), to, out.len()) })
+    of_cut_text(unsafe { raw::tb_cut_signed_text(from, size(text.len()), to, size(out.len())) })
 }
 
 /// What the library answered about a run that is written as text, as a result.

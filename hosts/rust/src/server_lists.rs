@@ -4,7 +4,8 @@
 // How many records or bytes there are is told of what stands in a buffer that was lent, so nothing
 // is lost where it becomes a usize.
 
-use crate::{raw, Refusal};
+use crate::raw::{self, size};
+use crate::Refusal;
 
 /// The most servers of a list as JSON.
 pub const LISTED_SERVERS: usize = 64;
@@ -66,7 +67,7 @@ pub struct Addressed {
 pub fn read_servers(text: &[u8], out: &mut [u8]) -> Result<ReadServers, Refusal> {
     let (from, to) = (text.as_ptr(), out.as_mut_ptr());
     // SAFETY: see raw.
-    let read = unsafe { raw::tb_read_servers(from, text.len(), to, out.len()) };
+    let read = unsafe { raw::tb_read_servers(from, size(text.len()), to, size(out.len())) };
     Refusal::check(read.code)?;
     Ok(ReadServers { records: read.records as usize, passed_over: read.passed_over as usize })
 }
@@ -79,7 +80,9 @@ pub fn read_servers(text: &[u8], out: &mut [u8]) -> Result<ReadServers, Refusal>
 pub fn server_name(text: &[u8], place: usize, out: &mut [u8]) -> Result<usize, Refusal> {
     let (from, to) = (text.as_ptr(), out.as_mut_ptr());
     // SAFETY: see raw.
-    of_wrote(unsafe { raw::tb_server_name(from, text.len(), place, to, out.len()) })
+    of_wrote(unsafe {
+        raw::tb_server_name(from, size(text.len()), size(place), to, size(out.len()))
+    })
 }
 
 /// Writes the address at the place `which`, from 0, of the server at a place: a host, a colon and a
@@ -105,7 +108,16 @@ pub fn server_address(
 ) -> Result<Addressed, Refusal> {
     let (from, to) = (text.as_ptr(), out.as_mut_ptr());
     // SAFETY: see raw.
-    let told = unsafe { raw::tb_server_address(from, text.len(), place, which, to, out.len()) };
+    let told = unsafe {
+        raw::tb_server_address(
+            from,
+            size(text.len()),
+            size(place),
+            size(which),
+            to,
+            size(out.len()),
+        )
+    };
     Refusal::check(told.code)?;
     let protocol = if told.tcp == 1 { Protocol::Tcp } else { Protocol::Udp };
     Ok(Addressed { protocol, length: told.length as usize })
@@ -115,14 +127,16 @@ pub fn server_address(
 pub fn list_source(text: &[u8], place: usize, out: &mut [u8]) -> Result<usize, Refusal> {
     let (from, to) = (text.as_ptr(), out.as_mut_ptr());
     // SAFETY: see raw.
-    of_wrote(unsafe { raw::tb_list_source(from, text.len(), place, to, out.len()) })
+    of_wrote(unsafe {
+        raw::tb_list_source(from, size(text.len()), size(place), to, size(out.len()))
+    })
 }
 
 /// Writes the URL to which reports may be sent. 36 says that the list names none.
 pub fn list_reports(text: &[u8], out: &mut [u8]) -> Result<usize, Refusal> {
     let (from, to) = (text.as_ptr(), out.as_mut_ptr());
     // SAFETY: see raw.
-    of_wrote(unsafe { raw::tb_list_reports(from, text.len(), to, out.len()) })
+    of_wrote(unsafe { raw::tb_list_reports(from, size(text.len()), to, size(out.len())) })
 }
 
 /// A server that is to be written into a list.
@@ -163,13 +177,13 @@ pub fn write_server(entry: &ServerEntry, out: &mut [u8]) -> Result<usize, Refusa
     of_wrote(unsafe {
         raw::tb_write_server(
             name.as_ptr(),
-            name.len(),
+            size(name.len()),
             version,
             key,
             lines,
-            addresses.len(),
+            size(addresses.len()),
             to,
-            out.len(),
+            size(out.len()),
         )
     })
 }
@@ -206,23 +220,23 @@ pub fn write_servers(parts: &ListParts, out: &mut [u8]) -> Result<usize, Refusal
     of_wrote(unsafe {
         raw::tb_write_servers(
             parts.keys.as_ptr(),
-            parts.keys.len(),
+            size(parts.keys.len()),
             parts.versions.as_ptr(),
-            parts.versions.len(),
+            size(parts.versions.len()),
             parts.names.as_ptr(),
-            parts.names.len(),
+            size(parts.names.len()),
             parts.name_lengths.as_ptr(),
-            parts.name_lengths.len(),
+            size(parts.name_lengths.len()),
             parts.addresses.as_ptr(),
-            parts.addresses.len(),
+            size(parts.addresses.len()),
             parts.address_lengths.as_ptr(),
-            parts.address_lengths.len(),
+            size(parts.address_lengths.len()),
             parts.sources.as_ptr(),
-            parts.sources.len(),
+            size(parts.sources.len()),
             parts.reports.as_ptr(),
-            parts.reports.len(),
+            size(parts.reports.len()),
             to,
-            out.len(),
+            size(out.len()),
         )
     })
 }

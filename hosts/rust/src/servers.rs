@@ -1,6 +1,7 @@
 //! Lists of servers: records of a long-term key and then its SRV value, with nothing around them.
 
-use crate::{raw, Hash, Refusal};
+use crate::raw::{self, size};
+use crate::{Hash, Refusal};
 
 /// Bytes of a record of a list of servers.
 pub const SERVER_LENGTH: usize = 64;
@@ -34,7 +35,8 @@ pub fn find_server<'a>(
 ) -> Result<Found<'a>, Refusal> {
     let (first, second) = (owner.as_ptr(), shipped.as_ptr());
     // SAFETY: see raw.
-    let found = unsafe { raw::tb_find_server(first, owner.len(), second, shipped.len(), srv) };
+    let found =
+        unsafe { raw::tb_find_server(first, size(owner.len()), second, size(shipped.len()), srv) };
     Refusal::check(found.code)?;
     let (list, bytes) =
         if found.list == 0 { (List::Owner, owner) } else { (List::Shipped, shipped) };

@@ -2,7 +2,8 @@
 //! these functions signs: a [`SigningKey`](crate::SigningKey) does, or an Ed25519 of the caller's.
 
 use crate::packets::wrote;
-use crate::{raw, Hash, PacketRefusal, Refusal};
+use crate::raw::{self, size};
+use crate::{Hash, PacketRefusal, Refusal};
 
 /// Bytes in front of DELE where it is signed.
 pub const DELEGATION_CONTEXT: &[u8; 34] = b"RoughTime v1 delegation signature\0";
@@ -52,7 +53,7 @@ pub struct Reply<'a> {
 /// The only refusal is 19, and then all of `out` stays.
 pub fn write_dele(pubk: &[u8; 32], mint: u64, maxt: u64, out: &mut [u8]) -> Result<usize, Refusal> {
     // SAFETY: see raw.
-    Ok(wrote(unsafe { raw::tb_write_dele(pubk, mint, maxt, out.as_mut_ptr(), out.len()) })?)
+    Ok(wrote(unsafe { raw::tb_write_dele(pubk, mint, maxt, out.as_mut_ptr(), size(out.len())) })?)
 }
 
 /// Writes CERT at the front of `out`, of the same DELE and the long-term key's signature over it
@@ -67,7 +68,7 @@ pub fn write_cert(
 ) -> Result<usize, Refusal> {
     let to = out.as_mut_ptr();
     // SAFETY: see raw.
-    Ok(wrote(unsafe { raw::tb_write_cert(pubk, mint, maxt, signature, to, out.len()) })?)
+    Ok(wrote(unsafe { raw::tb_write_cert(pubk, mint, maxt, signature, to, size(out.len())) })?)
 }
 
 /// Writes SREP at the front of `out`, with VER and VERS {1}, for the root of a batch, a time and its
@@ -75,7 +76,7 @@ pub fn write_cert(
 /// are 7, where `radi` is 0, and 19, and then all of `out` stays.
 pub fn write_srep(root: &Hash, midp: u64, radi: u32, out: &mut [u8]) -> Result<usize, Refusal> {
     // SAFETY: see raw.
-    Ok(wrote(unsafe { raw::tb_write_srep(root, midp, radi, out.as_mut_ptr(), out.len()) })?)
+    Ok(wrote(unsafe { raw::tb_write_srep(root, midp, radi, out.as_mut_ptr(), size(out.len())) })?)
 }
 
 /// Writes a whole response at the front of `out`, and tells how many bytes it has:
@@ -92,18 +93,18 @@ pub fn write_response(reply: &Reply, out: &mut [u8]) -> Result<usize, PacketRefu
     let told = wrote(unsafe {
         raw::tb_write_response(
             request.as_ptr(),
-            request.len(),
+            size(request.len()),
             indx,
             root,
             path.as_ptr(),
-            path.len(),
+            size(path.len()),
             midp,
             radi,
             cert.as_ptr(),
-            cert.len(),
+            size(cert.len()),
             signature,
             out.as_mut_ptr(),
-            out.len(),
+            size(out.len()),
         )
     });
     told.map_err(of_cert)

@@ -7,7 +7,8 @@
 
 use crate::check::{of_judged, of_verdict};
 use crate::piles::{of_cut, of_reported};
-use crate::{raw, Checked, PacketRefusal, Pair, Refusal, ReportRefusal, Run};
+use crate::raw::{self, size};
+use crate::{Checked, PacketRefusal, Pair, Refusal, ReportRefusal, Run};
 
 /// Whether the two signatures of a response verify: what [`check_response`](crate::check_response)
 /// and [`Pile::push`](crate::Pile::push) take.
@@ -35,7 +36,7 @@ pub struct Answers {
 pub fn answers(key: &[u8; 32], response: &[u8]) -> Answers {
     let mut out = [0; 2];
     // SAFETY: see raw.
-    unsafe { raw::tb_answers(key, response.as_ptr(), response.len(), &mut out) };
+    unsafe { raw::tb_answers(key, response.as_ptr(), size(response.len()), &mut out) };
     Answers { delegation: out[0] == 1, signature: out[1] == 1 }
 }
 
@@ -65,7 +66,9 @@ pub fn check_signed(
 ) -> Result<Checked, PacketRefusal> {
     let (asked, told) = (request.as_ptr(), response.as_ptr());
     // SAFETY: see raw.
-    of_verdict(unsafe { raw::tb_check_signed(key, asked, request.len(), told, response.len()) })
+    of_verdict(unsafe {
+        raw::tb_check_signed(key, asked, size(request.len()), told, size(response.len()))
+    })
 }
 
 /// The window and the key of the record at `place`, where it is valid by its own key. The refusals
@@ -82,7 +85,7 @@ pub fn check_signed(
 /// ```
 pub fn judge_signed(pile: &[u8], place: usize) -> Result<Checked, PacketRefusal> {
     // SAFETY: see raw.
-    of_judged(unsafe { raw::tb_judge_signed(pile.as_ptr(), pile.len(), place) })
+    of_judged(unsafe { raw::tb_judge_signed(pile.as_ptr(), size(pile.len()), size(place)) })
 }
 
 /// The pair that a report names: what [`check_report`](crate::check_report) says, with each record
@@ -104,7 +107,7 @@ pub fn judge_signed(pile: &[u8], place: usize) -> Result<Checked, PacketRefusal>
 /// ```
 pub fn check_signed_report(pile: &[u8]) -> Result<Pair, ReportRefusal> {
     // SAFETY: see raw.
-    of_reported(unsafe { raw::tb_check_signed_report(pile.as_ptr(), pile.len()) })
+    of_reported(unsafe { raw::tb_check_signed_report(pile.as_ptr(), size(pile.len())) })
 }
 
 /// Cuts the run that convicts by itself out of a pile: what [`cut_run`](crate::cut_run) does, with
@@ -122,5 +125,5 @@ pub fn check_signed_report(pile: &[u8]) -> Result<Pair, ReportRefusal> {
 pub fn cut_signed_run(pile: &[u8], out: &mut [u8]) -> Result<Run, Refusal> {
     let (from, to) = (pile.as_ptr(), out.as_mut_ptr());
     // SAFETY: see raw.
-    of_cut(unsafe { raw::tb_cut_signed_run(from, pile.len(), to, out.len()) })
+    of_cut(unsafe { raw::tb_cut_signed_run(from, size(pile.len()), to, size(out.len())) })
 }

@@ -7,7 +7,8 @@
 //! to accept a forged time.
 
 use crate::packets::wrote;
-use crate::{raw, PacketRefusal};
+use crate::raw::{self, size};
+use crate::PacketRefusal;
 
 /// Bytes that are room for every text that is signed.
 pub const LONGEST_TEXT: usize = 2000;
@@ -28,7 +29,7 @@ pub struct SignedParts {
 /// Takes out of a response what is verified. The refusals are 1 to 7.
 pub fn signed_parts(packet: &[u8]) -> Result<SignedParts, PacketRefusal> {
     // SAFETY: see raw.
-    let parts = unsafe { raw::tb_signed_parts(packet.as_ptr(), packet.len()) };
+    let parts = unsafe { raw::tb_signed_parts(packet.as_ptr(), size(packet.len())) };
     PacketRefusal::check(parts.code, parts.at)?;
     let raw::tb_parts { signature, delegation, pubk, .. } = parts;
     Ok(SignedParts { signature, delegation, pubk })
@@ -40,7 +41,7 @@ pub fn signed_parts(packet: &[u8]) -> Result<SignedParts, PacketRefusal> {
 pub fn delegation_text(packet: &[u8], out: &mut [u8]) -> Result<usize, PacketRefusal> {
     let (from, to) = (packet.as_ptr(), out.as_mut_ptr());
     // SAFETY: see raw.
-    wrote(unsafe { raw::tb_delegation_text(from, packet.len(), to, out.len()) })
+    wrote(unsafe { raw::tb_delegation_text(from, size(packet.len()), to, size(out.len())) })
 }
 
 /// Writes the text that the response signs, in the response that `packet` is, at the front of
@@ -49,5 +50,5 @@ pub fn delegation_text(packet: &[u8], out: &mut [u8]) -> Result<usize, PacketRef
 pub fn response_text(packet: &[u8], out: &mut [u8]) -> Result<usize, PacketRefusal> {
     let (from, to) = (packet.as_ptr(), out.as_mut_ptr());
     // SAFETY: see raw.
-    wrote(unsafe { raw::tb_response_text(from, packet.len(), to, out.len()) })
+    wrote(unsafe { raw::tb_response_text(from, size(packet.len()), to, size(out.len())) })
 }

@@ -1,6 +1,6 @@
 //! Signing: Ed25519 of RFC 8032, sections 5.1.5 and 5.1.6.
 
-use crate::raw;
+use crate::raw::{self, size};
 use crate::serving::{DELEGATION_CONTEXT, RESPONSE_CONTEXT};
 use core::sync::atomic::{compiler_fence, Ordering};
 use core::{fmt, ptr};
@@ -63,7 +63,7 @@ impl SigningKey {
     pub fn sign(&self, text: &[u8]) -> [u8; 64] {
         let mut out = [0; 64];
         // SAFETY: see raw.
-        unsafe { raw::tb_sign(&self.seed, text.as_ptr(), text.len(), &mut out) };
+        unsafe { raw::tb_sign(&self.seed, text.as_ptr(), size(text.len()), &mut out) };
         out
     }
 
@@ -75,7 +75,14 @@ impl SigningKey {
         let (before, after) = (context.as_ptr(), value.as_ptr());
         // SAFETY: see raw.
         unsafe {
-            raw::tb_sign_parts(&self.seed, before, context.len(), after, value.len(), &mut out)
+            raw::tb_sign_parts(
+                &self.seed,
+                before,
+                size(context.len()),
+                after,
+                size(value.len()),
+                &mut out,
+            )
         };
         out
     }

@@ -1,6 +1,6 @@
 //! Contradiction in one pass: of windows as they come, and of a pile.
 
-use crate::raw::{self, tb_tally};
+use crate::raw::{self, size, tb_tally};
 use crate::Refusal;
 
 /// Windows that are judged as they come. Of all that were taken only the largest MIDP - RADI is
@@ -57,5 +57,7 @@ impl Default for Tally {
 pub fn pile_contradicts(pile: &[u8], answers: &[u8]) -> Result<(), Refusal> {
     let (from, told) = (pile.as_ptr(), answers.as_ptr());
     // SAFETY: see raw.
-    Refusal::check(unsafe { raw::tb_pile_contradicts(from, pile.len(), told, answers.len()) })
+    Refusal::check(unsafe {
+        raw::tb_pile_contradicts(from, size(pile.len()), told, size(answers.len()))
+    })
 }

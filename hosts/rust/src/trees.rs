@@ -6,7 +6,8 @@
 // A depth is at most 10, and a length at most that of `out`, so nothing is lost where they become a
 // usize.
 
-use crate::{raw, Hash, Refusal};
+use crate::raw::{self, size};
+use crate::{Hash, Refusal};
 
 /// The most leaves that a tree is built of.
 pub const MOST_LEAVES: usize = 1024;
@@ -48,13 +49,13 @@ pub struct Laid {
 #[must_use]
 pub fn leads(leaf: &Hash, indx: u32, path: &[u8], root: &Hash) -> bool {
     // SAFETY: see raw.
-    unsafe { raw::tb_leads(leaf, indx, path.as_ptr(), path.len(), root) }
+    unsafe { raw::tb_leads(leaf, indx, path.as_ptr(), size(path.len()), root) }
 }
 
 /// The root of the tree of `leaves`. The only refusal is 20.
 pub fn root(leaves: &[u8]) -> Result<Rooted, Refusal> {
     // SAFETY: see raw.
-    let rooted = unsafe { raw::tb_root(leaves.as_ptr(), leaves.len()) };
+    let rooted = unsafe { raw::tb_root(leaves.as_ptr(), size(leaves.len())) };
     Refusal::check(rooted.code)?;
     Ok(Rooted { depth: rooted.depth as usize, root: rooted.root })
 }
@@ -65,7 +66,7 @@ pub fn root(leaves: &[u8]) -> Result<Rooted, Refusal> {
 pub fn path(leaves: &[u8], place: usize, out: &mut [u8]) -> Result<Placed, Refusal> {
     let (from, to) = (leaves.as_ptr(), out.as_mut_ptr());
     // SAFETY: see raw.
-    placed(unsafe { raw::tb_path(from, leaves.len(), place, to, out.len()) })
+    placed(unsafe { raw::tb_path(from, size(leaves.len()), size(place), to, size(out.len())) })
 }
 
 /// Writes all rows of the tree of `leaves` at the front of `out` and tells its depth and how many
@@ -84,7 +85,7 @@ pub fn path(leaves: &[u8], place: usize, out: &mut [u8]) -> Result<Placed, Refus
 pub fn rows(leaves: &[u8], out: &mut [u8]) -> Result<Laid, Refusal> {
     let (from, to) = (leaves.as_ptr(), out.as_mut_ptr());
     // SAFETY: see raw.
-    let laid = unsafe { raw::tb_rows(from, leaves.len(), to, out.len()) };
+    let laid = unsafe { raw::tb_rows(from, size(leaves.len()), to, size(out.len())) };
     Refusal::check(laid.code)?;
     Ok(Laid { depth: laid.depth as usize, length: laid.length as usize })
 }
@@ -100,7 +101,9 @@ pub fn path_from(
 ) -> Result<Placed, Refusal> {
     let (from, to) = (rows.as_ptr(), out.as_mut_ptr());
     // SAFETY: see raw.
-    placed(unsafe { raw::tb_path_from(from, rows.len(), count, place, to, out.len()) })
+    placed(unsafe {
+        raw::tb_path_from(from, size(rows.len()), size(count), size(place), to, size(out.len()))
+    })
 }
 
 /// The place, or why there is none.

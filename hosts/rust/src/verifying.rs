@@ -1,7 +1,7 @@
 //! Whether a signature verifies: Ed25519 of RFC 8032, section 5.1.7, with S below the group order and
 //! the group equation without the cofactor.
 
-use crate::raw;
+use crate::raw::{self, size};
 
 /// Whether `signature`, of `text`, verifies under `key`. A key that is not 32 bytes, or a signature
 /// that is not 64, is a no.
@@ -11,7 +11,16 @@ use crate::raw;
 pub fn verify(key: &[u8], text: &[u8], signature: &[u8]) -> bool {
     let (keys, texts, signatures) = (key.as_ptr(), text.as_ptr(), signature.as_ptr());
     // SAFETY: see raw.
-    unsafe { raw::tb_verify(keys, key.len(), texts, text.len(), signatures, signature.len()) }
+    unsafe {
+        raw::tb_verify(
+            keys,
+            size(key.len()),
+            texts,
+            size(text.len()),
+            signatures,
+            size(signature.len()),
+        )
+    }
 }
 
 /// The same of the text that is `context` and then `value`, so that no buffer is needed for it. A
@@ -22,13 +31,13 @@ pub fn verify_parts(key: &[u8], context: &[u8], value: &[u8], signature: &[u8]) 
     unsafe {
         raw::tb_verify_parts(
             key.as_ptr(),
-            key.len(),
+            size(key.len()),
             context.as_ptr(),
-            context.len(),
+            size(context.len()),
             value.as_ptr(),
-            value.len(),
+            size(value.len()),
             signature.as_ptr(),
-            signature.len(),
+            size(signature.len()),
         )
     }
 }

@@ -5,7 +5,7 @@ use alloc::{vec, vec::Vec};
 
 use core::slice;
 
-use crate::raw::{self, tb_asked, tb_took, tb_walk};
+use crate::raw::{self, size, tb_asked, tb_took, tb_walk};
 use crate::{Hash, PacketRefusal, Pair, Refusal, Window, RECORD_LENGTH, REQUEST_LENGTH};
 
 /// The fewest servers of a walk.
@@ -261,11 +261,11 @@ impl tb_walk {
                 &mut self.last,
                 &mut self.most,
                 servers.as_ptr(),
-                servers.len(),
+                size(servers.len()),
                 nonce,
                 longest,
                 pile.as_ptr(),
-                pile.len(),
+                size(pile.len()),
             )
         }
     }
@@ -284,7 +284,7 @@ impl tb_walk {
                 self.last,
                 self.most,
                 out.as_mut_ptr(),
-                out.len(),
+                size(out.len()),
             )
         }
     }
@@ -315,9 +315,9 @@ impl tb_walk {
                 when[1],
                 next,
                 response.as_ptr(),
-                response.len(),
+                size(response.len()),
                 pile.as_mut_ptr(),
-                pile.len(),
+                size(pile.len()),
             )
         }
     }
@@ -344,9 +344,9 @@ impl tb_walk {
                 when[1],
                 next,
                 response.as_ptr(),
-                response.len(),
+                size(response.len()),
                 pile.as_mut_ptr(),
-                pile.len(),
+                size(pile.len()),
             )
         }
     }

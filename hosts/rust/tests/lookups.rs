@@ -84,7 +84,8 @@ impl Lookup {
         let ((start, n), (start_too, m)) =
             ((owner.as_ptr(), owner.len()), (shipped.as_ptr(), shipped.len()));
         // SAFETY: the library only reads both lists and the SRV value.
-        let found = unsafe { raw::tb_find_server(start, n, start_too, m, srv) };
+        let found =
+            unsafe { raw::tb_find_server(start, raw::size(n), start_too, raw::size(m), srv) };
         let due = match due {
             Ok(due) => raw::tb_found { code: 0, list: due.list, offset: due.offset as u64 },
             Err(code) => raw::tb_found { code: *code, list: 0, offset: 0 },

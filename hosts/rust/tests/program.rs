@@ -428,7 +428,7 @@ fn wrong_arguments_are_told() {
         (&["--make", "a"], "--make takes a key, a rand, a request and a response for each record, and 1 word is given", make),
         (&["--make"], "--make takes a key, a rand, a request and a response for each record, and 0 words are given", make),
         (&["--look-up", "a"], "--look-up takes a key, and one list or two, and 1 word is given", look_up),
-        (&["--look-up", "a", "b", "--json"], "--json goes with --judge and --cut", look_up),
+        (&["--look-up", "a", "b", "--json"], "--json goes with --judge, --cut and --ask", look_up),
         (&["--list"], "--list takes a list of servers, and 0 words are given", list),
         (&["--list", "a", "--servers", "b"], "--servers goes with --judge, --cut and --draw", list),
     ];

@@ -81,8 +81,15 @@ fn keep(question: &Question, due: Option<Checked>) -> Kept {
     let (verdict, judged) = unsafe {
         let (q, p) = ((request.as_ptr(), request.len()), (response.as_ptr(), response.len()));
         (
-            raw::tb_check_response(q.0, q.1, p.0, p.1, answers[0].into(), answers[1].into()),
-            raw::tb_judge(pile.as_ptr(), pile.len(), answers.as_ptr(), 2, 0),
+            raw::tb_check_response(
+                q.0,
+                raw::size(q.1),
+                p.0,
+                raw::size(p.1),
+                answers[0].into(),
+                answers[1].into(),
+            ),
+            raw::tb_judge(pile.as_ptr(), raw::size(pile.len()), answers.as_ptr(), 2, 0),
         )
     };
     let (mint, maxt) = (verdict.mint, verdict.maxt);

@@ -123,7 +123,10 @@ fn a_library_that_fails_has_said_no() {
         let ((from, n), (to, m)) =
             ((request.as_ptr(), request.len()), (response.as_ptr(), response.len()));
         // SAFETY: the library only reads both packets.
-        unsafe { raw::tb_check_response(from, n, to, m, delegation, signature) }.code
+        unsafe {
+            raw::tb_check_response(from, raw::size(n), to, raw::size(m), delegation, signature)
+        }
+        .code
     };
     assert_eq!(code(1, 1), 0);
     for no in [failing as u32, -1i32 as u32] {

@@ -13,6 +13,7 @@ mod draw;
 mod ending;
 mod fields;
 mod figures;
+#[path = "../../../hosts/rust/shared/frame.rs"]
 mod frame;
 mod grease;
 mod hex;
@@ -22,6 +23,7 @@ mod lines;
 mod listening;
 mod long_term;
 mod pairs;
+#[path = "../../../hosts/rust/shared/poll.rs"]
 mod poll;
 mod post;
 mod secret;
@@ -29,6 +31,7 @@ mod secret_file;
 mod serve;
 mod server_list;
 mod serving;
+#[path = "../../../hosts/rust/shared/signals.rs"]
 mod signals;
 mod sockets;
 mod spoilt;

@@ -1,9 +1,11 @@
 //! The refusal codes have one table, src/codes.rt of the crate that has it: their numbers, names
-//! and words. The header and the Rust host have them between two comments of a line each, "codes:
-//! begin" and "codes: end"; this fails where either says anything else, and with --write writes
-//! both anew.
+//! and words. The header and the hosts in Rust, Python and JavaScript have them between two
+//! comments of a line each, "codes: begin" and "codes: end"; this fails where one says anything
+//! else, and with --write writes them anew.
 
 mod in_c;
+mod in_js;
+mod in_python;
 mod in_rust;
 mod lines;
 pub mod table;
@@ -21,7 +23,7 @@ struct Place {
     part: fn(&[table::Code]) -> String,
 }
 
-const PLACES: [Place; 2] = [
+const PLACES: [Place; 5] = [
     Place {
         file: "include/trawlbeacon.h",
         begin: "/* codes: begin */",
@@ -33,6 +35,24 @@ const PLACES: [Place; 2] = [
         begin: "// codes: begin",
         end: "// codes: end",
         part: in_rust::part,
+    },
+    Place {
+        file: "hosts/python/trawlbeacon/codes.py",
+        begin: "# codes: begin",
+        end: "# codes: end",
+        part: in_python::part,
+    },
+    Place {
+        file: "hosts/js/codes.js",
+        begin: "// codes: begin",
+        end: "// codes: end",
+        part: in_js::part,
+    },
+    Place {
+        file: "hosts/js/trawlbeacon.d.ts",
+        begin: "// codes: begin",
+        end: "// codes: end",
+        part: in_js::types,
     },
 ];
 
@@ -57,7 +77,7 @@ pub fn check(tree: &Tree, words: &[&str]) -> Verdict {
         }
     }
     let files: Vec<&str> = PLACES.iter().map(|place| place.file).collect();
-    let held = format!("{} codes are as in {table} in {}", codes.len(), files.join(" and "));
+    let held = format!("{} codes are as in {table} in {}", codes.len(), files.join(", "));
     unless(problems, held + &written)
 }
 
@@ -96,9 +116,13 @@ mod tests {
     /// A tree whose files are written by the check itself.
     fn right() -> Scratch {
         let header = "a\n/* codes: begin */\nold\n/* codes: end */\nb\n";
-        let host = "a\n// codes: begin\n// codes: end\n";
-        let files =
-            [("crates/some/src/codes.rt", TABLE), (PLACES[0].file, header), (PLACES[1].file, host)];
+        let hosts: Vec<String> = PLACES[1..]
+            .iter()
+            .map(|place| format!("a\n{}\n{}\n", place.begin, place.end))
+            .collect();
+        let first = [("crates/some/src/codes.rt", TABLE), (PLACES[0].file, header)];
+        let others = PLACES[1..].iter().zip(&hosts).map(|(place, host)| (place.file, &host[..]));
+        let files: Vec<(&str, &str)> = first.into_iter().chain(others).collect();
         let scratch = Scratch::new(&files);
         let said = check(&scratch.tree(), &["--write"]).unwrap();
         assert!(said.contains("trawlbeacon.h is written anew"), "{said}");
@@ -134,7 +158,7 @@ mod tests {
         let scratch = right();
         let more = format!("{TABLE}\n// too short\npub const SHORT: u8 = 2;\n");
         scratch.put("crates/some/src/codes.rt", &more);
-        assert_eq!(found(check(&scratch.tree(), &[])).len(), 2);
+        assert_eq!(found(check(&scratch.tree(), &[])).len(), PLACES.len());
     }
 
     #[test]

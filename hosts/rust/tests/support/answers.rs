@@ -207,9 +207,9 @@ pub fn unseen_fields(packet: &[u8]) -> Option<String> {
     // SAFETY: the library only reads, and only the packet.
     let (request, response, parts) = unsafe {
         (
-            raw::tb_read_request(start, n),
-            raw::tb_read_response(start, n),
-            raw::tb_signed_parts(start, n),
+            raw::tb_read_request(start, raw::size(n)),
+            raw::tb_read_response(start, raw::size(n)),
+            raw::tb_signed_parts(start, raw::size(n)),
         )
     };
     if request != without_unseen(request) || unplaced(request.code, request.at) {
@@ -244,15 +244,27 @@ fn unseen_lengths(packet: &[u8]) -> Option<String> {
     // SAFETY: the library only reads the packet, and only writes `out`.
     let writers = unsafe {
         [
-            raw::tb_write_request(&[0; 32], &[0; 32], to, m),
-            raw::tb_delegation_text(start, n, to, m),
-            raw::tb_response_text(start, n, to, m),
-            raw::tb_write_srep(&[0; 32], 0, 1, to, m),
-            raw::tb_write_srep(&[0; 32], 0, 0, to, m),
-            raw::tb_write_dele(&[0; 32], 0, 0, to, m),
-            raw::tb_write_cert(&[0; 32], 0, 0, &[0; 64], to, m),
+            raw::tb_write_request(&[0; 32], &[0; 32], to, raw::size(m)),
+            raw::tb_delegation_text(start, raw::size(n), to, raw::size(m)),
+            raw::tb_response_text(start, raw::size(n), to, raw::size(m)),
+            raw::tb_write_srep(&[0; 32], 0, 1, to, raw::size(m)),
+            raw::tb_write_srep(&[0; 32], 0, 0, to, raw::size(m)),
+            raw::tb_write_dele(&[0; 32], 0, 0, to, raw::size(m)),
+            raw::tb_write_cert(&[0; 32], 0, 0, &[0; 64], to, raw::size(m)),
             raw::tb_write_response(
-                start, n, 0, &[0; 32], start, 0, 0, 1, start, n, &[0; 64], to, m,
+                start,
+                raw::size(n),
+                0,
+                &[0; 32],
+                start,
+                0,
+                0,
+                1,
+                start,
+                raw::size(n),
+                &[0; 64],
+                to,
+                raw::size(m),
             ),
         ]
     };

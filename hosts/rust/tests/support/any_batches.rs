@@ -4,7 +4,8 @@ use crate::any_answers::Answer;
 use crate::any_exports::{export, Export, Stack::Batch};
 use crate::any_trial::{Trial, Use, MOST_BYTES};
 use independent::respond;
-use trawlbeacon::{raw, SigningKey};
+use trawlbeacon::raw::{self, size};
+use trawlbeacon::SigningKey;
 
 pub const EXPORTS: &[Export] = &[export(
     "tb_answer_batch",
@@ -51,7 +52,7 @@ fn answer_batch(t: &mut Trial) {
     let (mut packets, mut lengths, srv) = slots(t, slot, if count > 9 { 0 } else { count });
     lengths.resize(count, 1036);
     if t.make.random.once_in(16) {
-        packets.truncate(t.make.place(packets.len()).min(MOST_BYTES));
+        packets.truncate(t.make.place(packets.len()).min(size(MOST_BYTES)) as usize);
     }
     let (midp, width) = (t.make.number(), count.next_power_of_two());
     let mint = if t.make.random.once_in(8) { t.make.number() } else { midp };
@@ -61,11 +62,12 @@ fn answer_batch(t: &mut Trial) {
     let cert = if t.make.random.once_in(3) { t.make.near(&right, &right) } else { right };
     let radi = if t.make.random.once_in(16) { t.make.word() } else { 5 };
     let needed = 264 + 32 * width.trailing_zeros() as usize + cert.len();
-    let room = if t.make.random.once_in(8) { t.make.place(needed) } else { needed + 4 };
+    let room = if t.make.random.once_in(8) { t.make.place(needed) } else { size(needed + 4) };
     let rows = if t.make.random.once_in(8) { t.make.length() } else { 32 * (2 * width - 1) };
-    let whole = room.saturating_mul(count).min(MOST_BYTES);
+    let whole = room.saturating_mul(size(count)).min(size(MOST_BYTES)) as usize;
     let out = if t.make.random.once_in(8) { t.make.room(whole) } else { whole };
-    let told = if t.make.random.once_in(8) { t.make.place(count).min(1100) } else { count };
+    let told =
+        if t.make.random.once_in(8) { t.make.place(count).min(1100) as usize } else { count };
     let [packets, cert] = [packets, cert].map(|bytes| t.read(bytes));
     let (srv, seed, lengths) = (t.read(srv), t.read(SEED), t.words(Use::Read, &lengths));
     let [rows, out] = [rows, out].map(|length| {
@@ -79,7 +81,7 @@ fn answer_batch(t: &mut Trial) {
             raw::tb_answer_batch(
                 c.at(packets),
                 c.len(packets),
-                slot,
+                size(slot),
                 c.at(lengths).cast(),
                 c.len(lengths) / 4,
                 c.array(srv),

@@ -194,7 +194,7 @@ fn path_from(t: &mut Trial) {
     }
     let nodes = rows.len() / 32;
     let (count, room) = (t.make.place((nodes + 1) / 2), t.make.room(64));
-    let place = t.make.place(count.min(2048));
+    let place = t.make.place(count.min(2048) as usize);
     let (rows, out) = (t.read(rows), t.out(room));
     t.call(|c| {
         let (at, length) = (c.at(rows), c.len(rows));

@@ -5,7 +5,7 @@ use crate::any_exports::{export, Codes, Export, Stack::Least};
 use crate::any_trial::{Copies, Id, Trial, Use};
 use crate::support::list_parts::Owned;
 use independent::list_text;
-use trawlbeacon::raw;
+use trawlbeacon::raw::{self, tb_size};
 
 pub const EXPORTS: &[Export] = &[
     export("tb_read_servers", Least, 12_000, &[(0, 0), (19, 19), (24, 25)], read_servers),
@@ -28,8 +28,8 @@ const BY_PLACE: &[Codes] = &[(0, 0), (19, 19), (24, 25), (36, 36)];
 /// A text, a place or two, and a buffer for what stands there.
 struct Asked {
     text: Id,
-    place: usize,
-    which: usize,
+    place: tb_size,
+    which: tb_size,
     out: Id,
 }
 
@@ -40,7 +40,7 @@ impl Asked {
         Asked { text: t.read(text), place, which, out: t.out(room) }
     }
 
-    fn lent(&self, c: &Copies) -> ((*const u8, usize), (*mut u8, usize)) {
+    fn lent(&self, c: &Copies) -> ((*const u8, tb_size), (*mut u8, tb_size)) {
         ((c.at(self.text), c.len(self.text)), (c.out(self.out), c.len(self.out)))
     }
 }

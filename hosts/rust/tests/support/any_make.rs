@@ -7,6 +7,7 @@ use crate::any_trial::MOST_BYTES;
 use crate::support::packets::number;
 use crate::support::Xorshift;
 use independent::hash::Hash;
+use trawlbeacon::raw::{size, tb_size};
 
 /// Lengths at which something changes, or of which something is.
 const LENGTHS: [usize; 30] = [
@@ -71,11 +72,11 @@ impl<'a> Maker<'a> {
     }
 
     /// A place, or a number, of which there should be fewer than this.
-    pub fn place(&mut self, count: usize) -> usize {
+    pub fn place(&mut self, count: usize) -> tb_size {
         if self.random.once_in(16) {
-            return self.number() as usize;
+            return self.number() as tb_size;
         }
-        self.random.below(count + 1)
+        size(self.random.below(count + 1))
     }
 
     /// The length of a buffer for which so many bytes are needed.

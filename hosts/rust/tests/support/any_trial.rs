@@ -10,6 +10,7 @@ use crate::any_make::Maker;
 use crate::support::guarded::{Guarded, Spot};
 use independent::sha512::Sha512;
 use std::collections::{BTreeMap, BTreeSet};
+use trawlbeacon::raw::{size, tb_size};
 
 /// The most that one call is lent, and the most bytes of each.
 const LENT: usize = 10;
@@ -52,8 +53,8 @@ impl<'a> Copies<'a> {
         self.0[id.0].0
     }
 
-    pub fn len(&self, id: Id) -> usize {
-        self.0[id.0].1
+    pub fn len(&self, id: Id) -> tb_size {
+        size(self.0[id.0].1)
     }
 
     fn reference<T>(&self, id: Id, length: usize) -> &'a mut T {

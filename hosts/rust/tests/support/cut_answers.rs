@@ -42,7 +42,16 @@ pub fn cut_signed(ed25519: &Ed25519, text: &[u8], buffer: &[u8]) -> Both<Written
 pub fn unseen_fields(text: &[u8], answers: &[u8], out: &mut [u8]) -> Option<String> {
     let ((start, n), (told, m)) = ((text.as_ptr(), text.len()), (answers.as_ptr(), answers.len()));
     // SAFETY: the library only reads the text and the answers, and only writes `out`.
-    let cut = unsafe { raw::tb_cut_text(start, n, told, m, out.as_mut_ptr(), out.len()) };
+    let cut = unsafe {
+        raw::tb_cut_text(
+            start,
+            raw::size(n),
+            told,
+            raw::size(m),
+            out.as_mut_ptr(),
+            raw::size(out.len()),
+        )
+    };
     let right = cut.code == 0 || (cut.first, cut.last, cut.length) == (0, 0, 0);
     (!right).then(|| format!("{cut:?}"))
 }

@@ -13,7 +13,7 @@ extern "C" {
         protection: c_int,
         flags: c_int,
         file: c_int,
-        offset: i64,
+        offset: c_long,
     ) -> *mut c_void;
     fn mprotect(address: *mut c_void, length: usize, protection: c_int) -> c_int;
     fn munmap(address: *mut c_void, length: usize) -> c_int;

@@ -86,7 +86,7 @@ impl Xorshift {
 }
 
 /// Says of how many cases a test held that they agree. `xtask counts` adds up the numbers of the
-/// same words, and README's table of them must have just these.
+/// same words, and the table of docs/PROVED.md must have just these.
 pub fn counted(cases: usize, what: &str) {
     println!("counted: {cases} {what}");
 }

@@ -239,8 +239,16 @@ impl Question {
         let no = NOES[(n + m) / 4 % NOES.len()];
         let [delegation, signature] = [delegation, signature].map(|yes| if *yes { 1 } else { no });
         // SAFETY: the library only reads both packets.
-        let verdict =
-            unsafe { raw::tb_check_response(start, n, start_too, m, delegation, signature) };
+        let verdict = unsafe {
+            raw::tb_check_response(
+                start,
+                raw::size(n),
+                start_too,
+                raw::size(m),
+                delegation,
+                signature,
+            )
+        };
         (verdict != whole(ours)).then(|| format!("tb_check_response answered {verdict:?}"))
     }
 

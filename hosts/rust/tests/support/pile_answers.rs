@@ -142,9 +142,16 @@ impl Asked<'_> {
         // SAFETY: the library only reads the pile and its answers, and only writes `out`.
         let (judged, reported, cut) = unsafe {
             (
-                raw::tb_judge(start, n, start_too, m, place),
-                raw::tb_check_report(start, n, start_too, m),
-                raw::tb_cut_run(start, n, start_too, m, out.as_mut_ptr(), out.len()),
+                raw::tb_judge(start, raw::size(n), start_too, raw::size(m), raw::size(place)),
+                raw::tb_check_report(start, raw::size(n), start_too, raw::size(m)),
+                raw::tb_cut_run(
+                    start,
+                    raw::size(n),
+                    start_too,
+                    raw::size(m),
+                    out.as_mut_ptr(),
+                    raw::size(out.len()),
+                ),
             )
         };
         let raw::tb_judged { midp, radi, low, high, mint, maxt, pubk, .. } = judged;

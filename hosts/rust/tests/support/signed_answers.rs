@@ -51,8 +51,14 @@ impl Exchange {
         let mut out = [0xee; 2];
         // SAFETY: the library only reads the key and both packets, and only writes `out`.
         let verdict = unsafe {
-            raw::tb_answers(key, answered, response.len(), &mut out);
-            raw::tb_check_signed(key, asked, request.len(), answered, response.len())
+            raw::tb_answers(key, answered, raw::size(response.len()), &mut out);
+            raw::tb_check_signed(
+                key,
+                asked,
+                raw::size(request.len()),
+                answered,
+                raw::size(response.len()),
+            )
         };
         let right = verdict == whole(told) && out == answers.map(u8::from);
         (!right).then(|| format!("tb_check_signed answered {verdict:?}, and tb_answers {out:?}"))
@@ -177,14 +183,21 @@ impl Alone<'_> {
         let (alone, given) = unsafe {
             (
                 (
-                    raw::tb_judge_signed(start, n, place),
-                    raw::tb_check_signed_report(start, n),
-                    raw::tb_cut_signed_run(start, n, to, room),
+                    raw::tb_judge_signed(start, raw::size(n), raw::size(place)),
+                    raw::tb_check_signed_report(start, raw::size(n)),
+                    raw::tb_cut_signed_run(start, raw::size(n), to, raw::size(room)),
                 ),
                 (
-                    raw::tb_judge(start, n, told, m, place),
-                    raw::tb_check_report(start, n, told, m),
-                    raw::tb_cut_run(start, n, told, m, to_too, room),
+                    raw::tb_judge(start, raw::size(n), told, raw::size(m), raw::size(place)),
+                    raw::tb_check_report(start, raw::size(n), told, raw::size(m)),
+                    raw::tb_cut_run(
+                        start,
+                        raw::size(n),
+                        told,
+                        raw::size(m),
+                        to_too,
+                        raw::size(room),
+                    ),
                 ),
             )
         };

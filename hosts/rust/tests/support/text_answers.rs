@@ -112,8 +112,8 @@ pub fn unseen_fields(asked: Asked, text: &[u8], out: &mut [u8]) -> Option<String
     // SAFETY: the library only reads the pile, its answers and the text, and only writes `out`.
     let (read, wrote) = unsafe {
         (
-            raw::tb_read_report(text.as_ptr(), text.len(), to, room),
-            raw::tb_write_report(pile, n, answers, m, to, room),
+            raw::tb_read_report(text.as_ptr(), raw::size(text.len()), to, raw::size(room)),
+            raw::tb_write_report(pile, raw::size(n), answers, raw::size(m), to, raw::size(room)),
         )
     };
     let of_a_record = !matches!(wrote.code, 0 | 15 | 18 | 19);

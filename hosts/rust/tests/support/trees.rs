@@ -135,10 +135,22 @@ pub fn unseen_fields(bytes: &[u8], count: usize, place: usize) -> Option<String>
     for m in [32, out.len()] {
         let to = out.as_mut_ptr();
         // SAFETY: the library only reads the bytes, and only writes `out`.
-        let (rooted, laid) = unsafe { (raw::tb_root(start, n), raw::tb_rows(start, n, to, m)) };
+        let (rooted, laid) = unsafe {
+            (raw::tb_root(start, raw::size(n)), raw::tb_rows(start, raw::size(n), to, raw::size(m)))
+        };
         // SAFETY: as before.
         let placed = unsafe {
-            [raw::tb_path(start, n, place, to, m), raw::tb_path_from(start, n, count, place, to, m)]
+            [
+                raw::tb_path(start, raw::size(n), raw::size(place), to, raw::size(m)),
+                raw::tb_path_from(
+                    start,
+                    raw::size(n),
+                    raw::size(count),
+                    raw::size(place),
+                    to,
+                    raw::size(m),
+                ),
+            ]
         };
         let root_is_zero = rooted.root == [0; 32];
         let right = fits(rooted.code, 0, rooted.depth)

@@ -13,12 +13,13 @@ pub enum Action {
     Make,
     LookUp,
     List,
+    Ask,
     Help,
     Version,
 }
 
 /// The actions, by the words that ask for them.
-const ACTIONS: [(&str, Action); 9] = [
+const ACTIONS: [(&str, Action); 10] = [
     ("files alone", Action::Plain),
     ("--judge", Action::Judge),
     ("--cut", Action::Cut),
@@ -26,6 +27,7 @@ const ACTIONS: [(&str, Action); 9] = [
     ("--make", Action::Make),
     ("--look-up", Action::LookUp),
     ("--list", Action::List),
+    ("--ask", Action::Ask),
     ("--help", Action::Help),
     ("--version", Action::Version),
 ];
@@ -60,7 +62,7 @@ impl Action {
             Action::Judge | Action::Cut | Action::Draw => words == 1 || words == 2,
             Action::Make => words > 0 && words % 4 == 0,
             Action::LookUp => words == 2 || words == 3,
-            Action::List => words == 1,
+            Action::List | Action::Ask => words == 1,
             Action::Help | Action::Version => true,
         }
     }
@@ -72,7 +74,7 @@ impl Action {
             Action::Judge | Action::Cut | Action::Draw => "a file, and its answers if need be",
             Action::Make => "a key, a rand, a request and a response for each record",
             Action::LookUp => "a key, and one list or two",
-            Action::List => "a list of servers",
+            Action::List | Action::Ask => "a list of servers",
             Action::Help | Action::Version => "anything",
         }
     }
@@ -89,8 +91,8 @@ fn bare(word: &str) -> &str {
     word.trim_matches(|letter| letter == '[' || letter == ']')
 }
 
-/// Whether a flag is followed by a file: in usage a name follows it within its brackets.
-pub fn names_a_file(flag: &str) -> bool {
+/// Whether a flag is followed by a word: in usage a name follows it within its brackets.
+pub fn takes_a_word(flag: &str) -> bool {
     let mut words = help::usage().split_whitespace();
     words.any(|word| word.len() == flag.len() + 1 && word.starts_with('[') && bare(word) == flag)
 }

@@ -115,22 +115,27 @@ pub fn whose_keys(words: &str) -> String {
 
 /// All bytes of a file, or of standard input.
 pub fn read(file: &Path) -> Result<Vec<u8>, Stop> {
+    read_up_to(file, LONGEST)
+}
+
+/// The same, where it has no more bytes than these, which are whole MiB.
+pub fn read_up_to(file: &Path, longest: u64) -> Result<Vec<u8>, Stop> {
     let failed = |error: io::Error| Stop::file(file, error);
     let bytes = match file.as_os_str() == "-" {
-        true => taken(io::stdin()),
-        false => taken(File::open(file).map_err(failed)?),
+        true => taken(io::stdin(), longest),
+        false => taken(File::open(file).map_err(failed)?, longest),
     };
     let bytes = bytes.map_err(failed)?;
-    if bytes.len() as u64 > LONGEST {
-        return Err(Stop::file(file, "it has more than 64 MiB"));
+    if bytes.len() as u64 > longest {
+        return Err(Stop::file(file, format!("it has more than {} MiB", longest >> 20)));
     }
     Ok(bytes)
 }
 
 /// No more than shows that it is too long.
-fn taken(from: impl Read) -> io::Result<Vec<u8>> {
+fn taken(from: impl Read, longest: u64) -> io::Result<Vec<u8>> {
     let mut bytes = Vec::new();
-    from.take(LONGEST + 1).read_to_end(&mut bytes)?;
+    from.take(longest + 1).read_to_end(&mut bytes)?;
     Ok(bytes)
 }
 

@@ -1,15 +1,18 @@
 //! What stands on the command line, and whether it goes together.
 
-use crate::actions::{goes_with, names_a_file, Action};
+use crate::actions::{goes_with, takes_a_word, Action};
 use crate::help;
 use crate::names;
 use crate::status::Stop;
-use std::ffi::OsString;
+use std::ffi::{OsStr, OsString};
 use std::os::unix::ffi::{OsStrExt, OsStringExt};
 use std::path::PathBuf;
 
 /// How many lists of servers there may be: the owner's and the shipped one.
 const MOST_LISTS: usize = 2;
+
+/// The flags whose word is a number.
+const NUMBERS: [&str; 3] = ["--of", "--within", "--watch"];
 
 #[derive(Debug)]
 pub struct Flags {
@@ -21,9 +24,14 @@ pub struct Flags {
     pub svg: bool,
     pub force: bool,
     pub status: bool,
+    pub all: bool,
     pub out: Option<PathBuf>,
+    /// Where reports go.
+    pub reports: Option<PathBuf>,
     /// The lists of servers, the owner's first.
     pub servers: Vec<PathBuf>,
+    /// The numbers, by their flags.
+    numbers: Vec<(String, OsString)>,
 }
 
 /// What stands on the command line, before it is known whether it goes together.
@@ -33,7 +41,9 @@ struct Given {
     flags: Vec<String>,
     words: Vec<OsString>,
     out: Option<OsString>,
+    reports: Option<OsString>,
     servers: Vec<OsString>,
+    numbers: Vec<(String, OsString)>,
 }
 
 impl Given {
@@ -52,7 +62,7 @@ impl Given {
         Ok(given)
     }
 
-    /// A flag, with the file that it names behind a sign of equality or in the next word.
+    /// A flag, with its word behind a sign of equality or in the next one.
     fn flag(
         &mut self,
         word: OsString,
@@ -60,14 +70,16 @@ impl Given {
     ) -> Result<(), Stop> {
         let mut parts = word.as_bytes().splitn(2, |byte| *byte == b'=');
         let name = String::from_utf8_lossy(parts.next().unwrap_or_default()).into_owned();
-        let behind = parts.next().map(|file| OsString::from_vec(file.to_vec()));
-        if names_a_file(&name) {
-            let none = || Stop::Usage(format!("{name} names no file"));
-            let file = behind.or_else(|| more.next()).filter(|file| !file.is_empty());
-            let file = file.ok_or_else(none)?;
+        let behind = parts.next().map(|word| OsString::from_vec(word.to_vec()));
+        if takes_a_word(&name) {
+            let none = || Stop::Usage(format!("{name} names no {}", named_by(&name)));
+            let word = behind.or_else(|| more.next()).filter(|word| !word.is_empty());
+            let word = word.ok_or_else(none)?;
             match &name[..] {
-                "--servers" => self.servers.push(file),
-                _ => self.out = Some(file),
+                "--servers" => self.servers.push(word),
+                "--reports" => self.reports = Some(word),
+                _ if NUMBERS.contains(&&name[..]) => self.numbers.push((name.clone(), word)),
+                _ => self.out = Some(word),
             }
         } else if behind.is_some() && (Action::of(&name).is_some() || goes_with(&name).is_some()) {
             return Err(Stop::Usage(format!("{name} takes nothing behind a sign of equality")));
@@ -139,6 +151,15 @@ impl Given {
     }
 }
 
+/// What the word behind a flag names.
+fn named_by(flag: &str) -> &'static str {
+    match flag {
+        "--reports" => "folder",
+        _ if NUMBERS.contains(&flag) => "number",
+        _ => "file",
+    }
+}
+
 fn no_flag(flag: &str) -> Stop {
     let flag = names::plain(flag);
     let file = if flag.starts_with("--") { "" } else { "; a file of that name is written ./" };
@@ -160,9 +181,18 @@ impl Flags {
             svg: given.has("--svg"),
             force: given.has("--force"),
             status: given.has("--status"),
+            all: given.has("--all"),
             words: given.words,
             out: given.out.map(PathBuf::from),
+            reports: given.reports.map(PathBuf::from),
             servers: given.servers.into_iter().map(PathBuf::from).collect(),
+            numbers: given.numbers,
         })
+    }
+
+    /// The word behind a flag that wants a number.
+    pub fn number(&self, flag: &str) -> Option<&OsStr> {
+        let mut numbers = self.numbers.iter();
+        numbers.find(|(name, _)| name == flag).map(|(_, word)| word.as_os_str())
     }
 }

@@ -163,7 +163,7 @@ fn valid(checked: &Checked, dates: bool) -> String {
 }
 
 /// A number that every reader of JSON has exactly: a string, where it is too large to be one.
-fn number(value: u64) -> String {
+pub fn number(value: u64) -> String {
     if value < INEXACT {
         value.to_string()
     } else {

@@ -5,10 +5,13 @@
 //! the library do; here their inputs are read and their answers printed. Nothing here is proved.
 
 mod actions;
+mod ask;
 mod cut;
 mod draw;
 mod evidence;
 mod flags;
+#[path = "../../../shared/frame.rs"]
+mod frame;
 mod help;
 mod hints;
 mod judge;
@@ -20,6 +23,12 @@ mod make;
 mod names;
 mod output;
 mod plain;
+// What is said of writing, and of one among many, is for the server.
+#[allow(dead_code)]
+#[path = "../../../shared/poll.rs"]
+mod poll;
+#[path = "../../../shared/signals.rs"]
+mod signals;
 #[path = "../../../shared/standard_output.rs"]
 mod standard_output;
 mod status;
@@ -54,6 +63,7 @@ fn run(flags: Flags) -> Result<Ended, Stop> {
         Action::Make => make::run(&flags),
         Action::LookUp => look_up::run(&flags),
         Action::List => list::run(&flags),
+        Action::Ask => ask::run(&flags),
         Action::Draw => draw::run(&flags),
         Action::Help => output::print(help::HELP.as_bytes()),
         Action::Version => {

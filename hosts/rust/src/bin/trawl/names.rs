@@ -22,7 +22,7 @@ pub fn plain(words: &str) -> String {
 }
 
 /// Controls, and those letters of Unicode that stand for a direction, a break or nothing at all.
-fn steers(letter: char) -> bool {
+pub fn steers(letter: char) -> bool {
     letter.is_control()
         || matches!(letter, '\u{200b}'..='\u{200f}' | '\u{2028}'..='\u{202e}')
         || matches!(letter, '\u{2060}'..='\u{206f}' | '\u{61c}' | '\u{feff}')

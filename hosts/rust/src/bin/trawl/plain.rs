@@ -30,7 +30,7 @@ pub fn run(flags: &Flags) -> Result<Ended, Stop> {
     match ended {
         Ended::Refused => on_refusal(&flags.words).iter().for_each(|hint| output::say(hint)),
         Ended::Done => output::say(&whose_keys("--judge PILE --servers LIST")),
-        Ended::None | Ended::Unlisted => (),
+        _ => (),
     }
     Ok(ended.told(flags.status))
 }

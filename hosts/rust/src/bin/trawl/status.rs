@@ -16,6 +16,12 @@ pub enum Ended {
     Refused,
     /// A run convicts, and a key of it is in no list.
     Unlisted,
+    /// There is a time, and servers contradict each other.
+    Contradicted,
+    /// Servers were asked, and there is no time.
+    NoTime,
+    /// Servers contradict each other, and the report on it could not be written.
+    Unwritten,
 }
 
 impl Ended {
@@ -25,6 +31,9 @@ impl Ended {
             Ended::None => 3,
             Ended::Refused => 4,
             Ended::Unlisted => 5,
+            Ended::Contradicted => 6,
+            Ended::NoTime => 7,
+            Ended::Unwritten => 1,
         }
     }
 
@@ -50,6 +59,8 @@ pub enum Stop {
     Refused(String),
     /// It is not there: a run, or a server.
     None(String),
+    /// Nobody can be asked for the time.
+    NoTime(String),
     /// Who read standard output has gone, as in `trawl --help | head -n 1`. Nobody is told of it.
     Unread,
 }
@@ -61,6 +72,7 @@ impl Stop {
             Stop::Failed(_) | Stop::Unread => 1,
             Stop::Refused(_) => Ended::Refused.status(),
             Stop::None(_) => Ended::None.status(),
+            Stop::NoTime(_) => Ended::NoTime.status(),
         }
     }
 
@@ -100,9 +112,8 @@ impl From<Refusal> for Stop {
 impl fmt::Display for Stop {
     fn fmt(&self, f: &mut fmt::Formatter) -> fmt::Result {
         match self {
-            Stop::Usage(words) | Stop::Failed(words) | Stop::Refused(words) | Stop::None(words) => {
-                f.write_str(words)
-            }
+            Stop::Usage(words) | Stop::Failed(words) | Stop::Refused(words) => f.write_str(words),
+            Stop::None(words) | Stop::NoTime(words) => f.write_str(words),
             Stop::Unread => f.write_str("nobody reads standard output any more"),
         }
     }

@@ -1,0 +1,80 @@
+"""The proved Roughtime library, for Python.
+
+The functions and classes here call the shared library libtrawlbeacon by ctypes, and hold what it
+answers. The proofs speak of the library's own code; that these lines pass on what they are given is
+tested. include/trawlbeacon.h says what each call does.
+
+Bytes are taken in any form. What the library refuses is raised as Refused, with its code. A number
+that is too large is an OverflowError, and a key, nonce or rand of another length a ValueError.
+"""
+
+from .clocks import CLOCK_SERVERS, Clock, Time
+from .codes import Refusal, words
+from .errors import Refused
+from .lists import LISTED_ADDRESSES, LISTED_SERVERS, Address, Server, ServerList, read_servers
+from .packets import (
+    LONGEST_PACKET,
+    REQUEST_LENGTH,
+    Request,
+    Response,
+    Window,
+    check_signed,
+    link,
+    new_nonce,
+    read_request,
+    read_response,
+    sha512,
+    srv_value,
+    verify,
+    write_request,
+)
+from .piles import LONGEST_REPORT, MOST_RECORDS, RECORD_LENGTH, Cut, Pair, Pile, Record
+from .reports import CutText, cut_report, read_report
+from .walks import FEWEST_SERVERS, MOST_SERVERS, Asked, Outcome, Taken, Walk
+
+__version__ = "1.2.0"
+
+__all__ = [
+    "CLOCK_SERVERS",
+    "FEWEST_SERVERS",
+    "LISTED_ADDRESSES",
+    "LISTED_SERVERS",
+    "LONGEST_PACKET",
+    "LONGEST_REPORT",
+    "MOST_RECORDS",
+    "MOST_SERVERS",
+    "RECORD_LENGTH",
+    "REQUEST_LENGTH",
+    "Address",
+    "Asked",
+    "Clock",
+    "Cut",
+    "CutText",
+    "Outcome",
+    "Pair",
+    "Pile",
+    "Record",
+    "Refusal",
+    "Refused",
+    "Request",
+    "Response",
+    "Server",
+    "ServerList",
+    "Taken",
+    "Time",
+    "Walk",
+    "Window",
+    "check_signed",
+    "cut_report",
+    "link",
+    "new_nonce",
+    "read_report",
+    "read_request",
+    "read_response",
+    "read_servers",
+    "sha512",
+    "srv_value",
+    "verify",
+    "words",
+    "write_request",
+]
