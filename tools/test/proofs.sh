@@ -5,7 +5,7 @@
 # the whole. What rt says is kept, for where the wrong programs are refused.
 proofs() {
     local status=0
-    (take_lock && keep_busy && in_memory rt ci) | tee build/proofs | tell_counts | hold_back_last "$count" || status=$?
+    (take_lock && keep_busy && proving rt ci) | tee build/proofs | tell_counts | hold_back_last "$count" || status=$?
     [ "$status" -eq 0 ] && grep -qxE '[0-9]+ passed, 0 failed' "$count" && return
     cat "$count"
     say "rt ci ended with status $status"
