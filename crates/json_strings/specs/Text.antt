@@ -1,11 +1,12 @@
 -- string = quotation-mark *char quotation-mark (RFC 8259, section 7). The text is UTF-8 (section 8.1): a byte sequence
 -- that RFC 3629 does not allow is no character.
 use Prim.Native.Char.{code}
-use Prim.Native.Nat.{ℕ, zero, suc, _+_, _*_, _-_, _%_}
+use Prim.Native.Nat.{ℕ, zero, suc, _+_, _*_, _-_, _%_, _≤_}
 use mathlib.Core.Bool.{Bool, true, false, not, _&&_}
 use mathlib.Core.List.{List, [], _∷_, _++_}
+use mathlib.Core.Path.{_≡_}
 use lib.Dec.{eqb, leb, ltb}
-use lib.ListN.{length, getD}
+use lib.ListN.{length, getD, drop}
 use Rattle.json_tokens.specs.declared.Skip.{Skip}
 use Rattle.json_tokens.specs.declared.Skip.the-variants.{Past, Bad}
 use Rattle.json_tokens.specs.declared.Step.{Step}
@@ -137,3 +138,9 @@ sameList [] [] = true
 sameList [] (y ∷ ys) = false
 sameList (x ∷ xs) [] = false
 sameList (x ∷ xs) (y ∷ ys) = both (eqb x y) (sameList xs ys)
+
+-- ---- For the private functions: what stands at r past as much of a word as stands at a place.
+pub record Alike (s : List ℕ) (at : ℕ) (w : List ℕ) (r : ℕ) : Type 0 where
+  pub rest : sameList (contentAt s r) (drop (r - at) w) ≡ sameList (contentAt s at) w
+  pub on : at ≤ r
+  pub another : unescaped (getD s r 0) ≡ true → false ≡ sameList (contentAt s r) (drop (r - at) w)
