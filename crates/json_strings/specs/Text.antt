@@ -47,6 +47,14 @@ escapeAt s at =
     pick (eqb (getD s at 0) (code "u")) (hexAt s (at + 1))
     (pick (eqb (escapeOf (getD s at 0)) 0) Ill (Code (escapeOf (getD s at 0)) (at + 1)))
 
+-- the number of a character that is written as \u00 and two digits; 256 for any other
+unfoldable pub latinAt : List ℕ → ℕ → ℕ
+latinAt s at =
+    pick (eqb (getD s at 0) (code "\\")) (pick (eqb (getD s (at + 1) 0) (code "u"))
+    (pick (eqb (getD s (at + 2) 0) (code "0")) (pick (eqb (getD s (at + 3) 0) (code "0"))
+    (pick (eqb (nibbleAt s (at + 4)) 16) 256 (pick (eqb (nibbleAt s (at + 5)) 16) 256
+    (16 * nibbleAt s (at + 4) + nibbleAt s (at + 5)))) 256) 256) 256) 256
+
 -- RFC 3629, section 4. The second byte of a character: mostly UTF8-tail = %x80-BF, and less after four of the first
 -- bytes
 unfoldable pub leastSecond : ℕ → ℕ
