@@ -1,5 +1,6 @@
 -- Laws about the definitions, which the functions' proofs cite.
 pub mod Units
+pub mod TwoDigits
 pub mod Ahead
 pub mod Content
 pub mod Runs

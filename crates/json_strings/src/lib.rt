@@ -5,6 +5,7 @@ mod letters;
 mod strings;
 mod unescaped;
 
+pub use escapes::latin;
 pub use strings::holds;
 pub use strings::string;
 pub use strings::unit_of;

@@ -1,9 +1,9 @@
 // Strings (RFC 8259, section 7).
 ghost use mathlib.Core.Path.{_≡_};
-ghost use Prim.Native.Nat.{_+_, _-_, _≤_, _<_};
+ghost use Prim.Native.Nat.{_≤_, _<_};
 ghost use lib.ListN.{length, drop};
 ghost use Rattle.json_tokens.specs.Walk.{walked};
-ghost use Rattle.json_strings.specs.Text.{unitAt, unitStep, stringAt, contentAt, sameList};
+ghost use Rattle.json_strings.specs.Text.{unitAt, unitStep, stringAt, contentAt, sameList, Alike};
 use super::Unit;
 use super::escapes::escape;
 use super::letters::wide;
@@ -67,6 +67,9 @@ pub fn string(s: &[u8], at: usize) -> Skip
         return Skip::Bad;
     }
     let mut k = unescaped_run(s, at + 1);
+    if byte(s, k) == b'"' {
+        return Skip::Past(k + 1);
+    }
     loop {
         match unit_step(s, k) {
             Step::More(n) => {
@@ -82,13 +85,9 @@ pub fn string(s: &[u8], at: usize) -> Skip
     }
 }
 
-// Past the bytes at a place that stand for themselves and are those of the word.
+// Past the bytes at a place that stand for themselves and are those of the word. One that stands there is another.
 fn alike(s: &[u8], at: usize, w: &[u8]) -> usize
-    ensures { λ r. ⌜
-        (sameList (contentAt (now (s .entry)) r) (drop (r - at) (now (w .entry)))
-        ≡ sameList (contentAt (now (s .entry)) at) (now (w .entry)))
-        × (at ≤ r)
-        ⌝ }
+    ensures { λ r. ⌜ Alike (now (s .entry)) at (now (w .entry)) r ⌝ }
 {
     let mut k = at;
     let mut i = 0;
@@ -106,12 +105,12 @@ fn alike(s: &[u8], at: usize, w: &[u8]) -> usize
     k
 }
 
-// The string whose characters start at a place holds the word, unescaped.
-pub fn holds(s: &[u8], at: usize, w: &[u8]) -> bool
-    ensures { λ r. ⌜ r ≡ sameList (contentAt (now (s .entry)) at) (now (w .entry)) ⌝ }
+// The string whose characters start at a place holds the word from an index on, unescaped.
+fn holds_rest(s: &[u8], at: usize, w: &[u8], from: usize) -> bool
+    ensures { λ r. ⌜ r ≡ sameList (contentAt (now (s .entry)) at) (drop from (now (w .entry))) ⌝ }
 {
-    let mut k = alike(s, at, w);
-    let mut i = k - at;
+    let mut k = at;
+    let mut i = from;
     loop {
         match unit_of(s, k) {
             Unit::Code(c, j) => {
@@ -132,6 +131,22 @@ pub fn holds(s: &[u8], at: usize, w: &[u8]) -> bool
             }
         }
     }
+}
+
+// The string whose characters start at a place holds the word, unescaped. That it ends, or goes on otherwise, is mostly
+// seen by one byte.
+pub fn holds(s: &[u8], at: usize, w: &[u8]) -> bool
+    ensures { λ r. ⌜ r ≡ sameList (contentAt (now (s .entry)) at) (now (w .entry)) ⌝ }
+{
+    let k = alike(s, at, w);
+    let b = byte(s, k);
+    if b == b'"' {
+        return w.len() <= k - at;
+    }
+    if is_unescaped(b) {
+        return false;
+    }
+    holds_rest(s, k, w, k - at)
 }
 
 fn word(b: u8) -> u32

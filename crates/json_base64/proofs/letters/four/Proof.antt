@@ -3,8 +3,8 @@ use mathlib.Core.Bool.{true≢false}
 use mathlib.Core.Path.{sym}
 use native.Mathlib.Omega.{arith}
 use Rattle.json_base64.proofs.Lettered.{lettered-four}
-use Rattle.json_base64.proofs.stretches.four.Statement.{statement}
-use Rattle.json_base64.proofs.stretches.four.Tie as tie
+use Rattle.json_base64.proofs.letters.four.Statement.{statement}
+use Rattle.json_base64.proofs.letters.four.Tie as tie
 
 returns : tie.Need-returns
 returns c = λ e. absurd (true≢false (sym e))

@@ -1,27 +1,24 @@
 use borrow.Author.Needs.{needs}
 use native.Mathlib.Omega.{arith}
 use Prim.Native.Nat.{_+_, _*_, _-_}
-use mathlib.Core.Path.{_≡_, refl}
+use mathlib.Core.Path.{_≡_}
 use lib.ListN.{length}
 use Rattle.json_base64.specs.Sized.{Lettered}
-use Rattle.json_base64.proofs.Lettered.{lettered-next}
-use Rattle.json_base64.proofs.stretches.groups.Statement.{statement}
-use Rattle.json_base64.proofs.stretches.groups.Tie as tie
+use Rattle.json_base64.proofs.Lettered.{lettered-none, lettered-next}
+use Rattle.json_base64.proofs.letters.groups.Statement.{statement}
+use Rattle.json_base64.proofs.letters.groups.Tie as tie
 
 abbrev Inv-loop : tie.InvT-loop
-Inv-loop s at n₀ k₀ n k = (k ≡ at + 4 * n) × Lettered s at n
+Inv-loop s at k₀ n₀ k n = (k ≡ at + 4 * n) × Lettered s at n
 
 abbrev μ-loop : tie.MeasureT-loop
-μ-loop s at n₀ k₀ n k = length s - k
-
-add-k : tie.Need-add-k Inv-loop μ-loop
-add-k c = let l = c .in-stretches .ensures .inside in search needs
+μ-loop s at k₀ n₀ k n = length s - k
 
 loop-holds : tie.Need-loop-holds Inv-loop μ-loop
-loop-holds c = (refl, c .in-stretches .ensures)
+loop-holds c = (omega arith, lettered-none)
 
-add-k-2 : tie.Need-add-k-2 Inv-loop μ-loop
-add-k-2 c = let l = c .before .four .ensures (c .if1 .taken) .inside in search needs
+add-k : tie.Need-add-k Inv-loop μ-loop
+add-k c = let l = c .before .four .ensures (c .if1 .taken) .inside in search needs
 
 add-n : tie.Need-add-n Inv-loop μ-loop
 add-n c = let l = c .before .before .loop .inv .1 .inside in search needs
@@ -43,12 +40,9 @@ groups-spec =
     (tie.spec
     Inv-loop
     μ-loop
-    (λ c κs. search needs)
-    (λ c. search needs)
-    add-k
     loop-holds
     (λ c κs. search needs)
-    add-k-2
+    add-k
     add-n
     loop-less
     loop-again
