@@ -3,6 +3,7 @@ pub mod Units
 pub mod Ahead
 pub mod Content
 pub mod Runs
+pub mod Sizes
 pub mod Plain
 pub mod Once
 pub mod Examples
