@@ -4,6 +4,7 @@ pub mod TwoDigits
 pub mod Ahead
 pub mod Content
 pub mod Runs
+pub mod Sizes
 pub mod Plain
 pub mod Once
 pub mod Examples

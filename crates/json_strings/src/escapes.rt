@@ -39,7 +39,7 @@ fn escape_of(b: u8) -> u32
 }
 
 // A hexadecimal digit, 16 for any other letter.
-fn nibble_of(b: u8) -> u32
+pub fn nibble_of(b: u8) -> u32
     ensures { λ r. ⌜ (r ≡ nibbleOf b) × (r ≤ 16) ⌝ }
 {
     if b < b'0' {

@@ -9,6 +9,7 @@ use super::escapes::escape;
 use super::letters::wide;
 use super::unescaped::is_unescaped;
 use super::unescaped::unescaped_run;
+use super::wides::wide_run;
 use json_tokens::Skip;
 use json_tokens::Step;
 use json_tokens::byte;
@@ -45,8 +46,7 @@ fn unit_step(s: &[u8], at: usize) -> Step
     }
 }
 
-// Where to go on after the character from k to n: past the run that it begins, if it is one byte. Others come in rows
-// of their own, and after them no run is looked for.
+// Where to go on after the character from k to n: past the run that it begins, of characters of one byte or of others.
 fn onward(s: &[u8], k: usize, n: usize) -> usize
     requires { ⌜ k < n ⌝ }
     ensures { λ r. ⌜
@@ -55,7 +55,11 @@ fn onward(s: &[u8], k: usize, n: usize) -> usize
         × (n ≤ r)
         ⌝ }
 {
-    if n - k == 1 { unescaped_run(s, n) } else { n }
+    if n - k == 1 {
+        unescaped_run(s, n)
+    } else {
+        wide_run(s, n)
+    }
 }
 
 // A string, at its opening quote.

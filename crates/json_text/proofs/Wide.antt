@@ -6,17 +6,18 @@ use mathlib.Core.List.{List, [], _∷_, _++_}
 use native.Mathlib.Omega.{arith}
 use native.Mathlib.Numerals.{add-one}
 use lib.Dec.{eqb, leb, ltb}
-use lib.ListN.{getD, drop}
+use lib.ListN.{length, getD, drop}
 use lib.Seq.{drop-cons}
-use borrow.Author.Tests.{eqb-true, eqb-false, ltb-true, ltb-false, leb-true, ne-eqb, le-ltb}
+use borrow.Author.Tests.{eqb-true, eqb-false, ltb-true, ltb-false, leb-true}
 use Rattle.laws.specs.Pick.{pick, both}
 use Rattle.json_tokens.proofs.Picks.{over}
 use Rattle.json_strings.specs.declared.Unit.{Unit}
 use Rattle.json_strings.specs.declared.Unit.the-variants.{Code, Close, Ill}
 use Rattle.json_strings.specs.Text.{leastSecond, mostSecond, secondAt, tailAt, moreBits, twoAt, threeAt, fourAt, longAt}
 use Rattle.json_strings.specs.Text.{wideAt, unitAt}
+use Rattle.json_strings.proofs.Sizes.{wide-unit}
 use Rattle.json_text.specs.Octets.{utf8}
 use Rattle.json_text.proofs.Sizes.{utf8-two, utf8-three, utf8-four}
 
 -- ---- What the tests of the second octet and of later ones say.
 halves : (a b : Bool) → both a b ≡ true → (a ≡ true) × (b ≡ true)
@@ -144,6 +145,7 @@ pub record Stood (x : List ℕ) (p c j : ℕ) : Type 0 where
   pub octs : List ℕ
   pub letter : Letter c octs
   pub there : drop p x ≡ octs ++ drop j x
+  pub ends : j ≡ p + length octs
   pub each : High octs
 
 ill : {A : Type 0} {c j : ℕ} → Ill ≡ Code c j → A
@@ -162,6 +164,7 @@ two-there x p h g s =
       octs = a ∷ b ∷ [];
       letter = two-octets a b _ h g l m refl;
       there = step x p (p + 1) refl (omega arith) ∙ ap (λ z. a ∷ z) (step x (p + 1) (p + 2) k (omega arith));
+      ends = refl;
       each = let n : 0x80 ≤ a = omega arith in more n (more l none);
     }
 
@@ -183,6 +186,7 @@ three-there x p h g s t =
           step x p (p + 1) refl (omega arith)
           ∙ ap (λ z. a ∷ z) (step x (p + 1) (p + 2) k (omega arith)
           ∙ ap (λ z. b ∷ z) (step x (p + 2) (p + 3) i (omega (arith, u .0))));
+      ends = refl;
       each = let n : 0x80 ≤ a = omega arith in more n (more l (more (u .0) none));
     }
 
@@ -208,6 +212,7 @@ four-there x p h g s t v =
           ∙ ap (λ z. a ∷ z) (step x (p + 1) (p + 2) k (omega arith)
           ∙ ap (λ z. b ∷ z) (step x (p + 2) (p + 3) i (omega (arith, u .0))
           ∙ ap (λ z. d ∷ z) (step x (p + 3) (p + 4) j (omega (arith, w .0)))));
+      ends = refl;
       each = let n : 0x80 ≤ a = omega arith in more n (more l (more (u .0) (more (w .0) none)));
     }
 
@@ -264,11 +269,4 @@ wide-there x p {c} {j} e = by (ltb (getD x p 0) 0xC2) (secondAt x p) (ltb (getD 
     by false true false f g h z = long-there x p (ltb-false _ _ h) (second-says x p g) z
 
 pub unit-there : (x : List ℕ) (p : ℕ) {c j : ℕ} → 0x80 ≤ getD x p 0 → unitAt x p ≡ Code c j → Stood x p c j
-unfolding unitAt pick
-unit-there x p h e =
-    wide-there x p (sym (simp (
-      ne-eqb (getD x p 0) 34 (λ z. omega arith),
-      ne-eqb (getD x p 0) 92 (λ z. omega arith),
-      le-ltb (getD x p 0) 32 (omega arith),
-      le-ltb (getD x p 0) 128 h,
-    )) ∙ e)
+unit-there x p h e = wide-there x p (sym (wide-unit x p h) ∙ e)
