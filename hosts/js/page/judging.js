@@ -10,7 +10,7 @@ import { isUtf16, meansList, noList, noReport } from "./why.js";
 /** The longest list of servers that is read. For each server it is gone through once more. */
 const LONGEST_LIST = 1 << 20;
 
-/** Bytes that are no text are a pile: every record has bytes that must be zero, and JSON has none. */
+/** What is no text is a pile: every record has bytes that must be zero, and JSON has none. */
 const isText = (bytes) => bytes.length > 0 && !bytes.includes(0);
 
 /** What a refusal says to people. */

@@ -82,10 +82,10 @@ export function wholeWords({ whole, run, records }) {
 /** The warning about keys that nobody knows; null, where there is nothing to warn of. */
 export function keyWords({ listed, servers }) {
     const end = "anybody can sign with keys of his own.";
-    if (!listed) {
-        return `Whose keys these are nobody has looked up: ${end} Add a server list that you trust.`;
-    }
-    const letters = servers.flatMap(({ name }, server) => (name === null ? [letterOf(server)] : []));
+    const add = "Add a server list that you trust.";
+    if (!listed) return `Nobody has looked up whose keys these are: ${end} ${add}`;
+    const unknown = ({ name }, server) => (name === null ? [letterOf(server)] : []);
+    const letters = servers.flatMap(unknown);
     if (!letters.length) return null;
     const [keys, are] = letters.length === 1 ? ["key", "is"] : ["keys", "are"];
     return `The ${keys} ${letters.join(", ")} ${are} in no list that you gave: ${end}`;
