@@ -119,6 +119,34 @@ take_lock() {
     export TRAWLBEACON_LOCKED=yes
 }
 
+# A folder in memory for what a command writes for a while, where there is one that has room for
+# several checks and in which programs can be run.
+room_in_memory() {
+    local kind kept free
+    read -r kind kept free < <(stat -f -c '%T %S %a' /dev/shm 2>/dev/null)
+    [ "$kind" = tmpfs ] && [ $((kept * free)) -ge 4000000000 ] && [ -w /dev/shm ] || return 1
+    ! awk '$2 == "/dev/shm" && $4 ~ /noexec/ { found = 1 } END { exit !found }' /proc/mounts || return 1
+    mktemp -d /dev/shm/trawlbeacon.XXXXXX
+}
+
+# Runs a prover in the way that takes least of the processors' time. Each check unpacks all that is
+# proved below its crate, some thousand small files, and removes them at its end: in memory that
+# takes half of the system's time that it takes on a disk. Who has named a folder for such files in
+# TMPDIR has it used. rt runs programs in it as nobody, who must be able to pass through. And a check
+# ends soon, so that it need not hand memory back before it does.
+proving() { # COMMAND...
+    local room
+    if [ -n "${TMPDIR:-}" ] || ! room=$(room_in_memory); then
+        MIMALLOC_PURGE_DELAY=-1 "$@"
+        return
+    fi
+    (
+        trap 'rm -rf "$room"' EXIT
+        chmod 711 "$room"
+        TMPDIR=$room MIMALLOC_PURGE_DELAY=-1 "$@"
+    )
+}
+
 # Runs a command whose words go to standard error, and says every so often that it still runs.
 patiently() { # WHAT COMMAND...
     local what=$1 line part='' began=$SECONDS
