@@ -1,12 +1,12 @@
 -- Laws about characters by how many bytes they take.
-use Prim.Native.Nat.{ℕ, _+_, _*_, _≤_, _<_}
+use Prim.Native.Nat.{ℕ, _+_, _*_, _-_, _≤_, _<_}
 use mathlib.Core.Path.{_≡_, refl, sym, _∙_, ap}
-use mathlib.Core.Bool.{Bool, true, false, not, _&&_, true≢false}
+use mathlib.Core.Bool.{Bool, true, false, not, _&&_, _||_, true≢false}
 use mathlib.Core.List.{List}
 use native.Mathlib.Omega.{arith}
 use lib.Dec.{eqb, leb, ltb}
 use lib.ListN.{length, getD}
-use borrow.Author.Tests.{eqb-true, leb-true, ltb-true, ne-eqb, lt-ltb, le-ltb, not-false}
+use borrow.Author.Tests.{eqb-true, leb-true, ltb-true, ne-eqb, lt-ltb, le-ltb, lt-leb, le-leb, not-false}
 use Rattle.laws.specs.Pick.{pick, both}
 use Rattle.json_tokens.specs.declared.Step.the-variants.{More}
 use Rattle.json_tokens.specs.Walk.{walked}
@@ -47,6 +47,45 @@ tail-second a b h e =
       ne-eqb a 0xED (λ z. omega arith),
       ne-eqb a 0xF4 (λ z. omega arith),
     ) e
+
+-- a digit in base 16 has a value
+or-cases : (a b : Bool) {A : Type 0} → a || b ≡ true → (a ≡ true → A) → (b ≡ true → A) → A
+or-cases true b e f g = f refl
+or-cases false b e f g = g e
+
+within : (b low high : ℕ) → leb low b && leb b high ≡ true → (low ≤ b) × (b ≤ high)
+within b low high e = (leb-true low b (and-left (leb low b) (leb b high) e), leb-true b high (and-right (leb low b) (leb b high) e))
+
+module _ (b : ℕ) where
+  low-digit : 48 ≤ b → b ≤ 57 → nibbleOf b ≡ b - 48
+  unfolding nibbleOf pick
+  low-digit l m = simp (le-ltb b 48 l, le-leb b 57 m)
+
+  small-digit : 97 ≤ b → b ≤ 102 → nibbleOf b ≡ b - 97 + 10
+  unfolding nibbleOf pick
+  small-digit l m =
+      simp (
+        le-ltb b 48 (omega arith),
+        lt-leb b 57 (omega arith),
+        le-ltb b 65 (omega arith),
+        lt-leb b 70 (omega arith),
+        le-ltb b 97 l,
+        le-leb b 102 m,
+      )
+
+  large-digit : 65 ≤ b → b ≤ 70 → nibbleOf b ≡ b - 65 + 10
+  unfolding nibbleOf pick
+  large-digit l m =
+      simp (le-ltb b 48 (omega arith), lt-leb b 57 (omega arith), le-ltb b 65 l, le-leb b 70 m)
+
+  hex-nibble : isHex b ≡ true → eqb (nibbleOf b) 16 ≡ false
+  unfolding isHex
+  hex-nibble h =
+      or-cases ((leb 48 b && leb b 57) || (leb 97 b && leb b 102)) (leb 65 b && leb b 70) h
+      (λ g. or-cases (leb 48 b && leb b 57) (leb 97 b && leb b 102) g
+      (λ e. let w = within b 48 57 e in ne-eqb (nibbleOf b) 16 (λ z. omega (arith, w .0, w .1, low-digit (w .0) (w .1))))
+      (λ e. let w = within b 97 102 e in ne-eqb (nibbleOf b) 16 (λ z. omega (arith, w .0, w .1, small-digit (w .0) (w .1)))))
+      (λ e. let w = within b 65 70 e in ne-eqb (nibbleOf b) 16 (λ z. omega (arith, w .0, w .1, large-digit (w .0) (w .1))))
 
 module _ (s : List ℕ) (k : ℕ) where
   second-at : {a b : ℕ} → a ≡ getD s k 0 → b ≡ getD s (k + 1) 0 → isSecond a b ≡ true → secondAt s k ≡ true
@@ -95,12 +134,8 @@ module _ (s : List ℕ) (k : ℕ) where
       ap stepOf (wide-unit s k (omega arith) ∙ v)
 
   no-nibble : {c : ℕ} (i j : ℕ) → i ≡ j → c ≡ getD s j 0 → isHex c ≡ true → eqb (nibbleAt s i) 16 ≡ false
-  unfolding isHex nibbleAt
-  no-nibble {c} i j z e h = rw (z, sym e) (by (eqb (nibbleOf c) 16) h)
-    where
-      by : (b : Bool) → not b ≡ true → b ≡ false
-      by true w = absurd (true≢false (sym w))
-      by false w = refl
+  unfolding nibbleAt
+  no-nibble {c} i j z e h = rw (z, sym e) (hex-nibble c h)
 
   unit-hex : getD s k 0 ≡ 92 → getD s (k + 1) 0 ≡ 117 → eqb (nibbleAt s (k + 1 + 1)) 16 ≡ false
       → eqb (nibbleAt s (k + 1 + 1 + 1)) 16 ≡ false → eqb (nibbleAt s (k + 1 + 1 + 2)) 16 ≡ false

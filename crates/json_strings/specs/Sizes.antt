@@ -3,7 +3,7 @@
 use Prim.Native.Char.{code}
 use Prim.Native.Nat.{ℕ, _+_, _*_, _≤_, _<_}
 use mathlib.Core.Path.{_≡_}
-use mathlib.Core.Bool.{Bool, not, _&&_}
+use mathlib.Core.Bool.{Bool, _&&_, _||_}
 use mathlib.Core.List.{List}
 use lib.Dec.{eqb, leb, ltb}
 use lib.ListN.{length}
@@ -27,7 +27,9 @@ unfoldable pub isFour : ℕ → ℕ → ℕ → ℕ → Bool
 isFour a b c d = (((leb 0xF0 a && ltb a 0xF5) && isSecond a b) && isTail c) && isTail d
 
 unfoldable pub isHex : ℕ → Bool
-isHex b = not (eqb (nibbleOf b) 16)
+isHex b =
+    ((leb (code "0") b && leb b (code "9")) || (leb (code "a") b && leb b (code "f")))
+    || (leb (code "A") b && leb b (code "F"))
 
 unfoldable pub isQuad : ℕ → ℕ → ℕ → ℕ → Bool
 isQuad a b c d = ((isHex a && isHex b) && isHex c) && isHex d

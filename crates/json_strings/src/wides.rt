@@ -1,7 +1,7 @@
 // Runs of characters that are more than a byte, or that are escaped by four digits. They are stepped over by their sizes:
 // no number is made of them.
 ghost use mathlib.Core.Path.{_≡_};
-ghost use Prim.Native.Nat.{_≤_};
+ghost use Prim.Native.Nat.{_+_, _≤_};
 ghost use lib.ListN.{length};
 ghost use Rattle.json_tokens.specs.Walk.{walked};
 ghost use Rattle.json_strings.specs.Text.{unitStep};
@@ -46,7 +46,7 @@ fn is_four(a: u8, b: u8, c: u8, d: u8) -> bool
 fn is_hex(b: u8) -> bool
     ensures { λ r. ⌜ r ≡ isHex b ⌝ }
 {
-    nibble_of(b) != 16
+    ((b'0' <= b) & (b <= b'9')) | ((b'a' <= b) & (b <= b'f')) | ((b'A' <= b) & (b <= b'F'))
 }
 
 fn is_quad(a: u8, b: u8, c: u8, d: u8) -> bool
@@ -93,17 +93,23 @@ pub fn hex_code(s: &[u8], at: usize) -> u32
     }
 }
 
-// How many bytes the character at a place takes that is more than a byte or has four digits. 0 where it is another, or
-// where the text nearly ends.
-fn wide_size(s: &[u8], at: usize) -> usize
+// How many bytes the character at a place takes that is escaped by four digits, 0 where it is another.
+fn hex_size(s: &[u8], at: usize) -> usize
+    requires { ⌜ at + 6 ≤ length (now s) ⌝ }
     ensures { λ r. ⌜ Steps (now (s .entry)) at r ⌝ }
 {
-    if s.len() < 6 {
-        return 0;
+    if is_escape(s[at], s[at + 1]) & is_quad(s[at + 2], s[at + 3], s[at + 4], s[at + 5]) {
+        6
+    } else {
+        0
     }
-    if s.len() - 6 < at {
-        return 0;
-    }
+}
+
+// The same of one that is more than a byte.
+fn byte_size(s: &[u8], at: usize) -> usize
+    requires { ⌜ at + 6 ≤ length (now s) ⌝ }
+    ensures { λ r. ⌜ Steps (now (s .entry)) at r ⌝ }
+{
     let a = s[at];
     let b = s[at + 1];
     if is_two(a, b) {
@@ -113,14 +119,23 @@ fn wide_size(s: &[u8], at: usize) -> usize
     if is_three(a, b, c) {
         return 3;
     }
-    let d = s[at + 3];
-    if is_four(a, b, c, d) {
-        return 4;
+    if is_four(a, b, c, s[at + 3]) { 4 } else { 0 }
+}
+
+// The same of either, 0 also where the text nearly ends.
+fn wide_size(s: &[u8], at: usize) -> usize
+    ensures { λ r. ⌜ Steps (now (s .entry)) at r ⌝ }
+{
+    if s.len() < 6 {
+        return 0;
     }
-    if is_escape(a, b) & is_quad(c, d, s[at + 4], s[at + 5]) {
-        6
+    if s.len() - 6 < at {
+        return 0;
+    }
+    if s[at] < 0x80 {
+        hex_size(s, at)
     } else {
-        0
+        byte_size(s, at)
     }
 }
 
