@@ -97,7 +97,7 @@ pub const LIMITS: &[Limit] = &[
           "the goal"),
     limit("worst_usual", 2.0, 1.8, "a byte of the same by a byte of a usual text",
           "the goal"),
-    limit("lists_read", 1.5, 1.43, "the longest list of servers as JSON, read by the independent reader",
+    limit("lists_read", 1.5, 0.97, "the longest list of servers as JSON, read by the independent reader",
           "asked"),
     limit("worst_list", 1.5, UNMET, "a list that takes long, read by the same",
           "asked"),
