@@ -89,15 +89,21 @@ pub const LIMITS: &[Limit] = &[
           "there are 120 pairs"),
     limit("texts_read", 0.6, 0.46, "JSON read by the independent reader",
           "the goal; ours goes over the text once, and once more over the strings of its entries"),
-    limit("texts_serde", 1.6, UNMET, "the same by serde_json with base64",
+    limit("texts_serde", 1.6, 1.32, "the same by serde_json with base64",
           "asked"),
     limit("texts_cut", 0.43 + RUNS, 0.43, "JSON read, cut and written by the independent one",
           "as runs"),
     limit("worst_text", 1.5, 1.45, "a text that takes long, read by the independent reader",
           "the goal"),
+<<<<<<< HEAD
     limit("worst_usual", 2.0, 1.8, "a byte of the same by a byte of a usual text",
           "the goal"),
     limit("lists_read", 1.5, 0.97, "the longest list of servers as JSON, read by the independent reader",
+=======
+    limit("worst_usual", 2.0, UNMET, "a byte of the same by a byte of a usual text",
+          "the goal; of 28 texts one is above it, a report of escapes"),
+    limit("lists_read", 1.5, 1.43, "the longest list of servers as JSON, read by the independent reader",
+>>>>>>> json
           "asked"),
     limit("worst_list", 1.5, UNMET, "a list that takes long, read by the same",
           "asked"),
