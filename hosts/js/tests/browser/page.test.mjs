@@ -275,8 +275,8 @@ test("the largest pile, and a file that is too large", async () => {
 test("what takes long keeps nobody waiting, and can be stopped", async () => {
     const page = await open();
     const lists = Buffer.from("[],".repeat(20 << 20));
-    const slow = [utf8('{"responses":['), lists, utf8("1]}")];
-    await page.choose(put("slow.json", Buffer.concat(slow)));
+    const slow = put("slow.json", Buffer.concat([utf8('{"responses":['), lists, utf8("1]}")]));
+    await page.choose(...Array(50).fill(slow));
     await page.until("!document.querySelector('#working').hidden");
     const asked = Date.now();
     assert.equal(await page.value("1 + 1"), 2);
