@@ -1,5 +1,5 @@
-"""The inputs that take longest, or that a host without bounds would stumble over. Each ends with the
-code that it should have, in a second of this processor at the most."""
+"""The inputs that take longest, or that a host without bounds would stumble over. Each ends, with
+the code that it should have, in a second of this processor at the most."""
 
 from __future__ import annotations
 
