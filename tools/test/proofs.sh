@@ -13,8 +13,8 @@ proofs() {
 }
 
 # rt starts as many checks as there are processors, up to 4, and waits for all of them before it
-# starts more, so that the shorter one of two leaves its processor idle. With twice as many it seldom
-# does. That is asked for where each has 2 GB of memory, and the caller said nothing.
+# starts more, so that the shorter one of two leaves its processor idle. With twice as many it
+# seldom does. That is asked for where each has 2 GB of memory, and the caller said nothing.
 keep_busy() {
     local processors free
     processors=$(nproc 2>/dev/null || echo 4)
