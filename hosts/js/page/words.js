@@ -23,7 +23,7 @@ export const counted = (count, what) => `${count} ${what}${count === 1 ? "" : "s
 /** The letter by which a server is called. There are at most 16. */
 export const letterOf = (server) => String.fromCharCode(65 + server);
 
-/** What stands beside a record, of so many letters: its server's name, or its key's first digits. */
+/** What stands beside a record, in so many letters: its server's name, or the start of its key. */
 export function labelOf({ key, name }, most) {
     if (name === null) return key.slice(0, 8);
     const letters = Array.from(plain(name));
