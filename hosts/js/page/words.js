@@ -23,9 +23,11 @@ export const counted = (count, what) => `${count} ${what}${count === 1 ? "" : "s
 /** The letter by which a server is called. There are at most 16. */
 export const letterOf = (server) => String.fromCharCode(65 + server);
 
-/** What stands beside a record: the name of its server, or the first digits of its key. */
+/** What stands beside a record, in so many letters: its server's name, or the start of its key. */
 export function labelOf({ key, name }, most) {
-    return name === null ? key.slice(0, 8) : plain(name, most);
+    if (name === null) return key.slice(0, 8);
+    const letters = Array.from(plain(name));
+    return letters.length > most ? `${letters.slice(0, most - 2).join("")}..` : letters.join("");
 }
 
 /** Why a record or a text is refused. */

@@ -6,7 +6,7 @@ import test from "node:test";
 import { axisOf, placeOf, ticks } from "../page/axis.js";
 import { brief, dateOf, DAY, span, yearStart } from "../page/dates.js";
 import { judged, namesOf, sorted } from "../page/judging.js";
-import { plain } from "../page/words.js";
+import { labelOf, plain } from "../page/words.js";
 import { noList, noReport } from "../page/why.js";
 import { Refusal } from "../errors.js";
 import { file, library, PILE, random, REPORT, text, utf8 } from "./support.mjs";
@@ -173,4 +173,6 @@ test("names of others steer nothing", () => {
     assert.equal(plain("x".repeat(90)), `${"x".repeat(80)} ..`);
     assert.equal(plain("\u00e9 \u6642 \ud83d\ude00"), "\u00e9 \u6642 \ud83d\ude00");
     assert.equal(plain("\ud800"), "\\u{d800}");
+    assert.equal(labelOf({ key: "", name: "\u202e".repeat(9) }, 13), "\\u{202e}\\u{..");
+    assert.equal(labelOf({ key: "", name: "thirteen long" }, 13), "thirteen long");
 });

@@ -377,7 +377,8 @@ test("light, dark and on a phone: nothing is cut off, and every text can be read
     const grounds = [];
     for (const [name, how] of ways) {
         const page = await open(how);
-        await page.choose(put("report.json", REPORT), put("list.json", listOf("alder", "birch")));
+        const list = put("list.json", listOf("alder", "birch".repeat(50)));
+        await page.choose(put("report.json", REPORT), list);
         await shown(page);
         await drawn(page);
         const wide = "document.documentElement.scrollWidth - innerWidth";
