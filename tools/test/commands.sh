@@ -38,31 +38,29 @@ command_trawl() {
     [ "$status" -eq 2 ]
 }
 
-# What the story must have in it, whichever packets are lost: that the lie is found, what is cut,
-# and that there is a time at once, beside the lie, beside a silent server, and after a boot by the
-# two that are left.
+# What the story must have in it, whichever packets are lost: what the network does, that there is a
+# time beside the lie, that the lie is shown, written and judged, and that there is a time again with
+# a server less.
 story=(
-    "network  loses " "network  damages " "'s answer with code "
-    "console  concludes: malfeasance" "console  cuts records 2 to 3, the shortest run"
-    "reader   finds that its records 0 and 1 contradict each other"
-    "console  has the time: 20" "console  has the time all the same: 20"
-    "of which 1 may lie: alder and birch agree, and cedar is suspect"
-    "console  has no answer from birch in 6 tries" "console  has the time again: 20"
-    "console  goes on with what birch said before" "console  has the time once more: 20"
-    "console  counts 2 servers, of which 1 may lie: it is in between, but an end may be"
+    "network  loses " "network  damages " "network  delays "
+    "console  time     20" "console  suspect  cedar" "by its own clock, between the two"
+    "console  walk     malfeasance: 6 answers of 3 servers" "console  lie      "
+    "console  report   'build/demo/malfeasance-1.json'" "apart, and contradict each other" "console  run 0 1"
+    "birch is stopped, and cedar goes on lying." "birch    asked " "console  silent   birch: "
+    "console  counted  2 of 3, of which 1 may lie: it is between the ends, but an end may be"
 )
 
-# What the proved program says of the story's pile is the same, and the keys that convict are in the
-# story's own list.
+# The keys that convict are in the story's own list, and the proved program says the same of the
+# report's records.
 command_demo() {
-    local line said=build/demo/said
-    mkdir -p build/demo && rm -f build/demo/* || return
+    local line said=build/demo-said room=build/demo
     ./demo >"$said" || { cat "$said" && return 1; }
     for line in "${story[@]}"; do
         grep -qF "$line" "$said" || { cat "$said" && say "./demo says no '$line'" && return 1; }
     done
-    [ "$(./trawl build/demo/pile | tail -n 1)" = "run 2 3" ] || return
-    ./trawl --judge build/demo/report.json --servers build/demo/servers --status >/dev/null || return
-    grep -q '^{"responses":\[{"publicKey":' build/demo/report.json || return
-    grep -q '^<svg ' build/demo/pile.svg
+    ./trawl --judge "$room/malfeasance-1.json" --servers "$room/servers.json" --status >/dev/null || return
+    ./trawl --cut "$room/malfeasance-1.json" --out "$room/pile" --force 2>/dev/null || return
+    [ "$(./trawl "$room/pile" 2>/dev/null | tail -n 1)" = "run 0 1" ] || return
+    grep -q '^{"responses":\[{"publicKey":' "$room/malfeasance-1.json" || return
+    grep -q '^<svg ' "$room/report.svg"
 }

@@ -1,91 +1,53 @@
-//! A console: it has no date, knows three servers by their keys, and finds out what time it is.
-//!
-//! All that it hears, in whichever way it asked, goes into one clock of the library's.
+//! A console: the command `trawl`, what it is asked, and what it says.
 
-use super::backoff::Backoff;
+use super::programs::Programs;
 use super::teller::Teller;
-use std::net::SocketAddr;
-use std::time::Duration;
-use trawlbeacon::{Clock, Refusal, Servers, Time};
+use std::error::Error;
+use std::io::{BufRead, BufReader, Read};
+use std::process::Stdio;
+use std::thread;
 
-/// How far the console's own clock may go wrong, in parts of a million: as far as a cheap crystal
-/// does.
-const DRIFT: u32 = 100;
-
-/// How long a second of the draft's backoff is here.
-const SECOND: Duration = Duration::from_millis(50);
-
-/// How long an answer is waited for at the least.
-pub const PATIENCE: Duration = Duration::from_millis(100);
-
-/// A server that the console knows.
-#[derive(Clone)]
-pub struct Known {
-    pub name: &'static str,
-    pub key: [u8; 32],
-    pub address: SocketAddr,
+pub struct Console {
+    pub programs: Programs,
+    pub teller: Teller,
 }
 
-/// The console, from its boot on.
-pub struct Console {
-    pub(super) servers: Vec<Known>,
-    pub(super) backoffs: Vec<Backoff>,
-    pub(super) clock: Clock,
-    pub(super) teller: Teller,
+/// What it said, and the status that it ended with.
+pub struct Said {
+    pub lines: Vec<String>,
+    pub status: Option<i32>,
+}
+
+impl Said {
+    /// Whether a line begins with a word and has these words behind it.
+    pub fn has(&self, word: &str, behind: &str) -> bool {
+        let behind = |line: &String| line.strip_prefix(word).map_or(false, |l| l.contains(behind));
+        self.lines.iter().any(behind)
+    }
 }
 
 impl Console {
-    /// A console that has just booted, and has heard nothing.
-    pub fn boot(servers: Vec<Known>, teller: Teller) -> Result<Console, Refusal> {
-        let backoffs = vec![Backoff::new(SECOND); servers.len()];
-        Ok(Console { servers, backoffs, clock: Clock::start(DRIFT)?, teller })
+    /// Says each line as it comes, and keeps it.
+    fn pass_on(&self, lines: impl Read) -> Vec<String> {
+        let lines = BufReader::new(lines).lines().map_while(Result::ok);
+        let said = |line: &String| self.teller.says("console", line.trim_start_matches("trawl: "));
+        lines.inspect(said).collect()
     }
 
-    /// How many of its servers may lie: fewer than half of those that it asks.
-    pub fn liars(&self) -> u64 {
-        (self.servers.len() as u64 - 1) / 2
-    }
-
-    /// The time now, by all that was heard.
-    pub fn time(&self) -> Result<Time, Refusal> {
-        self.clock.now(self.teller.micros_up(), self.liars())
-    }
-
-    /// The name of the server whose answer the record at this place of a pile is.
-    pub fn name(&self, place: usize) -> &'static str {
-        self.servers[place % self.servers.len()].name
-    }
-
-    /// The names of some servers, as they are said.
-    pub fn names(&self, servers: Servers) -> String {
-        said(servers.iter().map(|server| self.name(server)))
-    }
-
-    pub(super) fn says(&self, what: impl AsRef<str>) {
-        self.teller.says("console", what);
-    }
-}
-
-/// Words with commas between them, and an `and` before the last.
-pub fn said<'a>(words: impl Iterator<Item = &'a str>) -> String {
-    let words: Vec<&str> = words.collect();
-    match &words[..] {
-        [] => "nobody".into(),
-        [one] => (*one).into(),
-        [many @ .., last] => format!("{} and {last}", many.join(", ")),
-    }
-}
-
-#[cfg(test)]
-mod tests {
-    use super::said;
-
-    #[test]
-    fn names_are_said_as_people_say_them() {
-        let said = |words: &[&'static str]| said(words.iter().copied());
-        assert_eq!(said(&[]), "nobody");
-        assert_eq!(said(&["alder"]), "alder");
-        assert_eq!(said(&["alder", "birch"]), "alder and birch");
-        assert_eq!(said(&["alder", "birch", "cedar"]), "alder, birch and cedar");
+    /// Runs it with these words, and tells of it.
+    pub fn runs(&self, words: &[&str]) -> Result<Said, Box<dyn Error>> {
+        self.teller.says("console", format!("$ trawl {}", words.join(" ")));
+        let mut command = self.programs.command("trawl", words);
+        command.stdin(Stdio::null()).stdout(Stdio::piped()).stderr(Stdio::piped());
+        let mut child = command.spawn()?;
+        let (out, err) = (child.stdout.take(), child.stderr.take());
+        let (Some(out), Some(err)) = (out, err) else { return Err("it has no output".into()) };
+        let lines = thread::scope(|scope| {
+            let aside = scope.spawn(|| self.pass_on(err));
+            let lines = self.pass_on(out);
+            aside.join().map(|_| lines)
+        });
+        let lines = lines.map_err(|_| "what it says could not be read")?;
+        Ok(Said { lines, status: child.wait()?.code() })
     }
 }

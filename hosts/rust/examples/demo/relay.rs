@@ -1,14 +1,18 @@
-//! A network that loses and damages packets, in the place of one that would do it by itself.
+//! A network that loses, damages and delays packets, in the place of one that would do it by itself.
 
 use super::running::{self, Running};
 use super::teller::Teller;
-use std::io;
 use std::net::SocketAddr;
 use std::sync::{Arc, Mutex};
+use std::time::Duration;
+use std::{io, thread};
 use trawlbeacon::LONGEST_PACKET;
 
-/// One packet in so many is lost, and one in so many is damaged.
-pub const ONE_IN: u64 = 8;
+/// One packet in so many is lost, one in so many is damaged, and one in so many is delayed.
+pub const ONE_IN: u64 = 10;
+
+/// The longest delay, in milliseconds.
+const LONGEST: u64 = 400;
 
 /// What becomes of a packet.
 #[derive(Clone, Copy, Debug, PartialEq, Eq)]
@@ -17,6 +21,8 @@ enum Fate {
     IsLost,
     /// This bit of it is turned, counted on from the first one.
     IsDamaged(usize),
+    /// It comes so many milliseconds late.
+    IsDelayed(u64),
 }
 
 /// What becomes of one packet after the other. With the same seed it is the same.
@@ -38,6 +44,7 @@ impl Fates {
             0 => Fate::IsLost,
             // A packet has under 2^16 bytes, so that nothing is lost.
             1 if length > 0 => Fate::IsDamaged((drawn / ONE_IN % (8 * length as u64)) as usize),
+            2 => Fate::IsDelayed(1 + drawn / ONE_IN % LONGEST),
             _ => Fate::Passes,
         }
     }
@@ -58,19 +65,26 @@ struct Way {
 }
 
 impl Way {
-    /// Damages the packet or leaves it as it is, and tells whether it arrives.
-    fn carries(&mut self, packet: &mut [u8]) -> bool {
-        let fate = self.fates.next(packet.len());
-        match fate {
-            Fate::Passes => (),
-            Fate::IsLost => self.teller.says("network", format!("loses {}", self.what)),
+    /// Sends the packet on, as it is or damaged, now or later or not at all.
+    fn carry(&mut self, packet: &mut [u8], send: impl FnOnce(&[u8]) + Send + 'static) {
+        let says = |what: String| self.teller.says("network", what);
+        match self.fates.next(packet.len()) {
+            Fate::Passes => send(packet),
+            Fate::IsLost => says(format!("loses {}", self.what)),
             Fate::IsDamaged(bit) => {
                 packet[bit / 8] ^= 1 << (bit % 8);
-                let of = format!("damages {}: a bit of byte {}", self.what, bit / 8);
-                self.teller.says("network", of);
+                says(format!("damages {}: a bit of byte {}", self.what, bit / 8));
+                send(packet);
+            }
+            Fate::IsDelayed(millis) => {
+                says(format!("delays {} by {millis} ms", self.what));
+                let packet = packet.to_vec();
+                thread::spawn(move || {
+                    thread::sleep(Duration::from_millis(millis));
+                    send(&packet);
+                });
             }
         }
-        fate != Fate::IsLost
     }
 }
 
@@ -104,17 +118,15 @@ impl Relay {
             let mut packet = [0; LONGEST_PACKET + 1];
             let Ok((length, from)) = front.recv_from(&mut packet) else { return };
             *asker.lock().expect("no thread panics with it") = from;
-            if there.carries(&mut packet[..length]) {
-                let _ = behind.send(&packet[..length]);
-            }
+            let Ok(behind) = behind.try_clone() else { return };
+            there.carry(&mut packet[..length], move |packet| drop(behind.send(packet)));
         });
         let _back = Running::start(move || {
             let mut packet = [0; LONGEST_PACKET + 1];
             let Ok(length) = behind_back.recv(&mut packet) else { return };
             let to = *last_asker.lock().expect("no thread panics with it");
-            if back.carries(&mut packet[..length]) {
-                let _ = front_back.send_to(&packet[..length], to);
-            }
+            let Ok(front) = front_back.try_clone() else { return };
+            back.carry(&mut packet[..length], move |packet| drop(front.send_to(packet, to)));
         });
         Ok(Relay { address, _there, _back })
     }
@@ -135,7 +147,8 @@ mod tests {
         assert_ne!(fates(1, 2), fates(2, 2));
         let lost = fates(1, 2).iter().filter(|fate| **fate == Fate::IsLost).count();
         let damaged = fates(1, 2).iter().filter(|fate| matches!(fate, Fate::IsDamaged(_))).count();
-        assert!((800..1_200).contains(&lost) && (800..1_200).contains(&damaged));
+        let delayed = fates(1, 2).iter().filter(|fate| matches!(fate, Fate::IsDelayed(_))).count();
+        assert!([lost, damaged, delayed].iter().all(|count| (600..1_000).contains(count)));
     }
 
     #[test]

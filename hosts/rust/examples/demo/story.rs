@@ -1,211 +1,154 @@
-//! A console, three servers and a lie.
+//! Three servers, a console and a lie.
 
-use super::console::{Console, Known};
-use super::evidence::{self, Received};
-use super::keys;
-use super::measuring::Measured;
+use super::console::{Console, Said};
+use super::programs::Programs;
 use super::relay::{Relay, ONE_IN};
-use super::server::{self, Server};
-use super::serving::delegated;
+use super::server::Server;
 use super::teller::Teller;
-use super::words;
 use std::error::Error;
+use std::fs;
+use std::io::ErrorKind;
 use std::path::Path;
-use std::sync::atomic::Ordering;
-use std::time::{SystemTime, UNIX_EPOCH};
-use trawlbeacon::picture::Date;
-use trawlbeacon::{Outcome, Pair, Time};
 
-/// The servers, in the order in which they are asked. The last one lies: only an answer that was
-/// asked for after its own can contradict it, so that it takes the second round to find out.
+/// The servers. The last one lies, and the one before it is stopped at last, though it is honest.
 const NAMES: [&str; 3] = ["alder", "birch", "cedar"];
 const LIAR: usize = 2;
-
-/// The one that is switched off at last. It is honest.
 const SILENT: usize = 1;
 
 /// How far the liar's clock is ahead, in seconds.
 const AHEAD: u64 = 9;
 
-/// How long a delegated key may sign, in seconds, before now and after.
-const DAY: u64 = 86_400;
+/// What `trawl --ask` ends with where there is a time, where it is there in spite of a contradiction,
+/// and where there is none.
+const TIME: Option<i32> = Some(0);
+const CONTRADICTED: Option<i32> = Some(6);
+const NO_TIME: Option<i32> = Some(7);
+
+/// How often the console asks, where a network that is bad for long leaves it without what it needs:
+/// a liar that is nine seconds ahead contradicts only who is asked within three seconds of it.
+const TIMES: usize = 4;
 
 /// Why the story ended early.
 type Ended = Box<dyn Error>;
 
-/// The servers, each behind a network of its own, and what the console knows of them.
+/// The servers, each behind a network of its own, and the list by which they are known.
 struct Scene {
     servers: Vec<Server>,
-    known: Vec<Known>,
+    list: String,
     _relays: Vec<Relay>,
 }
 
-/// A server with new keys, and its long-term public key.
-fn server() -> Result<(Server, [u8; 32]), Ended> {
-    let long_term = keys::new()?;
-    let (key, now) = (long_term.public_key(), server::now());
-    let times = (now.saturating_sub(DAY), now + DAY);
-    Ok((Server::start(delegated(&long_term, keys::new()?, times)?)?, key))
+/// An empty folder. What stands there of an older story goes.
+fn empty(folder: &Path) -> Result<(), Ended> {
+    match fs::remove_dir_all(folder) {
+        Err(error) if error.kind() != ErrorKind::NotFound => return Err(error.into()),
+        _ => {}
+    }
+    Ok(fs::create_dir_all(folder)?)
 }
 
 impl Scene {
-    fn set(seed: u64, teller: Teller) -> Result<Scene, Ended> {
-        let mut scene = Scene { servers: vec![], known: vec![], _relays: vec![] };
-        for (place, name) in (0..).zip(NAMES) {
-            let (server, key) = server()?;
-            let relay = Relay::start(name, server.address, (seed, place), teller)?;
-            scene.known.push(Known { name, key, address: relay.address });
-            scene.servers.push(server);
-            scene._relays.push(relay);
+    fn set(programs: &Programs, folder: &Path, seed: u64, teller: Teller) -> Result<Scene, Ended> {
+        let (mut servers, mut relays, mut entries) = (vec![], vec![], vec![]);
+        for (place, name) in NAMES.into_iter().enumerate() {
+            let (own, ahead) = (folder.join(name), if place == LIAR { AHEAD } else { 0 });
+            let server = Server::start(programs, name, &own, ahead)?;
+            let relay = Relay::start(name, server.address, (seed, place as u64), teller)?;
+            let (key, address) = (own.join("key"), format!("udp:{}", relay.address));
+            let key = key.display().to_string();
+            let words = ["--server-list", &key, "--name", name, "--address", &address];
+            entries.push(programs.printed("trawld", &words)?.trim_end().to_string());
+            servers.push(server);
+            relays.push(relay);
         }
-        Ok(scene)
+        let list = folder.join("servers.json");
+        fs::write(&list, format!("{{\"servers\":[\n{}\n]}}\n", entries.join(",\n")))?;
+        Ok(Scene { servers, list: list.display().to_string(), _relays: relays })
     }
 }
 
 /// Tells the whole story, and why it ended where it does not go as it should.
 pub fn tell(folder: &Path, seed: u64) -> Result<(), Ended> {
-    let teller = Teller::boot();
-    let Scene { mut servers, known, _relays } = Scene::set(seed, teller)?;
-    let keys: Vec<[u8; 32]> = known.iter().map(|known| known.key).collect();
+    let (programs, teller) = (Programs::find()?, Teller::start());
+    empty(folder)?;
+    let Scene { mut servers, list, _relays } = Scene::set(&programs, folder, seed, teller)?;
     teller.line(opening(seed));
-    servers[LIAR].set_ahead(AHEAD);
-    let mut console = Console::boot(known.clone(), teller)?;
-    ask(&mut console, "has the time", teller)?;
-    teller.line(
-        "\nOne of them lies. The console walks from one to the next, to show it to others.\n",
-    );
-    let measured = console.measure()?;
-    lie(&console, &measured, teller)?;
-    convict(&measured.pile, &keys, folder, teller)?;
+    let console = Console { programs, teller };
+    let into = folder.display().to_string();
+    let words = ["--ask", &list, "--all", "--within", "60", "--reports", &into];
+    let asked = ask(&console, &words, |asked| asked.has("walk", "malfeasance"))?;
+    is_right(&asked, CONTRADICTED, NAMES[LIAR])?;
+    let report = folder.join("malfeasance-1.json").display().to_string();
+    convict(&console, &report, &list, folder)?;
+    let silent = servers.remove(SILENT);
+    teller.line(format!("\n{} is stopped, and {} goes on lying.\n", silent.name, NAMES[LIAR]));
+    stop(silent, teller)?;
+    let words = ["--ask", &list, "--all", "--within", "6"];
+    let asked = ask(&console, &words, |asked| asked.status != NO_TIME)?;
+    is_right(&asked, TIME, "none")?;
+    if !asked.has("silent", NAMES[SILENT]) {
+        return Err("a server is stopped, and nobody says that it is silent".into());
+    }
     teller.line(String::new());
-    has_the_time(&console, "has the time all the same", &[], teller)?;
-    switch_off(&mut servers, teller);
-    ask(&mut console, "has the time again", teller)?;
-    teller.line("\nThe console is switched off and on: all that it had heard is gone.\n");
-    let mut console = Console::boot(known, teller)?;
-    ask(&mut console, "has the time once more", teller)?;
-    let on = servers.iter().zip([NAMES[0], NAMES[LIAR]]);
-    on.for_each(|(server, name)| count(server, name, teller));
-    Ok(())
+    servers.into_iter().try_for_each(|server| stop(server, teller))
+}
+
+/// The console asks, and again where that is not enough.
+fn ask(console: &Console, words: &[&str], enough: fn(&Said) -> bool) -> Result<Said, Ended> {
+    let mut asked = console.runs(words)?;
+    for _ in 1..TIMES {
+        if !enough(&asked) {
+            asked = console.runs(words)?;
+        }
+    }
+    Ok(asked)
 }
 
 /// What is known beforehand, but not to the console.
 fn opening(seed: u64) -> String {
     let ([first, second, third], liar) = (NAMES, NAMES[LIAR]);
     [
-        format!("Three time servers run on this machine: {first}, {second} and {third}. The clock"),
-        format!("of {liar} is {AHEAD} seconds ahead. The network loses one packet in {ONE_IN} and"),
-        format!(
-            "damages one in {ONE_IN} (seed {seed}). A console boots. It has no date, only a clock"
-        ),
-        "that counts the seconds since then. They begin each line.\n".into(),
+        format!("Three time servers run on this machine, each a trawld: {first}, {second} and {third}."),
+        format!("The clock of {liar} is {AHEAD} seconds ahead. The network loses one packet in {ONE_IN},"),
+        format!("damages one in {ONE_IN} and delays one in {ONE_IN} (seed {seed}). A console knows the"),
+        "servers by their keys, and asks for the time. The seconds so far begin each line.\n".into(),
     ]
     .join("\n")
 }
 
-/// The console asks all servers, and has the time.
-fn ask(console: &mut Console, how: &str, teller: Teller) -> Result<(), Ended> {
-    let silent = console.ask_all()?;
-    has_the_time(console, how, &silent, teller)
-}
-
-/// The time that the console has, who says so and who is suspect; and whether that is so.
-fn has_the_time(
-    console: &Console,
-    how: &str,
-    silent: &[usize],
-    teller: Teller,
-) -> Result<(), Ended> {
-    let time = console.time()?;
-    let true_time = SystemTime::now().duration_since(UNIX_EPOCH)?.as_micros() as u64;
-    let says = |what: String| teller.says("console", what);
-    says(format!("{how}: {}", words::span(&time)));
-    says(doubt(console, &time));
-    for server in silent.iter().filter(|server| time.agree.contains(**server)) {
-        says(format!("goes on with what {} said before", console.name(*server)));
-    }
-    let true_words = words::fine(true_time);
-    teller.says("machine", format!("has {true_words} by its own clock, which no console sees"));
-    if !(time.low..=time.high).contains(&true_time) {
+/// Whether the time that was told is the machine's, and whom it is told in spite of.
+fn is_right(asked: &Said, due: Option<i32>, suspect: &str) -> Result<(), Ended> {
+    if !asked.has("machine", "between the two") {
         return Err("that is not the time by this machine's own clock".into());
     }
-    if time.suspects.iter().any(|suspect| suspect != LIAR) {
-        return Err("a server is suspect that does not lie".into());
+    if !asked.has("suspect", suspect) {
+        return Err("another server is suspect than the one that lies".into());
     }
+    match asked.status == due {
+        true => Ok(()),
+        false => Err(format!("trawl --ask ended with {:?}", asked.status).into()),
+    }
+}
+
+/// Has the report drawn, for a browser too, and judged by somebody who was sent it.
+fn convict(console: &Console, report: &str, list: &str, folder: &Path) -> Result<(), Ended> {
+    let svg = folder.join("report.svg").display().to_string();
+    console.teller.line("\nThe two answers that contradict each other are in the report.\n");
+    let drawn = console.runs(&["--draw", report, "--servers", list])?;
+    let kept = console.runs(&["--draw", report, "--servers", list, "--out", &svg])?;
+    let judged = console.runs(&["--judge", report, "--servers", list, "--dates", "--status"])?;
+    if [&drawn, &kept, &judged].iter().any(|said| said.status != Some(0)) {
+        return Err("the report could not be drawn, or convicts nobody".into());
+    }
+    match judged.has("run", "0 1") {
+        true => Ok(()),
+        false => Err("the report's two records do not contradict each other".into()),
+    }
+}
+
+/// One server answers no more, and tells what it counted.
+fn stop(server: Server, teller: Teller) -> Result<(), Ended> {
+    let name = server.name;
+    teller.says(name, server.stop()?);
     Ok(())
-}
-
-/// Who agrees, and how far that is to be believed.
-fn doubt(console: &Console, time: &Time) -> String {
-    let (liars, agree) = (console.liars(), console.names(time.agree));
-    let may = format!("counts {} servers, of which {liars} may lie", time.counted);
-    if !time.is_exact(liars) {
-        return format!("{may}: it is in between, but an end may be the liar's");
-    }
-    format!("{may}: {agree} agree, and {} is suspect", console.names(time.suspects))
-}
-
-/// What the console concludes where one lied.
-fn lie(console: &Console, measured: &Measured, teller: Teller) -> Result<(), Ended> {
-    let Outcome::Malfeasance(Pair { first, second }) = measured.outcome else {
-        return Err(format!("one lied, and the walk ends as {:?}", measured.outcome).into());
-    };
-    let (one, other) = (console.name(first), console.name(second));
-    let low = Date::of(measured.windows[first].low);
-    let high = Date::of(measured.windows[second].high);
-    let says = |what: String| teller.says("console", what);
-    says("concludes: malfeasance".into());
-    says(format!("{one} said, in record {first}, that it was {low} or later"));
-    says(format!("{other}, asked later, said in record {second} that it was {high} or earlier"));
-    if one != NAMES[LIAR] && other != NAMES[LIAR] {
-        return Err("one lied, and the two that are named are others".into());
-    }
-    Ok(())
-}
-
-/// Keeps the evidence, and has it read by somebody who was sent the report.
-fn convict(pile: &[u8], keys: &[[u8; 32]], folder: &Path, teller: Teller) -> Result<(), Ended> {
-    let servers: Vec<(&str, [u8; 32])> = NAMES.into_iter().zip(keys.iter().copied()).collect();
-    let kept = evidence::keep(pile, &servers, folder)?;
-    let says = |what: String| teller.says("console", what);
-    says(format!(
-        "cuts records {} to {}, the shortest run that convicts",
-        kept.run.first, kept.run.last
-    ));
-    says(format!(
-        "writes them as a report, {} bytes of JSON: {}",
-        kept.length,
-        kept.report.display()
-    ));
-    says(format!("keeps all records, for ./trawl: {}", kept.pile.display()));
-    says(format!("and the list of its servers, for --servers: {}", kept.servers.display()));
-    says(format!("draws them: {}", kept.picture.display()));
-    teller.line(format!("\n{}", kept.drawn));
-    let Received { pair, keys: named } = evidence::receive(&kept.report)?;
-    if !named.iter().all(|key| keys.contains(key)) {
-        return Err("the report has the key of a server that nobody asked".into());
-    }
-    let says = |what: String| teller.says("reader", what);
-    says("is sent the report; its keys are known ones, and all signatures verify".into());
-    says(format!(
-        "finds that its records {} and {} contradict each other",
-        pair.first, pair.second
-    ));
-    Ok(())
-}
-
-/// One server answers no more.
-fn switch_off(servers: &mut Vec<Server>, teller: Teller) {
-    let name = NAMES[SILENT];
-    teller.line(format!("\n{name} is switched off, and {} goes on lying.\n", NAMES[LIAR]));
-    count(&servers.remove(SILENT), name, teller);
-}
-
-/// What a server has done.
-fn count(server: &Server, name: &str, teller: Teller) {
-    let [received, answered] = [&server.counts.received, &server.counts.answered]
-        .map(|count| count.load(Ordering::SeqCst));
-    let ignored = received - answered;
-    let packets = if ignored == 1 { "packet" } else { "packets" };
-    teller.says(name, format!("has answered {answered} requests and ignored {ignored} {packets}"));
 }

@@ -2,7 +2,7 @@
 
 use super::standard_output;
 use std::sync::atomic::{AtomicBool, Ordering};
-use std::time::{Duration, Instant};
+use std::time::Instant;
 
 /// Whether something could not be said.
 static UNHEARD: AtomicBool = AtomicBool::new(false);
@@ -10,35 +10,18 @@ static UNHEARD: AtomicBool = AtomicBool::new(false);
 /// Whoever has a copy may speak.
 #[derive(Clone, Copy)]
 pub struct Teller {
-    boot: Instant,
+    start: Instant,
 }
 
 impl Teller {
-    /// The console boots now.
-    pub fn boot() -> Teller {
-        Teller { boot: Instant::now() }
+    /// The story begins now.
+    pub fn start() -> Teller {
+        Teller { start: Instant::now() }
     }
 
-    /// The time since the console booted: the one clock that it has. This one stands still where the
-    /// machine sleeps, which the story does not; a console that does takes CLOCK_BOOTTIME.
-    pub fn since_boot(&self) -> Duration {
-        self.boot.elapsed()
-    }
-
-    /// The same in microseconds, rounded down: when a request was sent, which is not too late.
-    pub fn micros_down(&self) -> u64 {
-        self.since_boot().as_micros() as u64
-    }
-
-    /// The same rounded up: when an answer was received, which is not too early; and what is asked
-    /// about, which is then not before it.
-    pub fn micros_up(&self) -> u64 {
-        ((self.since_boot().as_nanos() + 999) / 1_000) as u64
-    }
-
-    /// Says what someone does, with the seconds since the console booted in front.
+    /// Says what someone does, with the seconds since the story began in front.
     pub fn says(&self, who: &str, what: impl AsRef<str>) {
-        let seconds = self.since_boot().as_secs_f64();
+        let seconds = self.start.elapsed().as_secs_f64();
         self.line(format!("{seconds:6.3}  {who:8} {}", what.as_ref()));
     }
 
