@@ -1,9 +1,8 @@
-// What C is told of packets, trees, servers, stamps and the clock: the structs of include/trawlbeacon.h that are
-// answers, and each answer of the library as one of them, but for where a server was found, which its export tells;
-// `c_evidence` has those of piles. No function has a `requires`.
-// Each struct has the header's name, `tb_request` for `TbRequest`. Its code is document 01's number, 0 where nothing
-// was refused, and `at` the byte place that it carries, 0 where it carries none; what else stands beside a refusal is
-// zeros.
+// What C is told of packets, trees, servers, stamps and the clock. Here are the structs of include/trawlbeacon.h that
+// are answers, and each answer of the library as one of them. Where a server was found is told by its export.
+// `c_evidence` has the structs of piles. No function has a `requires`. Each struct has the header's name, `tb_request`
+// for `TbRequest`. Its code is document 01's number, 0 where nothing was refused, and `at` the byte place that it
+// carries, 0 where it carries none; what else stands beside a refusal is zeros.
 mod batching;
 mod building;
 mod clocking;

@@ -28,9 +28,9 @@ pub struct Updated {
     pub clock: Clock,
 }
 
-// The time at a moment: its two ends, in microseconds since 1970; whether the high one stopped at 2^64 - 1; how many
-// servers were counted; and two sets of these, in which server s counts 2^s: those whose span meets the time, and those
-// whose span does not.
+// The time at a moment: its two ends, in microseconds since 1970, whether the high one stopped at 2^64 - 1, and how
+// many servers were counted. `agree` and `suspects` are sets of these, in which server s counts 2^s: those whose span
+// meets the time, and those whose span does not.
 pub struct Time {
     pub low: u64,
     pub high: u64,

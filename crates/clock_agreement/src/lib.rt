@@ -7,9 +7,9 @@ mod gathering;
 pub use agreeing::agree_on;
 use refusal::Refusal;
 
-// What the servers agree on: the two ends, in microseconds since 1970; how many servers were counted; and two sets of
-// these, in which server s counts 2^s: those whose span meets what lies between the ends, and those whose span does
-// not.
+// What the servers agree on: the two ends, in microseconds since 1970, and how many servers were counted. `agree` and
+// `suspects` are sets of these, in which server s counts 2^s: those whose span meets what lies between the ends, and
+// those whose span does not.
 pub struct Agreed {
     pub from: u64,
     pub to: u64,

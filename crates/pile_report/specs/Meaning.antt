@@ -28,8 +28,8 @@ pub record IsReport (pile answers : List ℕ) : Type 0 where
   pub inside : j < recordsIn pile
   pub contradict : T (windowsClash (windowAt pile i) (windowAt pile j))
 
--- all that a report has but the pair, as the checks tell it: the pile is good, each record is judged valid, by the
--- window of its own response, and each after the first is linked and the first rand all zero. Of a pile of bytes it is
+-- all that a report has except the pair, as the checks tell it. The pile is good, each record is judged valid with the
+-- window of its own response, each after the first is linked, and the first rand is all zero. Of a pile of bytes it is
 -- document 01's sentence without its last part (`sound-valid`, `sound-linked`, `sound-rand`).
 pub record Sound (pile answers : List ℕ) : Type 0 where
   pub good : GoodPile pile answers

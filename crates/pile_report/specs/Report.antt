@@ -37,9 +37,9 @@ refused v k = not (valid (v k))
 abbrev pub loose : (ℕ → Bool) → ℕ → Bool
 loose l k = not (l k)
 
--- why n records with the verdicts v and the flags l are no report, and the place of the record that is to blame: the
--- first that is refused, with its own refusal; else 17 and the first whose flag is not set; else 18, which no one
--- record is to blame for
+-- why n records with the verdicts v and the flags l are no report, and the place of the record to which it applies. It
+-- is the first refused record with its own refusal. Else it is 17 and the first record whose flag is not set. Else it
+-- is 18, which applies to no one record
 pub data RecordsRefused (v : ℕ → Verdict) (l : ℕ → Bool) (n : ℕ) : Refusal → ℕ → Type 0 where
   of-record : {why : Refusal} {k : ℕ} → IsFirst (refused v) n k → v k ≡ verdict.Refused why
       → RecordsRefused v l n why k

@@ -72,10 +72,10 @@ pub fn answer_all(
     k
 }
 
-// The answers to a batch of packets, in slots of one size with the lengths of the packets: each answer at the front of
-// its slot of room bytes, its length in out_lengths, 0 where there is none, and the rows of the tree at the front of
-// rows. cert is the value of CERT, and seed that of the delegated key. Refused, in this order and before anything is
-// written, with 7 for RADI 0; 4 to 7 for CERT and its DELE; 35; 11; 20; 19.
+// The answers to a batch of packets, which are in slots of one size with their lengths beside them. Each answer is
+// written to the front of its slot of room bytes, and its length to out_lengths, 0 where there is none. The rows of the
+// tree are written to the front of rows. cert is the value of CERT, and seed that of the delegated key. Refused, in
+// this order and before anything is written, with 7 for RADI 0; 4 to 7 for CERT and its DELE; 35; 11; 20; 19.
 pub fn answer_batch(
     packets: &[u8],
     slot: usize,

@@ -12,8 +12,8 @@ use Rattle.server_batch.specs.Batch.{Batch, packetAt, longest, answeredAt, plac
 use Rattle.server_batch.specs.declared.BatchAnswer.{BatchAnswer}
 use Rattle.server_response.specs.Response.{Reply, reply}
 
--- what the call is lent: the batch, the value of CERT, the delegated seed, MIDP and RADI; how many bytes there are for
--- the rows and for the answers, the size of an answer's slot, and how many lengths there are
+-- what the call is lent: the batch, the value of CERT, the delegated seed, MIDP and RADI. Then how many bytes there are
+-- for the rows and for the answers, the size of an answer's slot, and how many lengths there are
 pub record Call : Type 0 where
   pub batch : Batch
   pub cert : List ℕ

@@ -39,8 +39,8 @@ pub record Meant (srv q : List ℕ) : Type 0 where
   pub request : GoodRequest q
   pub own : has (body q) SRV ≡ true → valueOf (body q) SRV ≡ srv
 
--- what `check_signed` answers to the response packet p to the request packet q, under a long-term key: it is valid,
--- with the window of this MIDP and RADI and of the MINT and MAXT of CERT, and CERT's key stands beside it
+-- `check_signed` accepts the response packet p to the request packet q, under a long-term key. Its window is that of
+-- this MIDP and RADI and of the MINT and MAXT of CERT, and CERT's key is beside it
 abbrev pub Passes : List ℕ → List ℕ → List ℕ → ℕ → ℕ → List ℕ → Type 0
 Passes key q p midp radi cert =
     checkSigned key q p
@@ -58,8 +58,8 @@ pub record Alike (p q : List ℕ) : Type 0 where
   pub srep-tags : (tag : ℕ) → has (srep (body p)) tag ≡ has (srep (body q)) tag
   pub srep-values : (tag : ℕ) → (tag ≡ ROOT → ⊥) → valueOf (srep (body p)) tag ≡ valueOf (srep (body q)) tag
 
--- what is known of the answer to a packet of a call that refuses nothing: a host finds it, it is what `write_response`
--- writes, it is not longer than its request, and it passes under every key under which CERT's signature verifies
+-- what is known of the answer to a packet of a call that refuses nothing. A host finds it, it is what `write_response`
+-- writes, and it is not longer than its request. It passes under every key under which CERT's signature verifies
 pub record Known (c : Call) (i : ℕ) (out-after lengths-after : List ℕ) : Type 0 where
   pub found : Finds (answer c i) i (c .room) out-after lengths-after
   pub meant : Meant (c .batch .srv) (packet c i)

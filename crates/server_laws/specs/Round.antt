@@ -26,8 +26,8 @@ use Rattle.wire_packet.specs.Packet.{body}
 use Rattle.wire_packet.specs.Request.{requestCode}
 use Rattle.wire_packet.specs.Response.{srep}
 
--- what a server has in a round: the requests, by their places; the time and its radius, the value of CERT and the
--- signature over SREP; and the rows that `rows` left in a buffer, and the depth that it answered
+-- what a server has in a round: the requests by their places, the time and its radius, the value of CERT and the
+-- signature over SREP. Then the rows that `rows` left in a buffer, and the depth that it answered
 pub record Round : Type 0 where
   pub count : ℕ
   pub requests : ℕ → List ℕ
@@ -79,8 +79,8 @@ turnReply r t =
     reply (r .requests (t .place)) (t .indx) (rootIn r) (take (32 * t .siblings) (t .path)) (r .midp) (r .radi) (r .cert)
     (r .signature)
 
--- the packet p serves the request at that place: it passes for it when both answers are yes, with the window of this
--- time, and of CERT the times and the key; and its SREP is the one that was signed
+-- the packet p serves the request at that place. It passes for it when both answers are yes, with the window of this
+-- time, and with the times and the key of CERT. Its SREP is the one that was signed
 pub record Serves (r : Round) (t : Turn) (signed p : List ℕ) : Type 0 where
   pub passes : verdictOf (r .requests (t .place)) p true true
       ≡ Valid (windowOf (r .midp) (r .radi) (mintOf (r .cert)) (maxtOf (r .cert)))

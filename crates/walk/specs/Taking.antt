@@ -83,8 +83,8 @@ pileOf n buffer = take (RECORD * n) buffer
 abbrev pub allYes : ℕ → List ℕ
 allYes n = replicate (2 * n) 1
 
--- what is said of a response with the window v once its record stands in the buffer: that window, and there is a next,
--- or the walk has ended, two records a server, with what the report check says of the pile
+-- what is said of a response with the window v once its record is in the buffer. It is that window, and there is a next
+-- step; or the walk has ended with two records a server, and with what the report check says of the pile
 abbrev pub SaidOf : Walk → Window → List ℕ → Said → Type 0
 SaidOf w v buffer (Next window) = (w .step + 1 < 2 * w .count) × (window ≡ v)
 SaidOf w v buffer (Ended window r) =

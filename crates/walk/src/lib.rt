@@ -19,8 +19,8 @@ pub use taking::step_code;
 pub use taking::take;
 
 // The state between packets: the servers' keys, 32 bytes each, and how many there are; the step, from 0; the nonce of
-// the request that is asked, and the rand that it was made with; when the last accepted response was received; and the
-// longest delay that is allowed.
+// the request that is asked, and the rand that it was made with. `last` is when the last accepted response was
+// received, and `most` the longest delay that is allowed.
 pub struct Walk {
     pub keys: [u8; 256],
     pub count: usize,
@@ -54,8 +54,8 @@ pub struct Heard {
     pub rand: [u8; 32],
 }
 
-// What is said of a response: it is accepted, with its window, and there is a next to ask; it is accepted, with its
-// window, and the last, with what the report check says of the pile; or it is refused.
+// What is said of a response. `Next`: it is accepted, with its window, and there is a next to ask. `Ended`: it is
+// accepted and the last, with its window and what the report check says of the pile. Or it is refused.
 pub enum Said {
     Next(Window),
     Ended(Window, Report),

@@ -1,5 +1,5 @@
--- Where a caller can come to whose responses are taken by take_signed (requests P10 and P11): as `Reached` of the walk,
--- with the answers of our own Ed25519 under the key of the server that was asked, and nothing said of signatures.
+-- Which states and piles a caller of take_signed can reach (requests P10 and P11). It is `Reached` of the walk, with
+-- the answers of our own Ed25519 under the key of the server that was asked. Nothing is asked of signatures.
 use Prim.Native.Nat.{ℕ}
 use mathlib.Core.Path.{_≡_}
 use mathlib.Core.List.{List}

@@ -16,8 +16,8 @@ use Rattle.wire_packet.specs.declared.SignedParts.{SignedParts}
 abbrev pub noParts : Refusal → SignedParts
 noParts refusal = record { refusal = refusal; signature = zeros64; delegation = zeros64; pubk = zeros32 }
 
--- the answer to one of the right shape, of its message: the signature over SREP is the SIG of the root (draft 19,
--- 5.2.1), that over DELE is the SIG of CERT, and the key that signs SREP is the PUBK of DELE (5.2.6)
+-- the answer for a response of the right shape, from its message. The signature over SREP is the SIG of the root (draft
+-- 19, 5.2.1). That over DELE is the SIG of CERT. The key that signs SREP is the PUBK of DELE (5.2.6)
 unfoldable pub partsIn : List ℕ → SignedParts
 partsIn m =
     record {
