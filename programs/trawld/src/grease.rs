@@ -173,7 +173,7 @@ mod tests {
         for (_, answer) in &sent.sent {
             let pairs = Pairs::of_packet(answer).unwrap();
             let srep = pairs.value(b"SREP").unwrap();
-            let signature = pairs.value(b"SIG\0").unwrap().try_into().unwrap();
+            let signature = pairs.value(b"SIG\0").unwrap();
             let text = [RESPONSE_CONTEXT, srep].concat();
             assert!(trawlbeacon::verify(&sent.pubk, &text, signature));
             let srep = Pairs::of(srep).unwrap();
@@ -205,7 +205,7 @@ mod tests {
                 let parts = (pairs.value(b"SREP"), pairs.value(b"SIG\0"));
                 let (Some(srep), Some(signature)) = parts else { continue };
                 let text = [RESPONSE_CONTEXT, srep].concat();
-                if trawlbeacon::verify(&sent.pubk, &text, signature.try_into().unwrap()) {
+                if trawlbeacon::verify(&sent.pubk, &text, signature) {
                     let midp = Pairs::of(srep).unwrap();
                     assert_eq!(midp.value(b"MIDP"), Some(&TOLD.midp.to_le_bytes()[..]));
                 }

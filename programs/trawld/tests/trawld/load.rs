@@ -3,7 +3,7 @@
 //! Each answer is checked by the proved check and by the independent one. Each packet is accounted
 //! for: what was sent was received or is counted by the system as dropped, and so with the answers.
 //! 100,000 requests are sent, or as many as TRAWLD_REQUESTS says. With TRAWLD_TWICE=N the
-//! independent one checks one answer in N: it takes half of the time that a client needs.
+//! independent one checks one answer and one signature in N: it takes the most of a client's time.
 
 use crate::asking::connected;
 use crate::folder::Folder;
@@ -23,7 +23,7 @@ const SOCKETS: usize = 200;
 
 /// So many sockets of a crowd ask at once, and the next ones in the next round. Linux by itself has
 /// room for some hundred packets at a socket, and drops what comes beyond that.
-const AT_ONCE: usize = 20;
+const AT_ONCE: usize = 40;
 
 /// Kinds of packets that deserve no answer. A crowd sends one in each round.
 const KINDS: usize = 6;
@@ -192,9 +192,10 @@ impl Crowd {
             self.verified.clear();
         }
         let (whole, ed25519) = ([&key[..], signature, text].concat(), &self.ed25519);
+        let twice = self.verified.len() as u64 % self.among == 0;
         let verify = || {
             let ours = trawlbeacon::verify(key, text, signature);
-            assert_eq!(ours, ed25519.verify(key, text, signature));
+            assert!(!twice || ours == ed25519.verify(key, text, signature));
             ours
         };
         *self.verified.entry(whole).or_insert_with(verify)
