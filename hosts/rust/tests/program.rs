@@ -444,7 +444,11 @@ fn wrong_arguments_are_told() {
 #[test]
 fn the_script_says_the_same_of_wrong_flags() {
     let room = Room::new("script");
-    let wrong: [&[&str]; 12] = [
+    let wrong: [&[&str]; 16] = [
+        &["--within", "3", "a"],
+        &["--ask", "a", "--dates"],
+        &["--ask", "--judge", "a"],
+        &["--cut", "a", "--all"],
         &["--nonsense"],
         &["-x", "a"],
         &["--judge", "--cut", "a"],
@@ -459,7 +463,9 @@ fn the_script_says_the_same_of_wrong_flags() {
         &["--version", "--dates"],
     ];
     // Nothing is wrong with these, or something that the script leaves to the front end.
-    let others: [&[&str]; 6] = [
+    let others: [&[&str]; 8] = [
+        &["--ask", "a", "--within", "--x", "--of=9", "--all"],
+        &["--ask"],
         &[],
         &["-"],
         &["--json", "a"],

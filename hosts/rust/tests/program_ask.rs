@@ -134,6 +134,30 @@ fn a_lying_majority_leaves_no_time() {
     assert_eq!(line(&told.out, "report"), "'malfeasance-1.json'");
 }
 
+/// Any minority may lie: two of five, and of four that answer one.
+#[test]
+fn a_lying_minority_does_not_keep_it_from_the_time() {
+    let (room, [a, b, c]) = (room("minority"), honest(NAMES));
+    let (d, e) = (liar("dogwood"), Plan { ahead: 90, ..Plan::new("elm") }.start());
+    let (json, told) = ask_json(&room, &list(&[&a, &b, &c, &d, &e]), &[]);
+    assert_eq!(told.status, Some(6), "{}", told.said);
+    assert!(json.holds_now() && json.is_true("exact"));
+    assert_eq!(
+        (json.names("agrees"), json.names("suspect")),
+        (names(&NAMES), names(&["dogwood", "elm"]))
+    );
+    let silent = Plan::silent("fir").start();
+    let (json, told) = ask_json(&room, &list(&[&a, &b, &c, &d, &silent]), &["--within", "4"]);
+    assert_eq!(told.status, Some(6), "{}", told.said);
+    assert!(json.holds_now());
+    assert_eq!((json.names("agrees"), json.names("suspect")), (names(&NAMES), names(&["dogwood"])));
+    assert_eq!(json.text("walk.outcome"), "malfeasance");
+}
+
+fn names(names: &[&str]) -> Vec<String> {
+    names.iter().map(|name| name.to_string()).collect()
+}
+
 #[test]
 fn who_is_chosen() {
     let room = room("chosen");

@@ -1,5 +1,5 @@
-//! What `trawl --ask` cannot do, it says in one line with what may help: of its arguments, its list,
-//! its reports and its output. And its help, manual page and completions have the same flags.
+//! What `trawl --ask` cannot do, it says in one line with what may help: of its arguments, its
+//! list, its reports and its output. And its help, manual page and completions have the same flags.
 
 #[path = "support/asked.rs"]
 mod asked;

@@ -1,4 +1,4 @@
-//! Servers of the library's own on loopback, over UDP and TCP, honest and not, and the list of them.
+//! Servers of the library's own on loopback, over UDP and TCP, honest and not, and their list.
 
 // Each test file takes this in, and none of them needs all of it.
 #![allow(dead_code)]

@@ -1,5 +1,6 @@
-//! Who asks: the servers that were chosen, a thread for each, and the clock into which all goes that
-//! is heard. It lasts as long as the program, so that a later measurement has what was heard before.
+//! Who asks: the servers that were chosen, a thread for each, and the clock into which all goes
+//! that is heard. It lasts as long as the program, so that a later measurement has what was heard
+//! before.
 
 use super::moment::Moment;
 use super::random;

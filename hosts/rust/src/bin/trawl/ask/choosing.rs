@@ -64,8 +64,8 @@ fn nobody(file: &Path, passed_over: usize) -> Stop {
 fn count(asked: usize, there: usize, wanted: &Wanted) -> Option<String> {
     match wanted.count {
         Count::All if asked == MOST_SERVERS && there > asked => Some(format!(
-            "{MOST_SERVERS} of {there} servers are asked, by chance: a clock has no more; ask again \
-             for others"
+            "{MOST_SERVERS} of {there} servers are asked, by chance: a clock has no more; ask \
+             again for others"
         )),
         Count::Of if asked < wanted.servers => Some(format!(
             "{asked} servers are asked, and not {}: the list has no more that can be",
@@ -86,8 +86,8 @@ fn too_few(there: usize) -> Option<String> {
     })
 }
 
-/// Gives each a name of its own that steers no terminal: where it has none, or another has the same,
-/// the start of its key is in it.
+/// Gives each a name of its own that steers no terminal: where it has none, or another has the
+/// same, the start of its key is in it.
 fn name(servers: &mut [ListedServer]) {
     let names: Vec<String> = servers.iter().map(|server| short(server.name.trim())).collect();
     for (server, name) in servers.iter_mut().zip(&names) {

@@ -56,16 +56,21 @@ impl Listed {
     pub fn server(&mut self, places: &[usize]) -> Result<Option<ListedServer>, Stop> {
         let mut addresses = Vec::new();
         for place in places {
-            let before = addresses.len();
-            while let Some(address) = self.address(*place, addresses.len() - before)? {
-                addresses.push(address);
-            }
+            addresses.extend(self.addresses(*place)?);
         }
         let Some(first) = places.first().filter(|_| !addresses.is_empty()) else {
             return Ok(None);
         };
         let length = trawlbeacon::server_name(&self.text, *first, &mut self.room)?;
         Ok(Some(ListedServer { name: self.written(length), key: self.keys[*first], addresses }))
+    }
+
+    fn addresses(&mut self, place: usize) -> Result<Vec<Address>, Stop> {
+        let mut addresses = Vec::new();
+        while let Some(address) = self.address(place, addresses.len())? {
+            addresses.push(address);
+        }
+        Ok(addresses)
     }
 
     fn address(&mut self, place: usize, which: usize) -> Result<Option<Address>, Stop> {

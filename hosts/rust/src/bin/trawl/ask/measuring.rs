@@ -10,8 +10,8 @@ use crate::output;
 use std::time::{Duration, SystemTime, UNIX_EPOCH};
 use trawlbeacon::FEWEST_SERVERS;
 
-/// How long all are waited for before the walk begins without the silent: one try by UDP, and one by
-/// TCP.
+/// How long all are waited for before the walk begins without the silent: one try by UDP, and one
+/// by TCP.
 const GRACE: Duration = Duration::from_millis(2_500);
 
 /// A measurement that goes on.

@@ -1,6 +1,6 @@
-//! What time it is, by servers that are asked (draft 19): all at once, so that the time is there after
-//! one round trip, and then in a walk, for the evidence. All that stands in a packet, every verdict
-//! and the time itself is the library's; here stand sockets, threads, waiting and words.
+//! What time it is, by servers that are asked (draft 19): all at once, so that the time is there
+//! after one round trip, and then in a walk, for the evidence. All that stands in a packet, every
+//! verdict and the time itself is the library's; here stand sockets, threads, waiting and words.
 
 mod asker;
 mod backoff;

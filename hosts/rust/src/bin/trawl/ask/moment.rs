@@ -1,8 +1,8 @@
 //! The machine's own clock, by which requests and answers are timed.
 //!
-//! It is CLOCK_BOOTTIME: nobody can set it, so that the system's clock may jump, and it goes on while
-//! the machine sleeps. The standard library's `Instant` stands still then, and a window that was
-//! heard before would be taken for a newer one.
+//! It is CLOCK_BOOTTIME: nobody can set it, so that the system's clock may jump, and it goes on
+//! while the machine sleeps. The standard library's `Instant` stands still then, and a window that
+//! was heard before would be taken for a newer one.
 
 use std::os::raw::{c_int, c_long};
 use std::time::Duration;

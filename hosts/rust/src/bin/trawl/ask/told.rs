@@ -224,8 +224,8 @@ impl Measured<'_> {
                 )
             }
             Refusal::TooFew => format!(
-                "{answered} of {asked} servers answered, and {} may lie; --within waits longer, and \
-                 {}",
+                "{answered} of {asked} servers answered, and {} may lie; --within waits longer, \
+                 and {}",
                 self.asker.liars(),
                 if others { "--all asks more of the list" } else { "a longer list has others" }
             ),

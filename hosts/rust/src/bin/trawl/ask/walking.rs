@@ -1,5 +1,5 @@
-//! The measuring walk (draft 19, section 8.2): each server in turn, and then each once more, so that
-//! the packets which are left show who lied.
+//! The measuring walk (draft 19, section 8.2): each server in turn, and then each once more, so
+//! that the packets which are left show who lied.
 
 use super::asker::{Asker, Halt};
 use super::moment::Moment;

@@ -23,7 +23,7 @@ impl Watch {
         Watch { interval, signals: Signals::hold() }
     }
 
-    /// Measures, and again whenever the interval is over. It ends with how the last measurement did.
+    /// Measures, and again whenever the interval is over. It ends as the last measurement did.
     pub fn over_and_over(
         self,
         asker: &mut Asker,

@@ -103,9 +103,9 @@ impl Worker {
         }
     }
 
-    /// Sends the request until it is answered: each time after a longer wait, and the next way. Where
-    /// another one waits, this one is not sent any more: a server that comes back is not to be asked
-    /// all at once what it was not before.
+    /// Sends the request until it is answered: each time after a longer wait, and the next way.
+    /// Where another one waits, this one is not sent any more: a server that comes back is not to be
+    /// asked all at once what it was not before.
     fn exchange(&mut self, job: &Job, jobs: &Receiver<Job>) -> Option<Heard> {
         let (mut lines, mut sent) = (Vec::new(), None);
         loop {
@@ -178,19 +178,20 @@ impl Worker {
     ) -> Option<Heard> {
         while !until.is_past() {
             line::wait(lines, until.left());
-            for line in lines.iter_mut() {
-                let (way, packets) = (line.way, line.waiting());
-                self.note(line);
-                for packet in packets {
-                    let heard = self.check(job, sent?, packet, way);
-                    if heard.is_some() {
-                        return heard;
-                    }
-                }
+            let heard = lines.iter_mut().find_map(|line| self.heard(job, sent?, line));
+            if heard.is_some() {
+                return heard;
             }
             lines.retain(Line::is_open);
         }
         None
+    }
+
+    /// A valid answer among the packets that wait at a line.
+    fn heard(&mut self, job: &Job, sent: Moment, line: &mut Line) -> Option<Heard> {
+        let packets = line.waiting();
+        self.note(line);
+        packets.into_iter().find_map(|packet| self.check(job, sent, packet, line.way))
     }
 
     /// What went wrong on a line.
