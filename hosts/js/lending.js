@@ -51,7 +51,9 @@ export function u64(number) {
         throw new RangeError("a BigInt, or a whole number below 2^53, is wanted here");
     }
     const word = BigInt(number);
-    if (word < 0n || word >= U64) throw new RangeError("a number from 0 to 2^64 - 1 is wanted here");
+    if (word < 0n || word >= U64) {
+        throw new RangeError("a number from 0 to 2^64 - 1 is wanted here");
+    }
     return { word };
 }
 

@@ -1,10 +1,10 @@
 // The proved Roughtime library, for TypeScript and for people. include/trawlbeacon.h says the same
 // at length: each function here calls the one of its name there, after `tb_`.
 //
-// Bytes are lent as Uint8Array and copied; what is given back is a copy, too. Numbers of 64 bits are
-// given as BigInt, and taken as BigInt or as a number that is exact. Times are seconds since 1970,
-// but for a clock's, which are microseconds. A refusal is thrown as Refusal. An argument of a wrong
-// type is a TypeError, and a number or a length that cannot be one a RangeError.
+// Bytes are lent as Uint8Array and copied; what is given back is a copy, too. Numbers of 64 bits
+// are given as BigInt, and taken as BigInt or as a number that is exact. Times are seconds since
+// 1970, but for a clock's, which are microseconds. A refusal is thrown as Refusal. An argument of a
+// wrong type is a TypeError, and a number or a length that cannot be one a RangeError.
 
 /** The refusal codes, by their names. */
 // Between the two marks stands what cargo xtask codes makes of the library's own table.
@@ -158,7 +158,7 @@ export interface Pair {
 }
 
 export interface ListedServer {
-    /** It is meant for people, may hold any characters, and should not go to a terminal as it is. */
+    /** It is for people, may hold any characters, and should not go to a terminal as it is. */
     readonly name: string;
     readonly key: Uint8Array;
     readonly srv: Uint8Array;
@@ -294,7 +294,7 @@ export interface Trawlbeacon {
         srv: Uint8Array,
     ): { list: "owner" | "shipped"; offset: number };
 
-    /** A clock, where the host's own is wrong by at most so many parts of a million. Refusal: 32. */
+    /** A clock. The host's own goes wrong by at most so many parts of a million. Refusal: 32. */
     clock(drift: number): Clock;
 }
 

@@ -25,7 +25,7 @@ export async function load(source) {
     return operations(made instanceof WebAssembly.Instance ? made : made.instance);
 }
 
-/** The bytes of the file beside this one: read, or in a browser fetched from where this came from. */
+/** The bytes of the file beside this one: read, or fetched from where this one came from. */
 async function besides() {
     const url = new URL("./trawlbeacon.wasm", import.meta.url);
     if (url.protocol === "file:") {

@@ -45,23 +45,26 @@ over_the_bridge() {
     "$room/c/check" && console_says "$room/c/example" || return
     says "$room/c/walk" "malfeasance: records 1 and 2 contradict each other" 8 || return
     for name in any_bytes malfeasance_report ed25519 json lists; do tests+=(--test "$name"); done
-    TRAWLBEACON_LIB_DIR=$room/native CARGO_TARGET_DIR=$room/cargo CARGO_PROFILE_RELEASE_OPT_LEVEL=1 TRAWLBEACON_CALLS=446000 \
+    TRAWLBEACON_LIB_DIR=$room/native CARGO_TARGET_DIR=$room/cargo CARGO_PROFILE_RELEASE_OPT_LEVEL=1 TRAWLBEACON_CALLS=1/16 \
         cargo test --offline --quiet --release -p trawlbeacon "${tests[@]}" -- --nocapture --skip a_call_that_breaks \
-        --skip signatures_as_they_are --skip both_sides_read_the_same | tee "$room/said" || return
-    # As many calls as there are digests for: a sixteenth of all.
-    grep -qE '^[1-9][0-9]* digests are as kept$' "$room/said" || {
-        say "no digest was compared: TRAWLBEACON_CALLS is below a sixteenth of all calls"
-        return 1
-    }
+        --skip signatures_as_they_are --skip both_sides_read_the_same
 }
 
+# The page, made twice, must be the same both times.
+page_made() {
+    local made
+    for made in build/judge.html build/js/again.html; do tools/judge-page build/js/trawlbeacon.wasm "$made" || return; done
+    cmp build/judge.html build/js/again.html
+}
+
+# The module and the page are made in any case: they are installed and released.
 wasm_under_node() {
+    wasm_modules && page_made || return
     have_node || {
         say "LEFT OUT: the library as WebAssembly, since node 18 or later is not installed here"
         return 0
     }
-    wasm_modules || return
-    TRAWLBEACON_MULTI3=$PWD/build/js/multi3.wasm node --test hosts/js/tests/*.test.mjs >build/js/said || {
+    TRAWLBEACON_MULTI3=$PWD/build/js/multi3.wasm node --test --test-reporter=tap hosts/js/tests/*.test.mjs >build/js/said || {
         cat build/js/said
         return 1
     }
@@ -69,7 +72,6 @@ wasm_under_node() {
     (over_the_bridge)
 }
 
-# The page, made twice, must be the same both times.
 page_in_browser() {
     local browser
     browser=$(command -v "${CHROMIUM:-chromium}" || true)
@@ -77,9 +79,7 @@ page_in_browser() {
         say "LEFT OUT: the page judge.html in a browser, since chromium, or node 18 or later, is not installed here"
         return 0
     fi
-    tools/judge-page build/js/trawlbeacon.wasm build/judge.html && tools/judge-page build/js/trawlbeacon.wasm build/js/again.html || return
-    cmp build/judge.html build/js/again.html || return
-    CHROMIUM=$browser node --test hosts/js/tests/browser/*.test.mjs >build/js/said || {
+    CHROMIUM=$browser node --test --test-reporter=tap hosts/js/tests/browser/*.test.mjs >build/js/said || {
         cat build/js/said
         return 1
     }

@@ -1,7 +1,7 @@
 // The picture of a verdict, as SVG: a row a record with its window on a time axis, who was asked,
 // what was refused, which records are linked, and the run that convicts. It is the program's own
-// picture (hosts/rust/src/picture/svg.rs), drawn as wide as there is room: where that is little, the
-// words of a record stand above and below its bar.
+// picture (hosts/rust/src/picture/svg.rs), drawn as wide as there is room: where that is little,
+// the words of a record stand above and below its bar.
 //
 // Whatever comes from a report or a list becomes the text of a text element, and nothing else.
 
@@ -17,12 +17,30 @@ const BAR = 14;
 const LEAST_BAR = 3;
 const NARROW = 640;
 
-/** Where things stand in a row, and how wide a break of the axis is: with much room, and with little. */
+/** Where things stand in a row, and how wide a break of the axis is: with much and little room. */
 const WIDE = {
-    chain: 32, beside: 52, from: 160, end: 100, right: 20, gap: 44, bar: 6, told: 36, row: 48, name: 13,
+    chain: 32,
+    beside: 52,
+    from: 160,
+    end: 100,
+    right: 20,
+    gap: 44,
+    bar: 6,
+    told: 36,
+    row: 48,
+    name: 13,
 };
 const SLIM = {
-    chain: 18, beside: 40, from: 40, end: 10, right: 4, gap: 34, bar: 26, told: 54, row: 64, name: 22,
+    chain: 18,
+    beside: 40,
+    from: 40,
+    end: 10,
+    right: 4,
+    gap: 34,
+    bar: 26,
+    told: 54,
+    row: 64,
+    name: 22,
 };
 const LINE = 15;
 
@@ -147,7 +165,7 @@ function contradiction(at, { run, records }) {
     ];
 }
 
-/** Where the words about a window start: below its bar, or further left where it is near the end. */
+/** Where the words about a window start: below its bar, or further left near the end. */
 function beneath(at, { run, records }, place) {
     const { window } = records[place];
     if (!window || at.slim) return at.from;

@@ -10,7 +10,12 @@ import { isUtf16, meansList, noList, noReport } from "./why.js";
 /** The longest list of servers that is read. For each server it is gone through once more. */
 const LONGEST_LIST = 1 << 20;
 
-/** Bytes that are no text are a pile: every record has bytes that must be zero, and JSON has none. */
+/** The longest text that is looked through for what is wrong, which takes memory for its values. */
+const LONGEST_LOOKED = 4 << 20;
+
+const TOO_LONG = "where it is wrong is only looked for in texts of up to 4 MiB";
+
+/** What is no text is a pile: every record has bytes that must be zero, and JSON has none. */
 const isText = (bytes) => bytes.length > 0 && !bytes.includes(0);
 
 /** What a refusal says to people. */
@@ -44,6 +49,7 @@ export function sorted(library, bytes) {
     if (report.value) return { pile: report.value };
     const list = isNoText(report) ? orRefusal(() => listOf(library, bytes)) : report;
     if (list.value) return { list: list.value };
+    if (bytes.length > LONGEST_LOOKED) return { refusal: report.refusal, why: TOO_LONG };
     if (!isNoText(report) || !meansList(bytes)) {
         return { refusal: report.refusal, why: noReport(bytes), of: "report" };
     }

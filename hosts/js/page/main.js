@@ -66,7 +66,7 @@ function heard({ step, place, count, said, failed }) {
     }
 }
 
-/** Shows what a worker said. New lists are kept; where nothing else came, the last is judged anew. */
+/** Shows what a worker said. New lists are kept; where they came alone, the last is judged anew. */
 function tell({ lists, left, file, verdict, refused }) {
     kept.lists.push(...lists);
     showLists();

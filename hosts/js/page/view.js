@@ -91,7 +91,8 @@ function serverList({ servers, listed }) {
 const headed = (level, words, ...within) => made("section", "", made(level, "", words), ...within);
 
 function saving({ run }, save) {
-    const button = made("button", "primary", `Save records ${run.first} to ${run.last} as a report`);
+    const words = `Save records ${run.first} to ${run.last} as a report`;
+    const button = made("button", "primary", words);
     button.type = "button";
     button.id = "save";
     button.addEventListener("click", () => save(run.text));

@@ -1,7 +1,8 @@
 // Why a text is no report or no list of servers: what is wrong with it, and for JSON at which byte.
 //
-// The library tells 24 or 25 for all of it, and no place. This looks once more, when it has told one
-// of them, and decides nothing. It is what the program trawl does (hosts/rust/src/bin/trawl/why.rs).
+// The library tells 24 or 25 for all of it, and no place. This looks once more, when it has told
+// one of them, and decides nothing. It is what the program trawl does
+// (hosts/rust/src/bin/trawl/why.rs).
 
 const MOST_DEPTH = 16;
 const MOST_ENTRIES = 16;

@@ -23,9 +23,11 @@ export const counted = (count, what) => `${count} ${what}${count === 1 ? "" : "s
 /** The letter by which a server is called. There are at most 16. */
 export const letterOf = (server) => String.fromCharCode(65 + server);
 
-/** What stands beside a record: the name of its server, or the first digits of its key. */
+/** What stands beside a record, in so many letters: its server's name, or the start of its key. */
 export function labelOf({ key, name }, most) {
-    return name === null ? key.slice(0, 8) : plain(name, most);
+    if (name === null) return key.slice(0, 8);
+    const letters = Array.from(plain(name));
+    return letters.length > most ? `${letters.slice(0, most - 2).join("")}..` : letters.join("");
 }
 
 /** Why a record or a text is refused. */
@@ -82,10 +84,10 @@ export function wholeWords({ whole, run, records }) {
 /** The warning about keys that nobody knows; null, where there is nothing to warn of. */
 export function keyWords({ listed, servers }) {
     const end = "anybody can sign with keys of his own.";
-    if (!listed) {
-        return `Whose keys these are nobody has looked up: ${end} Add a server list that you trust.`;
-    }
-    const letters = servers.flatMap(({ name }, server) => (name === null ? [letterOf(server)] : []));
+    const add = "Add a server list that you trust.";
+    if (!listed) return `Nobody has looked up whose keys these are: ${end} ${add}`;
+    const unknown = ({ name }, server) => (name === null ? [letterOf(server)] : []);
+    const letters = servers.flatMap(unknown);
     if (!letters.length) return null;
     const [keys, are] = letters.length === 1 ? ["key", "is"] : ["keys", "are"];
     return `The ${keys} ${letters.join(", ")} ${are} in no list that you gave: ${end}`;

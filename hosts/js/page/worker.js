@@ -31,8 +31,9 @@ async function run({ wasm, files, lists }) {
     const found = await sortedFiles(library, files);
     const known = [...lists, ...found.filter(({ list }) => list).map(({ list }) => list)];
     const evidence = found.find(({ list }) => !list);
+    const named = ({ file, list }) => ({ name: file.name, list });
     const said = {
-        lists: found.filter(({ list }) => list).map(({ file, list }) => ({ name: file.name, list })),
+        lists: found.filter(({ list }) => list).map(named),
         left: found.filter(({ list }) => !list).length - 1,
         file: evidence?.file ?? null,
     };

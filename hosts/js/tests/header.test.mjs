@@ -23,7 +23,8 @@ test("the structs are those of the header", () => {
     for (const [name, { fields, size }] of Object.entries(STRUCTS)) {
         const due = declared.get(name);
         assert.equal(size, due.size, name);
-        const parts = (field) => [field.name, field.at, field.size ?? field.unit * (field.count ?? 1)];
+        const sizeOf = ({ size, unit, count = 1 }) => size ?? unit * count;
+        const parts = (field) => [field.name, field.at, sizeOf(field)];
         assert.deepEqual(fields.map(parts), due.fields.map(parts), name);
     }
 });

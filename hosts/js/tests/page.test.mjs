@@ -1,12 +1,12 @@
-// What the page works out by itself: dates, the axis, and why a text is no report. The first two are
-// those of hosts/rust/src/picture, and the last that of the program trawl.
+// What the page works out by itself: dates, the axis, and why a text is no report. The first two
+// are those of hosts/rust/src/picture, and the last that of the program trawl.
 
 import assert from "node:assert/strict";
 import test from "node:test";
 import { axisOf, placeOf, ticks } from "../page/axis.js";
 import { brief, dateOf, DAY, span, yearStart } from "../page/dates.js";
 import { judged, namesOf, sorted } from "../page/judging.js";
-import { plain } from "../page/words.js";
+import { labelOf, plain } from "../page/words.js";
 import { noList, noReport } from "../page/why.js";
 import { Refusal } from "../errors.js";
 import { file, library, PILE, random, REPORT, text, utf8 } from "./support.mjs";
@@ -17,14 +17,16 @@ const MOST = 2n ** 64n - 1n;
 test("dates are those of the calendar", () => {
     for (let day = 0; day < 366_000; day += 17) {
         const due = new Date(day * 86_400_000 + 45_296_000).toISOString();
-        assert.equal(dateOf(BigInt(day) * DAY + 45_296n), `${due.slice(0, 10)} ${due.slice(11, 19)}`);
+        const said = dateOf(BigInt(day) * DAY + 45_296n);
+        assert.equal(said, `${due.slice(0, 10)} ${due.slice(11, 19)}`);
     }
     assert.equal(dateOf(MOST), "584554051223-11-09 07:00:15");
     assert.equal(dateOf(yearStart(584_554_051_223n)), "584554051223-01-01 00:00:00");
 });
 
 test("spans are told in one unit", () => {
-    assert.deepEqual([span(1n), span(84n), span(120n)], ["1 second", "about 1 minute", "2 minutes"]);
+    assert.deepEqual([span(1n), span(84n)], ["1 second", "about 1 minute"]);
+    assert.equal(span(120n), "2 minutes");
     assert.deepEqual([span(86_391n), span(DAY)], ["about 24 hours", "1 day"]);
     assert.deepEqual([span(400n * DAY), span(MOST)], ["about 1 year", "about 584542046091 years"]);
     assert.deepEqual([brief(84n), brief(9n * DAY), brief(MOST)], ["1 min", "9 d", "585 Gy"]);
@@ -76,8 +78,10 @@ const refuses = (call) => {
 
 test("why a text is no report is told exactly where the library says that it is none", () => {
     // Packets of few bytes, so that damage is anywhere.
-    const entry = { rand: "A".repeat(43) + "=", publicKey: "A".repeat(43) + "=", request: "Zg==", response: "Zm8=" };
-    const small = utf8(JSON.stringify({ responses: [entry, entry], more: [1.5e3, null, "\u00e9"] }));
+    const key = "A".repeat(43) + "=";
+    const entry = { rand: key, publicKey: key, request: "Zg==", response: "Zm8=" };
+    const whole = { responses: [entry, entry], more: [1.5e3, null, "\u00e9"] };
+    const small = utf8(JSON.stringify(whole));
     let refused = 0;
     for (const one of damaged(small, 11, 30_000)) {
         const [code, why] = [refuses(() => tb.readReport(one)), noReport(one)];
@@ -92,17 +96,32 @@ test("why a text is no report is told exactly where the library says that it is 
 });
 
 test("the words of why are those of the program", () => {
-    const of = (letters) => noReport(utf8(letters));
-    assert.equal(of("[1, 2"), "no JSON at byte 5: the text ends within its value");
-    assert.equal(of("{} x"), "no JSON at byte 3: something stands behind the value");
-    assert.equal(of("[".repeat(17)), "no JSON at byte 16: values nest deeper than 16");
-    assert.equal(of("{}"), '"responses" of the report is missing');
-    assert.equal(of('{"responses":[],"responses":[]}'), '"responses" of the report is there more than once');
-    assert.equal(of('{"responses":[{"publicKey":"A"}]}'), '"publicKey" of entry 0 is no base64: 1 letters are not whole groups of 4');
-    assert.equal(of('{"responses":[{"publicKey":"Zm-v"}]}'), '"publicKey" of entry 0 is no base64: its letter 2 is none that may stand there');
-    assert.equal(noReport(new Uint8Array([0x22, 0xff, 0x22])), "no JSON at byte 1: this is not UTF-8, in which JSON is written");
-    assert.equal(noReport(new Uint8Array([0x22, 0xc3, 0xa9, 0xe2, 0x82])), "no JSON at byte 3: this is not UTF-8, in which JSON is written");
-    assert.equal(noReport(utf8("\ufeff{}")), "no JSON at byte 0: it begins with a byte order mark, which JSON does not have");
+    const cases = [
+        ["[1, 2", "no JSON at byte 5: the text ends within its value"],
+        ["{} x", "no JSON at byte 3: something stands behind the value"],
+        ["[".repeat(17), "no JSON at byte 16: values nest deeper than 16"],
+        ["{}", '"responses" of the report is missing'],
+        [
+            '{"responses":[],"responses":[]}',
+            '"responses" of the report is there more than once',
+        ],
+        [
+            '{"responses":[{"publicKey":"A"}]}',
+            '"publicKey" of entry 0 is no base64: 1 letters are not whole groups of 4',
+        ],
+        [
+            '{"responses":[{"publicKey":"Zm-v"}]}',
+            '"publicKey" of entry 0 is no base64: its letter 2 is none that may stand there',
+        ],
+        [
+            "\ufeff{}",
+            "no JSON at byte 0: it begins with a byte order mark, which JSON does not have",
+        ],
+    ];
+    for (const [letters, due] of cases) assert.equal(noReport(utf8(letters)), due);
+    const notUtf8 = (at) => `no JSON at byte ${at}: this is not UTF-8, in which JSON is written`;
+    assert.equal(noReport(new Uint8Array([0x22, 0xff, 0x22])), notUtf8(1));
+    assert.equal(noReport(new Uint8Array([0x22, 0xc3, 0xa9, 0xe2, 0x82])), notUtf8(3));
 });
 
 test("what is wrong with a list is never told of one that is right", () => {
@@ -125,6 +144,19 @@ test("a list is told from a report and from a pile, whatever their order", () =>
     assert.equal(sorted(tb, long.subarray(0, 1 << 20)).list.servers.length, 2);
 });
 
+test("the longest texts take neither long nor much memory", () => {
+    const lists = Buffer.from(`{"responses":[${"[],".repeat(20 << 20)}1]}`);
+    const deep = Buffer.from(`[${"{\"a\":1},".repeat(400_000)}1]`);
+    for (const one of [lists, deep, Buffer.alloc(62 << 20, "["), Buffer.alloc(62 << 20, " ")]) {
+        const before = process.cpuUsage();
+        assert.equal(sorted(tb, new Uint8Array(one)).refusal.code, 24);
+        const { user, system } = process.cpuUsage(before);
+        assert.ok(user + system < 20_000_000, `${(user + system) / 1e6} seconds`);
+        console.log(`${one.length} bytes: ${((user + system) / 1e6).toFixed(1)} seconds`);
+    }
+    assert.ok(process.memoryUsage().rss < 2 ** 31, `${process.memoryUsage().rss} bytes`);
+});
+
 test("a verdict is what the library says of each record", () => {
     const names = namesOf([{ servers: [{ key: PILE.subarray(0, 32), name: "alder" }] }]);
     const steps = [];
@@ -141,4 +173,6 @@ test("names of others steer nothing", () => {
     assert.equal(plain("x".repeat(90)), `${"x".repeat(80)} ..`);
     assert.equal(plain("\u00e9 \u6642 \ud83d\ude00"), "\u00e9 \u6642 \ud83d\ude00");
     assert.equal(plain("\ud800"), "\\u{d800}");
+    assert.equal(labelOf({ key: "", name: "\u202e".repeat(9) }, 13), "\\u{202e}\\u{..");
+    assert.equal(labelOf({ key: "", name: "thirteen long" }, 13), "thirteen long");
 });

@@ -19,7 +19,7 @@ export const hex = (bytes) => Buffer.from(bytes).toString("hex");
 export const unhex = (digits) => new Uint8Array(Buffer.from(digits, "hex"));
 export const utf8 = (letters) => new TextEncoder().encode(letters);
 
-/** The report of draft 19, appendix B, as text and as the pile that the proved program is run on. */
+/** The report of draft 19, appendix B, as text, and as a pile that the proved program is run on. */
 export const REPORT = file("vectors/malfeasance-report.json");
 export const PILE = file("crates/trawl_alone/data/appendix.pile");
 

@@ -85,7 +85,8 @@ function lay(lent) {
     placed(lent);
     for (const { at, bytes } of lent) {
         memory.fill(BESIDE, at - WATCHED, at);
-        memory.fill(BESIDE, at + bytes.length, Math.min(at + bytes.length + WATCHED, memory.length));
+        const end = at + bytes.length;
+        memory.fill(BESIDE, end, Math.min(end + WATCHED, memory.length));
         bytes.copy(memory, at);
     }
 }

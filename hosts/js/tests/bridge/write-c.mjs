@@ -1,7 +1,7 @@
 // Writes to standard output the C of a library that has the exports of include/trawlbeacon.h, and
-// does each call in WebAssembly: it hands the arguments to bridge/answer.mjs, run by node, and takes
-// the answer from there. So what was written to compare the native library with something compares
-// the same with WebAssembly, as it is.
+// does each call in WebAssembly: it hands the arguments to bridge/answer.mjs, run by node, and
+// takes the answer from there. So what was written to compare the native library with something
+// compares the same with WebAssembly, as it is.
 
 import { exports } from "./header.mjs";
 

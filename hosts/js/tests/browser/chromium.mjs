@@ -152,7 +152,9 @@ class Page {
         }
     }
 
-    text = (selector) => this.value(`document.querySelector(${JSON.stringify(selector)})?.innerText`);
+    text(selector) {
+        return this.value(`document.querySelector(${JSON.stringify(selector)})?.innerText`);
+    }
 
     /** Chooses files in the page's file input, as a person does. */
     async choose(...files) {
@@ -193,7 +195,8 @@ class Page {
     async press(key, { text, modifiers } = {}) {
         const code = { Tab: 9, Enter: 13, " ": 32 }[key] ?? 0;
         const event = { key, text, modifiers, windowsVirtualKeyCode: code, code: key };
-        await this.send("Input.dispatchKeyEvent", { type: text ? "keyDown" : "rawKeyDown", ...event });
+        const type = text ? "keyDown" : "rawKeyDown";
+        await this.send("Input.dispatchKeyEvent", { type, ...event });
         await this.send("Input.dispatchKeyEvent", { type: "keyUp", ...event });
     }
 

@@ -1,7 +1,8 @@
 // The page judge.html in a real browser, opened from a file: what it shows of reports, piles and
 // lists, right ones and hostile ones, and that it asks nobody for anything.
 //
-// TRAWLBEACON_PAGE is the page, TRAWLBEACON_SHOTS a folder for pictures of it, where they are wanted.
+// TRAWLBEACON_PAGE is the page, TRAWLBEACON_SHOTS a folder for pictures of it, where they are
+// wanted.
 
 import assert from "node:assert/strict";
 import { existsSync, readFileSync, writeFileSync } from "node:fs";
@@ -62,7 +63,8 @@ const rows = (page) =>
 const warnings = (page) =>
     page.value(`[...document.querySelectorAll(".warning")].map((one) => one.textContent)`);
 
-const key = (place) => Buffer.from(PILE.subarray(4096 * place, 4096 * place + 32)).toString("base64");
+/** The long-term key of a record of the draft's report. */
+const key = (place) => Buffer.from(PILE.slice(4096 * place).slice(0, 32)).toString("base64");
 
 /** A server list in JSON, of names for the keys of the draft's report. */
 function listOf(...names) {
@@ -108,8 +110,9 @@ test("the picture says what the program's own picture says", async () => {
     const own = await page.value(
         `[...document.querySelectorAll("#verdict svg text")].map((one) => one.textContent)`,
     );
-    const theirs = [...text("docs/draft-report.svg").matchAll(/<text [^>]*>([^<]*)</g)].map(([, t]) => t);
-    const windows = theirs.filter((one) => /^20\d\d-.*\(\d+ to \d+\)$|apart$|^run |^\d+ h$/.test(one));
+    const texts = text("docs/draft-report.svg").matchAll(/<text [^>]*>([^<]*)</g);
+    const wanted = /^20\d\d-.*\(\d+ to \d+\)$|apart$|^run |^\d+ h$/;
+    const windows = [...texts].map(([, words]) => words).filter((words) => wanted.test(words));
     assert.ok(windows.length >= 5, "the program's picture has windows");
     for (const one of windows) assert.ok(own.includes(one), one);
     assert.equal(await page.value(`document.querySelectorAll("svg .band").length`), 1);
@@ -153,7 +156,8 @@ test("what is no report: the words, and where it is wrong", async () => {
 });
 
 test("a server list beside it names the keys, and whose key is in none is said", async () => {
-    const page = await judged(put("report.json", REPORT), put("list.json", listOf("alder", "birch")));
+    const list = put("list.json", listOf("alder", "birch"));
+    const page = await judged(put("report.json", REPORT), list);
     assert.match(await page.text("#verdict"), /By record 0 \(alder\) it was[^]*record 1 \(birch\)/);
     assert.deepEqual(await warnings(page), [
         "The key C is in no list that you gave: anybody can sign with keys of his own.",
@@ -220,7 +224,8 @@ function all(value, hostile) {
     if (typeof value === "string") return hostile;
     if (Array.isArray(value)) return value.map((one) => all(one, hostile));
     if (typeof value !== "object" || value === null) return value;
-    return Object.fromEntries(Object.entries(value).map(([name, one]) => [name, all(one, hostile)]));
+    const hostileOne = ([name, one]) => [name, all(one, hostile)];
+    return Object.fromEntries(Object.entries(value).map(hostileOne));
 }
 
 test("hostile texts do nothing", async () => {
@@ -239,7 +244,8 @@ test("hostile texts do nothing", async () => {
         const counts = `["script", "img", "style", "iframe"].map((name) =>
             document.querySelectorAll(name).length)`;
         assert.deepEqual(await page.value(counts), [4, 0, 1, 0]);
-        if (list) assert.match(await page.text("#verdict"), /<script>alert\(1\)<\/script>.*\\u\{202e\}/);
+        const said = await page.text("#verdict");
+        if (list) assert.match(said, /<script>alert\(1\)<\/script>.*\\u\{202e\}/);
         await ended(page);
     }
 });
@@ -255,8 +261,9 @@ test("a megabyte of blanks, before a report and alone", async () => {
 });
 
 test("the largest pile, and a file that is too large", async () => {
-    const many = Buffer.concat(Array.from({ length: 16 }, (_, at) => PILE.subarray(4096 * (at % 3), 4096 * (at % 3 + 1))));
-    const page = await judged(put("many.pile", many));
+    const record = (_, at) => PILE.slice(4096 * (at % 3)).slice(0, 4096);
+    const many = Array.from({ length: 16 }, record);
+    const page = await judged(put("many.pile", Buffer.concat(many)));
     assert.equal((await rows(page)).length, 16);
     assert.equal(await page.text("#verdict h2"), SENTENCE);
     await ended(page);
@@ -267,8 +274,9 @@ test("the largest pile, and a file that is too large", async () => {
 
 test("what takes long keeps nobody waiting, and can be stopped", async () => {
     const page = await open();
-    const slow = Buffer.concat([utf8('{"responses":['), Buffer.from("[],".repeat(20 << 20)), utf8("1]}")]);
-    await page.choose(put("slow.json", slow));
+    const lists = Buffer.from("[],".repeat(20 << 20));
+    const slow = put("slow.json", Buffer.concat([utf8('{"responses":['), lists, utf8("1]}")]));
+    await page.choose(...Array(50).fill(slow));
     await page.until("!document.querySelector('#working').hidden");
     const asked = Date.now();
     assert.equal(await page.value("1 + 1"), 2);
@@ -305,7 +313,8 @@ test("by keyboard alone", async () => {
         await page.press("Tab", { modifiers: 8 });
     }
     await page.press("Enter", { text: "\r" });
-    await page.until(`document.querySelector("#verdict h2")?.innerText === ${JSON.stringify(SENTENCE)}`);
+    const heading = `document.querySelector("#verdict h2")?.innerText`;
+    await page.until(`${heading} === ${JSON.stringify(SENTENCE)}`);
     assert.equal(await focus(), "verdict");
     await page.press("Tab");
     assert.equal(await focus(), "save");
@@ -347,8 +356,10 @@ const COLOURS = `(() => {
         const own = getComputedStyle(one).backgroundColor;
         return own === "rgba(0, 0, 0, 0)" && one.parentElement ? ground(one.parentElement) : own;
     };
-    const withText = [...document.querySelectorAll("main *, header *, footer *")].filter((one) =>
-        !one.closest("svg") && [...one.childNodes].some((node) => node.nodeType === 3 && node.data.trim()));
+    const hasText = (one) =>
+        [...one.childNodes].some((node) => node.nodeType === 3 && node.data.trim());
+    const all = [...document.querySelectorAll("main *, header *, footer *")];
+    const withText = all.filter((one) => !one.closest("svg") && hasText(one));
     const html = withText.map((one) => [getComputedStyle(one).color, ground(one)]);
     const band = getComputedStyle(document.querySelector("svg .band")).fill;
     const svg = [...document.querySelectorAll("svg text:not(.number)")].map((one) =>
@@ -366,7 +377,8 @@ test("light, dark and on a phone: nothing is cut off, and every text can be read
     const grounds = [];
     for (const [name, how] of ways) {
         const page = await open(how);
-        await page.choose(put("report.json", REPORT), put("list.json", listOf("alder", "birch")));
+        const list = put("list.json", listOf("alder", "birch".repeat(50)));
+        await page.choose(put("report.json", REPORT), list);
         await shown(page);
         await drawn(page);
         const wide = "document.documentElement.scrollWidth - innerWidth";
@@ -388,7 +400,8 @@ test("the page may ask for nothing, even if its own code would", async () => {
     const page = await open();
     const tried = await page.value(`(async () => {
         const seen = [];
-        document.addEventListener("securitypolicyviolation", (event) => seen.push(event.effectiveDirective));
+        const stopped = ({ effectiveDirective }) => seen.push(effectiveDirective);
+        document.addEventListener("securitypolicyviolation", stopped);
         await fetch("https://example.com/").catch(() => {});
         await fetch("data:,x").catch(() => {});
         const image = new Image();
@@ -404,7 +417,9 @@ test("the page may ask for nothing, even if its own code would", async () => {
         form.action = "https://example.com/";
         document.body.append(form);
         form.submit();
-        await new Promise((resolve) => setTimeout(resolve, 300));
+        for (let tries = 0; new Set(seen).size < 5 && tries < 400; tries++) {
+            await new Promise((resolve) => setTimeout(resolve, 25));
+        }
         return { seen: [...new Set(seen)].sort(), ran: window.ran ?? false };
     })()`);
     assert.deepEqual(tried, {
