@@ -19,7 +19,9 @@ def microseconds() -> int:
     return time.clock_gettime_ns(time.CLOCK_BOOTTIME) // 1000
 
 
-def ask(clock: trawlbeacon.Clock, number: int, server: trawlbeacon.Server, wait: float = 1.0) -> bool:
+def ask(
+    clock: trawlbeacon.Clock, number: int, server: trawlbeacon.Server, wait: float = 2.0
+) -> bool:
     """Asks a server, and has the clock take its answer: whether there was a good one."""
     at = next((one for one in server.addresses if not one.tcp), None)
     if at is None:

@@ -28,7 +28,20 @@ SERVING: dict[str, Any] = {
     "tb_write_cert": (_raw.tb_wrote, (_READ, _NUMBER, _NUMBER, _READ, *_ROOM)),
     "tb_answer_batch": (
         tb_batch,
-        (*_LENT, _SIZE, *_LENT, _READ, *_LENT, _READ, _NUMBER, _WORD, *_ROOM, *_ROOM, _SIZE, *_ROOM),
+        (
+            *_LENT,
+            _SIZE,
+            *_LENT,
+            _READ,
+            *_LENT,
+            _READ,
+            _NUMBER,
+            _WORD,
+            *_ROOM,
+            *_ROOM,
+            _SIZE,
+            *_ROOM,
+        ),
     ),
 }
 for _name, (_answer, _arguments) in SERVING.items():
@@ -94,7 +107,9 @@ def answers_program() -> str:
     return os.environ.get("TRAWLBEACON_ANSWERS", "")
 
 
-def chained(servers: Sequence[Server], times: Sequence[int], rands: Sequence[bytes]) -> List[Record]:
+def chained(
+    servers: Sequence[Server], times: Sequence[int], rands: Sequence[bytes]
+) -> List[Record]:
     """Records of servers that are asked one after the other, each linked to the one before it."""
     from trawlbeacon import link, write_request
 

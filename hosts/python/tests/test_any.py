@@ -1,5 +1,5 @@
-"""Any bytes, real ones and damaged ones: what the package says, beside what a program in C says that
-links the same library by its header (hosts/c/answers.c)."""
+"""Any bytes, real ones and damaged ones: what the package says, beside what a program in C says
+that links the same library by its header (hosts/c/answers.c)."""
 
 from __future__ import annotations
 
@@ -37,7 +37,7 @@ def window_words(window: tb.Window) -> Words:
 
 
 def refused(why: Refused, nothing: Sequence[str], place: bool = False) -> Words:
-    """The code, and the place and the byte where there are such; then what an answer is beside it."""
+    """The code, the place and the byte where there are such, and what an answer is beside it."""
     told = [str(int(why.code))] + ([str(why.place or 0)] if place else [])
     return [*told, str(why.at or 0), *nothing]
 
@@ -85,7 +85,9 @@ class Maker:
         return self.damaged(bytes(made)) if self.random.randrange(3) == 0 else bytes(made)
 
     def time(self) -> int:
-        return self.random.choice((0, 5, 1000, 1_000_000, (1 << 64) - 1, self.random.getrandbits(40)))
+        return self.random.choice(
+            (0, 5, 1000, 1_000_000, (1 << 64) - 1, self.random.getrandbits(40))
+        )
 
 
 def packet_case(maker: Maker) -> Tuple[int, Parts, Words]:
@@ -201,10 +203,24 @@ def walk_case(maker: Maker) -> Tuple[int, Parts, Words]:
     said = ["0"]
     for step in range(min(2 * len(servers) + 1, 20)):
         asked = walk.ask()
-        said += [str(int(Refusal.ENDED)), "0"] if asked is None else ["0", str(asked.server), shown(asked.request)]
-        made = b"" if asked is None else servers[asked.server].answer(asked.request, maker.random.choice((1000, 1001, 9000)))
+        said += (
+            [str(int(Refusal.ENDED)), "0"]
+            if asked is None
+            else ["0", str(asked.server), shown(asked.request)]
+        )
+        made = (
+            b""
+            if asked is None
+            else servers[asked.server].answer(
+                asked.request, maker.random.choice((1000, 1001, 9000))
+            )
+        )
         response = made if maker.random.randrange(6) else maker.damaged(made)
-        sent, received, rand = 10 * step, 10 * step + maker.random.choice((0, 1, 5, 6)), maker.bytes(32)
+        sent, received, rand = (
+            10 * step,
+            10 * step + maker.random.choice((0, 1, 5, 6)),
+            maker.bytes(32),
+        )
         parts += [response, number(sent), number(received), rand]
         said += taken_words(walk, response, sent, received, rand)
     return 10, parts, said
@@ -230,7 +246,11 @@ def clock_case(maker: Maker) -> Tuple[int, Parts, Words]:
     except Refused as why:
         clock, said = tb.Clock(0), [str(int(why.code))]
     for _ in range(maker.random.randrange(8)):
-        midp, server, sent = maker.random.choice((1000, 1003, 1020)), maker.random.randrange(9), maker.time()
+        midp, server, sent = (
+            maker.random.choice((1000, 1003, 1020)),
+            maker.random.randrange(9),
+            maker.time(),
+        )
         window, received = tb.Window(midp, 3, midp - 3, midp + 3, 0, maker.time()), maker.time()
         told = (server, window.low, window.high, window.maxt, sent, received)
         parts += [number(one) for one in told]
@@ -240,12 +260,23 @@ def clock_case(maker: Maker) -> Tuple[int, Parts, Words]:
     def now() -> Words:
         time = clock.now(moment, liars)
         sets = [sum(1 << one for one in some) for some in (time.agree, time.suspects)]
-        return [str(one) for one in (0, 0, time.low, time.high, int(time.stopped), time.counted, *sets)]
+        return [
+            str(one) for one in (0, 0, time.low, time.high, int(time.stopped), time.counted, *sets)
+        ]
 
     return 11, [*parts, number(moment), number(liars)], said + without_at(of_call(now, ["0"] * 6))
 
 
-MAKERS = (packet_case, packet_case, packet_case, pile_case, report_case, list_case, walk_case, clock_case)
+MAKERS = (
+    packet_case,
+    packet_case,
+    packet_case,
+    pile_case,
+    report_case,
+    list_case,
+    walk_case,
+    clock_case,
+)
 
 
 @unittest.skipUnless(support.answers_program(), "TRAWLBEACON_ANSWERS names no program")

@@ -38,8 +38,13 @@ class Answering(threading.Thread):
         key = base64.b64encode(self.server.key).decode()
         at = "%s:%d" % self.link.getsockname()
         addresses = [{"protocol": "udp", "address": at}]
-        return {"name": "here", "version": 1, "publicKeyType": "ed25519", "publicKey": key,
-                "addresses": addresses}
+        return {
+            "name": "here",
+            "version": 1,
+            "publicKeyType": "ed25519",
+            "publicKey": key,
+            "addresses": addresses,
+        }
 
 
 def asked(servers: List[Answering]) -> "subprocess.CompletedProcess[str]":
@@ -50,8 +55,14 @@ def asked(servers: List[Answering]) -> "subprocess.CompletedProcess[str]":
         file.flush()
         example = support.ROOT / "hosts/python/examples/ask_several.py"
         path = {**os.environ, "PYTHONPATH": str(support.ROOT / "hosts/python")}
-        return subprocess.run([sys.executable, str(example), file.name], env=path, text=True,
-                              stdout=subprocess.PIPE, stderr=subprocess.PIPE, timeout=60)
+        return subprocess.run(
+            [sys.executable, str(example), file.name],
+            env=path,
+            text=True,
+            stdout=subprocess.PIPE,
+            stderr=subprocess.PIPE,
+            timeout=60,
+        )
 
 
 class Client(unittest.TestCase):
@@ -60,7 +71,8 @@ class Client(unittest.TestCase):
         self.assertEqual((ended.returncode, ended.stderr), (0, ""))
         told = re.fullmatch(
             r"3 of 3 servers answered\nthe time is from (\d+) to (\d+) microseconds since 1970\n",
-            ended.stdout)
+            ended.stdout,
+        )
         assert told is not None, ended.stdout
         low, high = (int(word) / 1e6 for word in told.groups())
         self.assertLess(low, time.time())

@@ -55,8 +55,11 @@ class Declarations(unittest.TestCase):
         for name, (answer, arguments) in {**_raw.FUNCTIONS, **support.SERVING}.items():
             told, parameters = known[name]
             due = {"void": None, "bool": c_bool, "uint32_t": c_uint32}
-            self.assertEqual(answer.__name__ if told.startswith("struct") else answer,
-                             told.split()[-1] if told.startswith("struct") else due[told], name)
+            self.assertEqual(
+                answer.__name__ if told.startswith("struct") else answer,
+                told.split()[-1] if told.startswith("struct") else due[told],
+                name,
+            )
             self.assertEqual(len(arguments), len(parameters), name)
             for argument, parameter in zip(arguments, parameters):
                 self.fits(argument, parameter, name)
@@ -72,15 +75,27 @@ class Declarations(unittest.TestCase):
     def test_numbers_are_those_of_the_header(self) -> None:
         defined = dict(re.findall(r"^#define TB_(\w+) (\d+)$", header(), flags=re.M))
         for module in (trawlbeacon, lists, packets, piles, walks):
-            for name in ("LONGEST_PACKET", "LONGEST_REPORT", "MOST_RECORDS", "MOST_SERVERS",
-                         "FEWEST_SERVERS", "RECORD_LENGTH", "REQUEST_LENGTH", "SERVER_LENGTH",
-                         "LISTED_SERVERS", "LISTED_ADDRESSES", "CLOCK_SERVERS"):
+            for name in (
+                "LONGEST_PACKET",
+                "LONGEST_REPORT",
+                "MOST_RECORDS",
+                "MOST_SERVERS",
+                "FEWEST_SERVERS",
+                "RECORD_LENGTH",
+                "REQUEST_LENGTH",
+                "SERVER_LENGTH",
+                "LISTED_SERVERS",
+                "LISTED_ADDRESSES",
+                "CLOCK_SERVERS",
+            ):
                 if hasattr(module, name):
                     self.assertEqual(getattr(module, name), int(defined[name]), name)
 
     def test_each_code_has_words(self) -> None:
         self.assertEqual([int(code) for code in codes.Refusal], list(codes.WORDS))
         self.assertEqual(codes.words(0), "no such code")
-        outcomes = dict(re.findall(r"TB_(\w+) = (\d+)", header().split("enum tb_outcome")[1].split("}")[0]))
+        outcomes = dict(
+            re.findall(r"TB_(\w+) = (\d+)", header().split("enum tb_outcome")[1].split("}")[0])
+        )
         for outcome in walks.Outcome:
             self.assertEqual(outcome.value, int(outcomes[outcome.name]))

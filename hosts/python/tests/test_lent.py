@@ -3,6 +3,8 @@
 from __future__ import annotations
 
 import array
+import subprocess
+import sys
 import threading
 import unittest
 from typing import List
@@ -38,18 +40,29 @@ class Lent(unittest.TestCase):
     def test_lengths_that_are_fixed(self) -> None:
         for length in (0, 31, 33):
             key = bytes(length)
-            for call in (lambda: tb.srv_value(key), lambda: tb.write_request(key, bytes(32)),
-                         lambda: tb.write_request(bytes(32), key), lambda: tb.link(b"", key),
-                         lambda: tb.check_signed(key, b"", b""), lambda: tb.Walk([key] * 3, bytes(32), 5),
-                         lambda: bytes(tb.Record(key, b"", b"")), lambda: tb.Clock.resume(key)):
+            for call in (
+                lambda: tb.srv_value(key),
+                lambda: tb.write_request(key, bytes(32)),
+                lambda: tb.write_request(bytes(32), key),
+                lambda: tb.link(b"", key),
+                lambda: tb.check_signed(key, b"", b""),
+                lambda: tb.Walk([key] * 3, bytes(32), 5),
+                lambda: bytes(tb.Record(key, b"", b"")),
+                lambda: tb.Clock.resume(key),
+            ):
                 self.assertRaises(ValueError, call)
 
     def test_numbers_that_do_not_fit(self) -> None:
         clock, window = tb.Clock(), tb.Window(0, 1, 0, 1, 0, 9)
         for number in (-1, 1 << 64):
-            for call in (lambda: support.draft().judge(number), lambda: clock.now(number, 0),
-                         lambda: clock.take(number, window, 0, 0), lambda: window.may_use(number),
-                         lambda: tb.Clock(number), lambda: tb.Walk([bytes(32)] * 3, bytes(32), number)):
+            for call in (
+                lambda: support.draft().judge(number),
+                lambda: clock.now(number, 0),
+                lambda: clock.take(number, window, 0, 0),
+                lambda: window.may_use(number),
+                lambda: tb.Clock(number),
+                lambda: tb.Walk([bytes(32)] * 3, bytes(32), number),
+            ):
                 self.assertRaises(OverflowError, call)
         self.assertRaises(OverflowError, lambda: tb.Clock(1 << 32))
         self.assertRaises(TypeError, lambda: clock.now(1.5, 0))
@@ -68,7 +81,8 @@ class Lent(unittest.TestCase):
         self.assertEqual((caught.exception.code, len(pile)), (Refusal.PILE, 16))
 
     def test_threads_at_once(self) -> None:
-        pile, due, other = support.draft(), support.draft().check(), []  # type: ignore[var-annotated]
+        pile, due = support.draft(), support.draft().check()
+        other: List[int] = []
 
         def work() -> None:
             for _ in range(20):
@@ -81,3 +95,18 @@ class Lent(unittest.TestCase):
         for thread in threads:
             thread.join()
         self.assertEqual(other, [])
+
+
+class Places(unittest.TestCase):
+    def test_a_library_that_is_not_there(self) -> None:
+        path = {"PYTHONPATH": str(support.ROOT / "hosts/python"), "TRAWLBEACON_LIBRARY": "/no/such"}
+        ended = subprocess.run(
+            [sys.executable, "-B", "-c", "import trawlbeacon"],
+            env=path,
+            stderr=subprocess.PIPE,
+            text=True,
+        )
+        self.assertEqual(ended.returncode, 1)
+        self.assertIn(
+            "ImportError: there is no libtrawlbeacon.so.1: it was sought as /no/such;", ended.stderr
+        )

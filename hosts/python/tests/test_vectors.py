@@ -43,11 +43,15 @@ class Vectors(unittest.TestCase):
         text = support.vectors("server-list.json")
         read = tb.read_servers(text)
         self.assertEqual(read, tb.read_servers(text.decode()))
-        self.assertEqual([one["name"] for one in json.loads(text)["servers"]],
-                         [server.name for server in read.servers])
+        self.assertEqual(
+            [one["name"] for one in json.loads(text)["servers"]],
+            [server.name for server in read.servers],
+        )
         self.assertEqual(read.servers[0].srv, tb.srv_value(read.servers[0].key))
         address = read.servers[1].addresses[1]
-        self.assertEqual((address.host(), address.port(), address.tcp), ("2001:db8::2:33", 2002, False))
+        self.assertEqual(
+            (address.host(), address.port(), address.tcp), ("2001:db8::2:33", 2002, False)
+        )
         self.assertEqual(read.reports, json.loads(text)["reports"])
         self.assertEqual(list(read.sources), json.loads(text)["sources"])
 
@@ -55,7 +59,9 @@ class Vectors(unittest.TestCase):
         count = 0
         for name in ("SHA512ShortMsg.rsp", "SHA512LongMsg.rsp"):
             text = support.vectors(name).decode()
-            for length, message, digest in re.findall(r"Len = (\d+)\s+Msg = (\w+)\s+MD = (\w+)", text):
+            for length, message, digest in re.findall(
+                r"Len = (\d+)\s+Msg = (\w+)\s+MD = (\w+)", text
+            ):
                 lent = bytes.fromhex(message)[: int(length) // 8]
                 self.assertEqual(tb.sha512(lent).hex(), digest)
                 count += 1
@@ -91,8 +97,7 @@ class Vectors(unittest.TestCase):
             tb.check_signed(record.key, record.request, bad)
         why = caught.exception
         self.assertEqual((why.code, why.at, why.place), (Refusal.FRAME, 12, None))
-        due = "refused with code 4: a message's length, number of tags, header or offset is wrong, at byte 12"
-        self.assertEqual(str(why), due)
+        self.assertEqual(str(why), f"refused with code 4: {tb.words(4)}, at byte 12")
         pile = tb.Pile.of([record, tb.Record(record.key, record.request, bytes(bad))])
         with self.assertRaises(Refused) as caught:
             pile.check()

@@ -56,9 +56,18 @@ class Walks(unittest.TestCase):
         assert asked is not None
         good = support.Server(2).answer(asked.request, 1000)
         for response, sent, received, code in (
-            (good, 0, 1, Refusal.CLOCK), (good, 9, 8, Refusal.CLOCK), (good, 9, 99, Refusal.DELAY),
-            (b"", 9, 10, Refusal.PACKET_SIZE), (support.Server(3).answer(
-                tb.write_request(support.Server(3).key, asked.nonce), 1000), 9, 10, Refusal.PATH),
+            (good, 0, 1, Refusal.CLOCK),
+            (good, 9, 8, Refusal.CLOCK),
+            (good, 9, 99, Refusal.DELAY),
+            (b"", 9, 10, Refusal.PACKET_SIZE),
+            (
+                support.Server(3).answer(
+                    tb.write_request(support.Server(3).key, asked.nonce), 1000
+                ),
+                9,
+                10,
+                Refusal.PATH,
+            ),
         ):
             with self.assertRaises(Refused) as caught:
                 walk.take(response, sent, received, bytes(32))
@@ -81,8 +90,11 @@ class Clocks(unittest.TestCase):
         self.assertEqual((time.low, time.high, time.counted), (999_049_895, 1_004_100_110, 3))
         self.assertEqual((time.agree, time.suspects), (frozenset({0, 1}), frozenset({2})))
         self.assertEqual(tb.Clock.resume(clock.state).now(1_170_000, 1), time)
-        for moment, liars, code in ((0, 1, Refusal.CLOCK), (1_170_000, 3, Refusal.TOO_FEW),
-                                    (1_170_000, 0, Refusal.NO_AGREEMENT)):
+        for moment, liars, code in (
+            (0, 1, Refusal.CLOCK),
+            (1_170_000, 3, Refusal.TOO_FEW),
+            (1_170_000, 0, Refusal.NO_AGREEMENT),
+        ):
             with self.assertRaises(Refused) as caught:
                 clock.now(moment, liars)
             self.assertEqual(caught.exception.code, code)

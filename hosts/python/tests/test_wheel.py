@@ -1,4 +1,4 @@
-"""The wheel: the same bytes each time, with a RECORD that is right, and of use where it is unpacked."""
+"""The wheel: the same bytes each time, a RECORD that is right, and of use where it is unpacked."""
 
 from __future__ import annotations
 
@@ -36,13 +36,17 @@ class Wheels(unittest.TestCase):
             made = zipfile.ZipFile(wheel.write(LIBRARY, "x86_64", Path(folder)))
             with made:
                 name = next(one for one in made.namelist() if one.endswith("/RECORD"))
-                rows = {row[0]: row[1:] for row in csv.reader(made.read(name).decode().splitlines())}
+                rows = {
+                    row[0]: row[1:] for row in csv.reader(made.read(name).decode().splitlines())
+                }
                 self.assertEqual(set(rows), set(made.namelist()))
                 for file, (digest, length) in rows.items():
                     if file != name:
                         held = made.read(file)
                         due = base64.urlsafe_b64encode(hashlib.sha256(held).digest()).decode()
-                        self.assertEqual((digest, length), ("sha256=" + due.rstrip("="), str(len(held))))
+                        self.assertEqual(
+                            (digest, length), ("sha256=" + due.rstrip("="), str(len(held)))
+                        )
                 self.assertIn("trawlbeacon/py.typed", rows)
 
     def test_it_is_of_use_where_it_is_unpacked(self) -> None:
@@ -51,7 +55,15 @@ class Wheels(unittest.TestCase):
             self.skipTest(f"no wheel is made for {machine}")
         with tempfile.TemporaryDirectory() as folder:
             zipfile.ZipFile(wheel.write(LIBRARY, machine, Path(folder))).extractall(folder)
-            words = "import trawlbeacon; print(trawlbeacon.__file__, trawlbeacon.sha512(b'').hex()[:8])"
-            ended = subprocess.run([sys.executable, "-c", words], env={"PYTHONPATH": folder}, cwd="/",
-                                   stdout=subprocess.PIPE, text=True, check=True)
+            words = (
+                "import trawlbeacon; print(trawlbeacon.__file__, trawlbeacon.sha512(b'').hex()[:8])"
+            )
+            ended = subprocess.run(
+                [sys.executable, "-c", words],
+                env={"PYTHONPATH": folder},
+                cwd="/",
+                stdout=subprocess.PIPE,
+                text=True,
+                check=True,
+            )
             self.assertEqual(ended.stdout, f"{folder}/trawlbeacon/__init__.py cf83e135\n")

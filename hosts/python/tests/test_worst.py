@@ -1,5 +1,5 @@
-"""The inputs that take longest, or that a host without bounds would stumble over. Each ends, with the
-code that it should have, in a second of this processor at the most."""
+"""The inputs that take longest, or that a host without bounds would stumble over. Each ends, with
+the code that it should have, in a second of this processor at the most."""
 
 from __future__ import annotations
 
@@ -17,8 +17,13 @@ import support
 
 def listed(servers: int, addresses: int, name: str) -> str:
     key = base64.b64encode(support.Server(1).key).decode()
-    each = {"name": name, "version": 1, "publicKeyType": "ed25519", "publicKey": key,
-            "addresses": [{"protocol": "udp", "address": "192.0.2.1:2002"}] * addresses}
+    each = {
+        "name": name,
+        "version": 1,
+        "publicKeyType": "ed25519",
+        "publicKey": key,
+        "addresses": [{"protocol": "udp", "address": "192.0.2.1:2002"}] * addresses,
+    }
     return json.dumps({"servers": [each] * servers})
 
 
@@ -34,8 +39,16 @@ class Worst(unittest.TestCase):
         return said
 
     def test_texts_that_are_no_report(self) -> None:
-        for text in ("[" * 1_000_000, '{"a":' * 200_000, '"' + "\\u0041" * 150_000, " " * 1_000_000,
-                     "1" * 1_000_000, "\ud800", "", '{"responses":[' + "{}," * 100_000 + "{}]}"):
+        for text in (
+            "[" * 1_000_000,
+            '{"a":' * 200_000,
+            '"' + "\\u0041" * 150_000,
+            " " * 1_000_000,
+            "1" * 1_000_000,
+            "\ud800",
+            "",
+            '{"responses":[' + "{}," * 100_000 + "{}]}",
+        ):
             for call in (tb.read_report, tb.cut_report, tb.read_servers):
                 self.ends(lambda: call(text), Refusal.REPORT_TEXT)
 
@@ -61,11 +74,15 @@ class Worst(unittest.TestCase):
         self.ends(lambda: tb.read_servers(listed(65, 1, "n")), Refusal.ENTRIES)
         self.ends(lambda: tb.read_servers(listed(1, 9, "n")), Refusal.ENTRIES)
         name = "\u20ac" * 100_000
-        self.assertEqual(self.ends(lambda: tb.read_servers(listed(1, 1, name))).servers[0].name, name)
+        self.assertEqual(
+            self.ends(lambda: tb.read_servers(listed(1, 1, name))).servers[0].name, name
+        )
 
     def test_packets_of_every_length(self) -> None:
         for length in range(0, 2100):
-            packet = b"ROUGHTIM" + max(0, length - 12).to_bytes(4, "little") + bytes(max(0, length - 12))
+            packet = (
+                b"ROUGHTIM" + max(0, length - 12).to_bytes(4, "little") + bytes(max(0, length - 12))
+            )
             packet = packet[:length]
             code = Refusal.PACKET_SIZE if length < 12 or length > 2000 else Refusal.FRAME
             self.ends(lambda: tb.read_request(packet), code)

@@ -6,6 +6,7 @@ from __future__ import annotations
 from enum import IntEnum
 from typing import Dict
 
+
 # codes: begin
 class Refusal(IntEnum):
     """Why something is refused."""

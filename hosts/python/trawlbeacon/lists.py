@@ -48,8 +48,8 @@ class Server:
 
 @dataclass(frozen=True)
 class ServerList:
-    """The servers of a list that can be asked, in its order; where newer lists may be had, and where
-    reports may be sent to; and how many servers were passed over."""
+    """The servers of a list that can be asked, in its order. sources are where newer lists may be
+    had, reports is where reports may be sent to, and passed_over counts the other servers."""
 
     servers: Tuple[Server, ...]
     sources: Tuple[str, ...]
