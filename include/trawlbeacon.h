@@ -43,7 +43,7 @@ extern "C" {
 /* The version of this header. A change of the first number breaks callers. A change of the second
  * may raise the TB_.._STACK numbers. */
 #define TB_VERSION_MAJOR 1
-#define TB_VERSION_MINOR 2
+#define TB_VERSION_MINOR 3
 
 /* ---- Codes ----
  *
