@@ -1,8 +1,15 @@
 /* The proved Roughtime library, for C. Link libtrawlbeacon, which ./install installs. In a clone
  * link libcapi.a, which tools/native-lib makes; it is the same library.
  *
- * H is Roughtime's hash: the first 32 bytes of SHA-512. Times are whole seconds since 1970, except
- * for the clock, which uses microseconds, and for the stamps of old captures.
+ * - Ask one server: tb_write_request, tb_check_signed.
+ * - Know the time from several: tb_clock_start, tb_clock_take_verdict, tb_clock_now.
+ * - Prove a lie: tb_walk_start, tb_walk_ask, tb_walk_take_signed, tb_cut_signed_run.
+ * - Judge a report: tb_read_report, tb_check_signed_report. Read a list: tb_read_servers.
+ * - Run a server: tb_answer_batch.
+ *
+ * H is Roughtime's hash: the first 32 bytes of SHA-512. H(a, b) is the hash of the bytes a followed
+ * by the bytes b. Times are whole seconds since 1970, except for the clock, which uses
+ * microseconds, and for the stamps of old captures.
  *
  * What a caller must do, and no compiler checks:
  *
@@ -17,10 +24,10 @@
  * - It takes any bytes, and ends. The same input gives the same answer.
  * - It allocates nothing, and keeps no pointer and no state. Threads may call it at once.
  * - Where it can refuse, it returns a code, or a struct with one. 0 is no refusal. Else it is the
- *   first code that applies, of those that its comment lists and in their order. Then nothing was
- *   written, and the other fields are 0, except for at and for the place of a record.
+ *   first code that applies, of those that its comment lists and in their order.
+ * - On a refusal nothing is written. All other fields are 0, except `at` and `place`.
  * - Where it returns nothing or a bool, it cannot refuse.
- * - It writes to the front of out, and what is behind stays.
+ * - It writes from the start of out. The bytes after that stay as they were.
  */
 #ifndef TRAWLBEACON_H
 #define TRAWLBEACON_H
@@ -36,17 +43,17 @@ extern "C" {
 /* The version of this header. A change of the first number breaks callers. A change of the second
  * may raise the TB_.._STACK numbers. */
 #define TB_VERSION_MAJOR 1
-#define TB_VERSION_MINOR 2
+#define TB_VERSION_MINOR 3
 
 /* ---- Codes ----
  *
- * Beside the codes 4 to 7, the field at is the byte at which the packet is bad, counted from the
- * packet's first byte. Beside every other code it is 0 and means nothing. It is the start of:
+ * With the codes 4 to 7, the field `at` is the byte at which the packet is bad, counted from the
+ * packet's first byte. With every other code it is 0 and means nothing. It is the start of:
  *
  * - 4 and 5: the first wrong word of a message's header. That is an offset that is no multiple of
- *   4, falls or leaves the values; a tag that is not above the one before it; or N, where N is not
- *   1 to 32 or the header is too long. Where a message's length is under 4 or no multiple of 4, it
- *   is the message itself.
+ *   4, falls or leaves the values, or a tag that is not above the one before it. Or it is N, the
+ *   number of tags, where that is not 1 to 32 or the header is too long. Where a message's length
+ *   is under 4 or no multiple of 4, it is the message itself.
  * - 6: the message that lacks the tag.
  * - 7: the value, which may be empty. Of several wrong values it is the one with the smallest tag.
  */
@@ -259,8 +266,8 @@ typedef uint64_t tb_size;
 #define TB_BATCH_STACK 131072
 
 /* Bytes of stack that are enough for tb_cut_text and tb_cut_signed_text, which keep sixteen records
- * there. On x86-64 they take 72,488 and 75,368. hosts/c/stack.c measures them, and 33 functions for
- * which none of the five constants is meant: none of those takes over 11,880. */
+ * there. On x86-64 they take 72,488 and 75,368. hosts/c/stack.c measures them. The 33 other
+ * functions that it measures take at most 11,880. */
 #define TB_TEXT_STACK 98304
 
 /* The bytes of a record of a list of servers. */
@@ -338,8 +345,9 @@ static inline void tb_leaf_start(struct tb_running *state) {
     tb_leaf_start_fields(state->h, state->rest, &state->count);
 }
 
-/* Takes a piece, which must not overlap the state. The code is 30, where all that was taken would
- * be more than 2^64 - 1 bytes, with the 0x00 of a leaf counted. Then the state stays as it was. */
+/* Takes a piece, which must not overlap the state. It can refuse with 30, where all that was taken
+ * would be more than 2^64 - 1 bytes, with the 0x00 of a leaf counted. Then the state stays as it
+ * was. */
 static inline uint32_t tb_sha512_take(struct tb_running *state, const uint8_t *piece,
                                       tb_size piece_len) {
     return tb_sha512_take_fields(state->h, state->rest, &state->count, piece, piece_len);
@@ -376,7 +384,7 @@ struct tb_request {
     uint8_t srv[32];
 };
 
-/* Reads a request. The codes are 1 to 8. */
+/* Reads a request. It can refuse, in this order, with 1 to 8. */
 struct tb_request tb_read_request(const uint8_t *packet, tb_size packet_len);
 
 /* What a good response says. midp is in seconds since 1970, and radi in seconds. */
@@ -390,8 +398,8 @@ struct tb_response {
     uint8_t root[32];
 };
 
-/* Reads a response. The codes are 1 to 8. A response that is read without a refusal need not be
- * valid: tb_check_signed tells that, from its request and both signatures. */
+/* Reads a response. It can refuse, in this order, with 1 to 8. A response that is read without a
+ * refusal need not be valid: tb_check_signed tells that, from its request and both signatures. */
 struct tb_response tb_read_response(const uint8_t *packet, tb_size packet_len);
 
 /* What a writer wrote: how many bytes, 0 on a refusal. */
@@ -402,7 +410,7 @@ struct tb_wrote {
 };
 
 /* Writes the request with this nonce to the server with this long-term key: TB_REQUEST_LENGTH
- * bytes. The code is 19. */
+ * bytes. It can refuse with 19, where out is shorter than that. */
 struct tb_wrote tb_write_request(const uint8_t key[32], const uint8_t nonce[32], uint8_t *out,
                                  tb_size out_len);
 
@@ -416,18 +424,18 @@ struct tb_wrote tb_write_request(const uint8_t key[32], const uint8_t nonce[32],
  * tb_cut_run, tb_write_report, tb_cut_text, tb_pile_contradicts and tb_walk_take. They verify
  * nothing, and take the caller's answers. Such a caller gets the signatures, the key and the texts
  * from tb_signed_parts, tb_delegation_text and tb_response_text, and reads none of them from the
- * packet. Who reads a key or a signature at the place where it usually is can be made to accept a
- * forged time. */
+ * packet. A host that reads them from the packet itself can be made to accept a forged time. */
 
 /* Returns whether the signature of the text verifies under the key. This is Ed25519 of RFC 8032,
  * 5.1.7, with S below the group order and the group equation without the cofactor. Any lengths are
  * taken: a key that is not 32 bytes, or a signature that is not 64, is a no. The time that it takes
- * depends on the inputs, so pass nothing secret. */
+ * depends on the inputs, so pass nothing secret. It needs TB_VERIFY_STACK. */
 bool tb_verify(const uint8_t *key, tb_size key_len, const uint8_t *text, tb_size text_len,
                const uint8_t *signature, tb_size signature_len);
 
 /* Returns what tb_verify returns for the text that is context and then value, with no buffer for
- * the whole. It is a no, too, where the two have more than 2^64 - 65 bytes together. */
+ * the whole. It is a no, too, where the two have more than 2^64 - 65 bytes together. It needs
+ * TB_VERIFY_STACK. */
 bool tb_verify_parts(const uint8_t *key, tb_size key_len, const uint8_t *context,
                      tb_size context_len, const uint8_t *value, tb_size value_len,
                      const uint8_t *signature, tb_size signature_len);
@@ -442,18 +450,19 @@ struct tb_parts {
     uint8_t pubk[32];
 };
 
-/* Takes the two signatures and the delegated key out of a response. The codes are 1 to 7. */
+/* Takes the two signatures and the delegated key out of a response. It can refuse, in this order,
+ * with 1 to 7. */
 struct tb_parts tb_signed_parts(const uint8_t *packet, tb_size packet_len);
 
-/* Writes the text that the delegation signs. It verifies where tb_parts.delegation is the signature
- * of this text under the server's long-term key. TB_LONGEST_TEXT bytes are room for any text. The
- * codes are 1 to 7 and 19. */
+/* Writes the text that the delegation signs. The delegation is good if tb_parts.delegation is a
+ * signature of this text under the server's long-term key. TB_LONGEST_TEXT bytes are room for any
+ * text. The codes are 1 to 7 and 19. */
 struct tb_wrote tb_delegation_text(const uint8_t *packet, tb_size packet_len, uint8_t *out,
                                    tb_size out_len);
 
-/* Writes the text that the response signs. It verifies where tb_parts.signature is the signature of
- * this text under tb_parts.pubk. TB_LONGEST_TEXT bytes are room for any text. The codes are 1 to 7
- * and 19. */
+/* Writes the text that the response signs. The response is good if tb_parts.signature is a
+ * signature of this text under tb_parts.pubk. TB_LONGEST_TEXT bytes are room for any text. It can
+ * refuse, in this order, with 1 to 7 and 19. */
 struct tb_wrote tb_response_text(const uint8_t *packet, tb_size packet_len, uint8_t *out,
                                  tb_size out_len);
 
@@ -473,22 +482,29 @@ struct tb_verdict {
     uint8_t pubk[32];
 };
 
-/* Checks a response against the request that it answers, with the caller's word on the signatures.
- * delegation and signature say whether each verifies: 1 is yes, and every other number is no, also
- * -1. The codes are 14 and 1 to 13. */
+/* Checks a response against the request that it answers, with the caller's answers about the
+ * signatures. delegation and signature say whether each verifies: 1 is yes, and every other number
+ * is no. So you can pass what OpenSSL returns, also -1. It can refuse, in this order, with 14,
+ * where the request is bad, and 1 to 13. */
 struct tb_verdict tb_check_response(const uint8_t *request, tb_size request_len,
                                     const uint8_t *response, tb_size response_len,
                                     uint32_t delegation, uint32_t signature);
 
 /* Writes whether the two signatures of a response verify, 1 for yes and 0 for no. out[0] is for the
  * delegation, under the server's long-term key. out[1] is for the response, under its delegated
- * key. Both are 0 where one of the codes 1 to 7 applies to the response. */
+ * key. Both are 0 where one of the codes 1 to 7 applies to the response. It needs TB_VERIFY_STACK.
+ */
 void tb_answers(const uint8_t key[32], const uint8_t *response, tb_size response_len,
                 uint8_t out[2]);
 
 /* Checks a response against the request that it answers, and both signatures, under the server's
- * long-term key. The codes are 14 and 1 to 13. Signatures are verified last, and only where no
- * other code applies. The response's is verified only where the delegation's verifies. */
+ * long-term key. On TB_PASSED the server with this key said, in answer to this request, that the
+ * time is from low to high. One server can lie: see the clock. Receive into TB_LONGEST_PACKET + 1
+ * bytes.
+ *
+ * It can refuse, in this order, with 14, where the request is bad, and 1 to 13. Signatures are
+ * verified last, and only where no other code applies. The response's is verified only where the
+ * delegation's verifies. It needs TB_VERIFY_STACK. */
 struct tb_verdict tb_check_signed(const uint8_t key[32], const uint8_t *request,
                                   tb_size request_len, const uint8_t *response,
                                   tb_size response_len);
@@ -538,7 +554,7 @@ struct tb_rooted {
     uint8_t root[32];
 };
 
-/* Returns the root of the tree of these leaves. The code is 20. */
+/* Returns the root of the tree of these leaves. It can refuse with 20. It needs TB_TREE_STACK. */
 struct tb_rooted tb_root(const uint8_t *leaves, tb_size leaves_len);
 
 /* The place of a leaf, and how many siblings were written. */
@@ -548,7 +564,8 @@ struct tb_placed {
     uint32_t depth;
 };
 
-/* Writes the siblings of the leaf at a place, first the one beside it. The codes are 20 and 19. */
+/* Writes the siblings of the leaf at a place, first the one beside it: 32 * depth bytes, at
+ * most 320. It can refuse, in this order, with 20 and 19. It needs TB_TREE_STACK. */
 struct tb_placed tb_path(const uint8_t *leaves, tb_size leaves_len, tb_size place, uint8_t *out,
                          tb_size out_len);
 
@@ -560,13 +577,15 @@ struct tb_laid {
 };
 
 /* Writes all rows of a tree, first the leaves with every empty place, and last the root. These are
- * 2^(depth + 1) - 1 nodes of 32 bytes, and the root is the 32 bytes at out + length - 32. The codes
- * are 20 and 19. */
+ * 2^(depth + 1) - 1 nodes of 32 bytes, and the root is the 32 bytes at out + length - 32.
+ * TB_MOST_ROWS_LENGTH bytes are always enough. It can refuse, in this order, with 20 and 19. It
+ * needs TB_TREE_STACK. */
 struct tb_laid tb_rows(const uint8_t *leaves, tb_size leaves_len, uint8_t *out, tb_size out_len);
 
 /* Writes the siblings of the leaf at a place, as tb_path does, out of the rows that tb_rows wrote
- * for count leaves. Nothing is hashed, and other rows are taken as they are. The codes are 20, also
- * where the rows are too short for that many leaves, and 19. */
+ * for count leaves: 32 * depth bytes, at most 320. Nothing is hashed, and other rows are taken as
+ * they are. It can refuse, in this order, with 20, also where the rows are too short for that many
+ * leaves, and 19. */
 struct tb_placed tb_path_from(const uint8_t *rows, tb_size rows_len, tb_size count, tb_size place,
                               uint8_t *out, tb_size out_len);
 
@@ -574,23 +593,24 @@ struct tb_placed tb_path_from(const uint8_t *rows, tb_size rows_len, tb_size cou
  *
  * Ed25519 of RFC 8032, 5.1.5 and 5.1.6. A key is its seed, which the RFC calls the private key: 32
  * bytes of a good random source that nobody else has. The public key is made of the seed in each
- * call. It is never taken beside the seed: with two public keys, two signatures of one text would
- * reveal the private key. The same seed and text have the same signature.
+ * call. You never pass it: with two public keys, two signatures of one text would reveal the
+ * private key. The same seed and text have the same signature.
  *
  * The seed is secret. No branch and no address depends on it: on x86-64 that is tested in the
  * compiled code, on the paths that tools/try-secrets runs, and it is not proved. What was computed
  * from a seed stays below the caller's stack, which the library cannot wipe. SECURITY.md says what
  * else is not promised, and what a host must do. */
 
-/* Writes the public key of a seed. */
+/* Writes the public key of a seed. It needs TB_SIGN_STACK. */
 void tb_public_key(const uint8_t seed[32], uint8_t out[32]);
 
-/* Writes the signature of a text. It verifies by tb_verify under the seed's public key. */
+/* Writes the signature of a text. It verifies by tb_verify under the seed's public key. It needs
+ * TB_SIGN_STACK. */
 void tb_sign(const uint8_t seed[32], const uint8_t *text, tb_size text_len, uint8_t out[64]);
 
 /* Writes the signature of the text that is context and then value, with no buffer for the whole.
  * Where the two have more than 2^64 - 65 bytes together, which no host has, it writes 64 zero
- * bytes. */
+ * bytes. It needs TB_SIGN_STACK. */
 void tb_sign_parts(const uint8_t seed[32], const uint8_t *context, tb_size context_len,
                    const uint8_t *value, tb_size value_len, uint8_t out[64]);
 
@@ -630,17 +650,19 @@ void tb_sign_parts(const uint8_t seed[32], const uint8_t *context, tb_size conte
 #define TB_SREP_LENGTH 92
 #define TB_RESPONSE_BYTES(path_len, cert_len) (264 + (path_len) + (cert_len))
 
-/* Writes DELE: the delegated public key, and the first and the last second at which it may sign.
- * The code is 19. */
+/* Writes DELE, TB_DELE_LENGTH bytes: the delegated public key, and the first and the last second at
+ * which it may sign. The code is 19. */
 struct tb_wrote tb_write_dele(const uint8_t pubk[32], uint64_t mint, uint64_t maxt, uint8_t *out,
                               tb_size out_len);
 
-/* Writes CERT: DELE of these three, and the long-term key's signature over it. The code is 19. */
+/* Writes CERT, TB_CERT_LENGTH bytes: the DELE of these three, and a signature. The signature is the
+ * long-term key's, over TB_DELEGATION_CONTEXT and then the bytes that tb_write_dele writes for the
+ * same three. It can refuse with 19. */
 struct tb_wrote tb_write_cert(const uint8_t pubk[32], uint64_t mint, uint64_t maxt,
                               const uint8_t signature[64], uint8_t *out, tb_size out_len);
 
-/* Writes SREP, with VER 1 and VERS {1}: the root of a batch, the time and its radius. The codes are
- * 7, where radi is 0, and 19. Beside this 7, at is 0. */
+/* Writes SREP, TB_SREP_LENGTH bytes, with VER 1 and VERS {1}: the root of a batch, the time and its
+ * radius. It can refuse, in this order, with 7, where radi is 0, and 19. Beside this 7, at is 0. */
 struct tb_wrote tb_write_srep(const uint8_t root[32], uint64_t midp, uint32_t radi, uint8_t *out,
                               tb_size out_len);
 
@@ -648,7 +670,7 @@ struct tb_wrote tb_write_srep(const uint8_t root[32], uint64_t midp, uint32_t ra
  * is the value of CERT. signature is that over what tb_write_srep writes for the same root, midp
  * and radi.
  *
- * The codes are:
+ * out of TB_RESPONSE_BYTES(path_len, cert_len) bytes is enough. It can refuse, in this order, with:
  *
  * - 14;
  * - 7, where radi is 0;
@@ -685,23 +707,25 @@ struct tb_batch {
  *
  * Who is answered. A packet is meant for this server if it is no longer than its slot,
  * tb_read_request takes it, and it has no SRV or this one (draft 19, 5.2). A server with several
- * long-term keys must ignore packets without SRV, and takes them out before the call. A packet that
- * is meant for the server is answered if it has at least 264 + 32 * d + cert_len bytes. Here d is
- * the least number for which no more than 2^d of them have that many. So no answer is longer than
- * its request. A packet that is too short for any answer changes nothing for the others. The tree
- * is that of the answered packets in their order, and its depth may be less than d.
+ * long-term keys must ignore packets without SRV, and must remove them before the call. A packet
+ * that is meant for the server is answered if it has at least 264 + 32 * d + cert_len bytes. Here d
+ * is the smallest number such that at most 2^d of these packets have that many bytes. So no answer
+ * is longer than its request. A packet that is too short for any answer changes nothing for the
+ * others. The tree is that of the answered packets in their order, and its depth may be less than
+ * d.
  *
  * What is written. out_lengths[i] is the length of the answer to packet i, or 0. That answer starts
  * at out + i * room. The front of rows is what tb_rows writes for the leaves of the answered
  * packets. All else stays: the rest of each room, the room of a packet without answer, out_lengths
  * behind the packets', and all of rows where nobody is answered, which is no refusal. rows, out and
- * out_lengths overlap nothing.
+ * out_lengths overlap nothing. TB_MOST_ROWS_LENGTH bytes of rows, and a room of
+ * TB_ANSWER_ROOM(cert_len), are always enough. It needs TB_BATCH_STACK.
  *
  * Each answer is what tb_write_response writes of the same. It passes tb_check_signed for its
  * request if the long-term key signed CERT, which is not checked here. The seed's public key, which
  * is no secret, is compared with PUBK.
  *
- * The codes are:
+ * It can refuse, in this order, with:
  *
  * - 7, where radi is 0;
  * - 4 to 7 of CERT, then of its DELE, with at as in tb_write_response;
@@ -730,7 +754,9 @@ struct tb_found {
 
 /* Looks up the server with the SRV value srv, in the owner's list and then in the shipped one. A
  * list is records of TB_SERVER_LENGTH bytes, each a long-term key and then its SRV value. It may be
- * empty. The first match wins. The codes are 21 and 22. */
+ * empty. The first match wins. That an SRV value belongs to its key is not checked. It can refuse,
+ * in this order, with 21, where a list is not whole records, and 22, where neither list has the
+ * server. */
 struct tb_found tb_find_server(const uint8_t *owner, tb_size owner_len, const uint8_t *shipped,
                                tb_size shipped_len, const uint8_t srv[32]);
 
@@ -743,7 +769,7 @@ struct tb_found tb_find_server(const uint8_t *owner, tb_size owner_len, const ui
  * has 32 bytes. Other servers are passed over, and counted. Places count from 0. Places of servers
  * count servers that can be asked, in the order of their records.
  *
- * The codes of the five readers below are, in this order:
+ * The five readers below can refuse, in this order, with:
  *
  * - 24: the text is no such list, for one of the reasons below. Every server is looked at, also one
  *   that is passed over.
@@ -774,12 +800,14 @@ struct tb_servers {
 };
 
 /* Writes the record of each server that can be asked, in the list's order and TB_SERVER_LENGTH
- * bytes each. tb_find_server takes these records. The codes are 24, 25 and 19. */
+ * bytes each. tb_find_server takes these records. TB_LISTED_SERVERS * TB_SERVER_LENGTH bytes are
+ * always enough. It can refuse, in this order, with 24, 25 and 19. */
 struct tb_servers tb_read_servers(const uint8_t *text, tb_size text_len, uint8_t *out,
                                   tb_size out_len);
 
 /* Writes the name of the server at a place, in UTF-8. The name is for people. It may hold any
- * characters, so do not print it to a terminal as it is. The codes are 24, 25, 36 and 19. */
+ * characters, so do not print it to a terminal as it is. A buffer as long as the text is always
+ * enough. It can refuse, in this order, with 24, 25, 36 and 19. */
 struct tb_wrote tb_server_name(const uint8_t *text, tb_size text_len, tb_size place, uint8_t *out,
                                tb_size out_len);
 
@@ -792,24 +820,27 @@ struct tb_addressed {
 
 /* Writes an address of the server at a place; which is the place of the address. It is a host, a
  * colon and a port from 0 to 65535. The host is an IPv4 address, an IPv6 address in brackets, or a
- * name. The codes are 24, 25, 36 and 19. */
+ * name. A buffer as long as the text is always enough. It can refuse, in this order, with 24, 25,
+ * 36 and 19. */
 struct tb_addressed tb_server_address(const uint8_t *text, tb_size text_len, tb_size place,
                                       tb_size which, uint8_t *out, tb_size out_len);
 
-/* Writes the URL at a place of "sources", where a GET returns newer lists. The codes are 24, 25, 36
- * and 19. */
+/* Writes the URL at a place of "sources", where a GET returns newer lists. A buffer as long as the
+ * text is always enough. It can refuse, in this order, with 24, 25, 36 and 19. */
 struct tb_wrote tb_list_source(const uint8_t *text, tb_size text_len, tb_size place, uint8_t *out,
                                tb_size out_len);
 
-/* Writes the URL of "reports", to which reports may be sent by POST (draft 19, section 8.4.2). The
- * codes are 24, 25, 36, where the list names none, and 19. */
+/* Writes the URL of "reports", to which reports may be sent by POST (draft 19, section 8.4.2). A
+ * buffer as long as the text is always enough. It can refuse, in this order, with 24, 25, 36, where
+ * the list names none, and 19. */
 struct tb_wrote tb_list_reports(const uint8_t *text, tb_size text_len, uint8_t *out,
                                 tb_size out_len);
 
 /* Writes one server as an object of such a list, without blanks, and with escapes only where they
  * are needed. Its publicKeyType is "ed25519". addresses has a line for each address: udp or tcp, a
- * blank, a host, a colon, a port and a line feed. The codes are 24, where the name is not UTF-8 or
- * a line is wrong; 25, where there are more than TB_LISTED_ADDRESSES; and 19. */
+ * blank, a host, a colon, a port and a line feed. It can refuse, in this order, with 24, where the
+ * name is not UTF-8 or a line is wrong; 25, where there are more than TB_LISTED_ADDRESSES; and 19,
+ * where a larger buffer is needed. */
 struct tb_wrote tb_write_server(const uint8_t *name, tb_size name_len, uint32_t version,
                                 const uint8_t key[32], const uint8_t *addresses,
                                 tb_size addresses_len, uint8_t *out, tb_size out_len);
@@ -820,14 +851,14 @@ struct tb_wrote tb_write_server(const uint8_t *name, tb_size name_len, uint32_t 
  * server's lines. sources has a line for each URL, and reports is a URL. Where either is empty the
  * list has no such member. The lengths of versions, name_lengths and address_lengths count numbers.
  *
- * The codes are:
+ * It can refuse, in this order, with:
  *
  * - 21, where keys_len is not 32 a server, name_lengths or address_lengths has not one number a
  *   server, or their sums are not names_len and addresses_len;
  * - 24, as in tb_write_server, and where a URL is not one of https or is longer than 2,048 bytes;
  * - 25, where there is no server, more than TB_LISTED_SERVERS, or one with more than
  *   TB_LISTED_ADDRESSES addresses;
- * - 19. */
+ * - 19, where a larger buffer is needed. */
 struct tb_wrote tb_write_servers(const uint8_t *keys, tb_size keys_len, const uint32_t *versions,
                                  tb_size versions_len, const uint8_t *names, tb_size names_len,
                                  const uint32_t *name_lengths, tb_size name_lengths_len,
@@ -896,15 +927,15 @@ static inline struct tb_verdict tb_verdict_of(struct tb_judged judged) {
     return verdict;
 }
 
-/* Judges the record at a place by the caller's answers. Links and rands play no part. The codes are
- * 15, also where there is no such record, 16, 14 and 1 to 13. */
+/* Judges the record at a place by the caller's answers. Links and rands are not checked. It can
+ * refuse, in this order, with 15, also where there is no such record, 16, 14 and 1 to 13. */
 struct tb_judged tb_judge(const uint8_t *pile, tb_size pile_len, const uint8_t *answers,
                           tb_size answers_len, tb_size place);
 
 /* Judges the record at a place, and verifies its signatures by the key in the record. Links and
- * rands play no part. The codes are 15, where the pile is not 1 to 16 whole records or there is no
- * such record, 16, 14 and 1 to 13. Signatures are verified last, and only where no other code
- * applies. */
+ * rands are not checked. It can refuse, in this order, with 15, where the pile is not 1 to 16 whole
+ * records or there is no such record, 16, 14 and 1 to 13. Signatures are verified last, and only
+ * where no other code applies. It needs TB_VERIFY_STACK. */
 struct tb_judged tb_judge_signed(const uint8_t *pile, tb_size pile_len, tb_size place);
 
 /* Returns whether the record at a place is linked to the one before it. It is not, where that
@@ -917,22 +948,24 @@ bool tb_linked(const uint8_t *pile, tb_size pile_len, tb_size place);
 bool tb_first_rand_zero(const uint8_t *pile, tb_size pile_len);
 
 /* Returns true where an earlier window contradicts a later one: earlier_midp - earlier_radi is
- * above later_midp + later_radi, in whole numbers that neither wrap nor stop. mint, maxt and the
- * keys play no part. */
+ * above later_midp + later_radi, without overflow. mint, maxt and the keys play no part. */
 bool tb_contradicts(uint64_t earlier_midp, uint32_t earlier_radi, uint64_t later_midp,
                     uint32_t later_radi);
 
-/* Returns whether some two valid records of a pile contradict each other, the earlier the later. It
- * returns a code, since a pile can be refused. 0, TB_PASSED, is yes; tb_contradicts returns true
- * for that. 18 is no, and 15 says that the pile or its answers are not what they must be. Links,
- * rands and bad records between the two play no part: 0 does not say that a run convicts by itself.
- */
+/* Returns whether a valid record of a pile contradicts a later valid one, as a code, since a pile
+ * can be refused:
+ *
+ * - 0, TB_PASSED: yes. (tb_contradicts returns true for that.)
+ * - 18: no.
+ * - 15: the pile or its answers are not what they must be.
+ *
+ * Links, rands and bad records between the two are not looked at: 0 does not say that a run
+ * convicts by itself. */
 uint32_t tb_pile_contradicts(const uint8_t *pile, tb_size pile_len, const uint8_t *answers,
                              tb_size answers_len);
 
 /* What is kept of windows that are judged as they come: the largest midp - radi so far, which stops
- * at 0, and 0 before any. The state is yours, and can be copied and kept. Every number is that of
- * some windows, so none does harm. */
+ * at 0, and 0 before any. The state is yours, and can be copied and kept. Any value is safe. */
 struct tb_tally {
     uint64_t most;
 };
@@ -966,10 +999,9 @@ struct tb_reported {
 
 /* Checks whether a pile is a report, by the caller's answers. It is one where each record is valid,
  * the first rand is all zero, each later record is linked, and some two records contradict each
- * other. Of all such pairs it names the two that are closest together, and of those as close the
- * first.
+ * other. If several pairs do, it names the closest pair, and the first of equally close ones.
  *
- * The codes are:
+ * It can refuse, in this order, with:
  *
  * - 15;
  * - 16, 14 or 1 to 13, of the first record that is not valid;
@@ -979,8 +1011,13 @@ struct tb_reported tb_check_report(const uint8_t *pile, tb_size pile_len, const 
                                    tb_size answers_len);
 
 /* Checks whether a pile is a report, as tb_check_report does, and verifies the signatures of each
- * record by the key in it. The codes are those of tb_check_report. Look up whose keys are in the
- * records: anybody can make a report with keys of his own. */
+ * record by the key in it. Look up whose keys are in the records: anybody can make a report with
+ * keys of his own. It needs TB_VERIFY_STACK. It can refuse, in this order, with:
+ *
+ * - 15, where the pile is not 1 to 16 whole records;
+ * - 16, 14 or 1 to 13, of the first record that is not valid;
+ * - 17, of the first record that is not linked, or of record 0 where its rand is not zero;
+ * - 18. */
 struct tb_reported tb_check_signed_report(const uint8_t *pile, tb_size pile_len);
 
 /* Which run was cut: the places in the pile of its first and last record. */
@@ -990,19 +1027,21 @@ struct tb_cut {
     uint64_t last;
 };
 
-/* Cuts out of a pile the shortest run of records that convicts by itself, and of those as short the
- * first. Its records are valid by the caller's answers, each after its first is linked, and two of
- * them contradict each other. A bad record is no refusal, but no run goes through it.
+/* Cuts out of a pile the shortest run of records that convicts by itself, and the first of equally
+ * short ones. A run is records in a row. Its records are valid by the caller's answers, each after
+ * its first is linked, and two of them contradict each other. A bad record is no refusal, but no
+ * run goes through it.
  *
  * It writes the run's (last - first + 1) * TB_RECORD_LENGTH bytes, with the rand of its first
  * record set to zero. With the answers of its records the run is then a report. out must be as long
- * as the pile, however short the run is. The codes are 15, 19 and 18. */
+ * as the pile, however short the run is. It can refuse, in this order, with 15, 19 and 18. */
 struct tb_cut tb_cut_run(const uint8_t *pile, tb_size pile_len, const uint8_t *answers,
                          tb_size answers_len, uint8_t *out, tb_size out_len);
 
 /* Cuts out the shortest run that convicts by itself, as tb_cut_run does, and verifies the
- * signatures of each record by the key in it. What is written is a report by
- * tb_check_signed_report, with nothing beside it. The codes are 15, 19 and 18. */
+ * signatures of each record by the key in it. It writes (last - first + 1) * TB_RECORD_LENGTH
+ * bytes, which are a report by tb_check_signed_report. out must be as long as the pile, however
+ * short the run is. It can refuse, in this order, with 15, 19 and 18. It needs TB_VERIFY_STACK. */
 struct tb_cut tb_cut_signed_run(const uint8_t *pile, tb_size pile_len, uint8_t *out,
                                 tb_size out_len);
 
@@ -1022,17 +1061,18 @@ struct tb_records {
     uint64_t records;
 };
 
-/* Reads a text, and writes its records, TB_RECORD_LENGTH bytes each. The codes are:
+/* Reads a text, and writes its records, TB_RECORD_LENGTH bytes each. It can refuse, in this order,
+ * with:
  *
- * - 24: the text is no report, for one of the reasons below. Every entry is judged for it before 25
- *   is, past the 16th too.
+ * - 24: the text is no report, for one of the reasons below. All entries are checked for 24 before
+ *   25 is.
  * - 25: there is no entry or more than 16, or a packet has more than 2,000 bytes.
  * - 19: out has fewer than TB_RECORD_LENGTH bytes a record. TB_MOST_PILE_LENGTH is always enough.
  *
  * The reasons for 24:
  *
- * - it is not JSON (RFC 8259): it is not UTF-8, has a byte order mark, has more than blanks behind
- *   its value, or has more than 16 objects and arrays one within another;
+ * - it is not JSON (RFC 8259): it is not UTF-8, has a byte order mark, has anything but blanks
+ *   after its value, or has more than 16 objects and arrays one within another;
  * - a needed member is missing, repeated or of the wrong kind;
  * - a string is not base64 (RFC 4648, 4), which must have its padding, spare bits of zero and no
  *   line breaks;
@@ -1056,12 +1096,15 @@ struct tb_published {
 /* Writes the text of a report, by the caller's answers. It has no blanks and no escapes, its
  * members are in the order rand, publicKey, request, response, and the first entry has no rand. out
  * of TB_LONGEST_REPORT bytes is always long enough. tb_read_report makes the same pile of the text.
- * The codes are those of tb_check_report, and then 19. */
+ * It can refuse, in this order, with those of tb_check_report: 15; 16, 14 or 1 to 13; 17; 18; and
+ * then 19. */
 struct tb_published tb_write_report(const uint8_t *pile, tb_size pile_len, const uint8_t *answers,
                                     tb_size answers_len, uint8_t *out, tb_size out_len);
 
 /* Writes the text of a report, as tb_write_report does, and verifies the signatures of each record
- * by the key in it. The codes are those of tb_check_signed_report, and then 19. */
+ * by the key in it. out of TB_LONGEST_REPORT bytes is always long enough. It can refuse, in this
+ * order, with those of tb_check_signed_report: 15; 16, 14 or 1 to 13; 17; 18; and then 19. It needs
+ * TB_VERIFY_STACK. */
 struct tb_published tb_write_signed_report(const uint8_t *pile, tb_size pile_len, uint8_t *out,
                                            tb_size out_len);
 
@@ -1073,15 +1116,18 @@ struct tb_forwarded {
     uint64_t length;
 };
 
-/* From text to text in one call. It reads the text as tb_read_report does, cuts out the shortest
- * run that convicts by itself as tb_cut_run does, and writes that run's text. The answers are two
- * bytes for each record of the text. The codes are 24 and 25, 15 for the answers, 18, and 19 for
- * the text. It needs TB_TEXT_STACK. */
+/* Cuts a report in JSON, and writes the result as JSON, in one call. It reads the text as
+ * tb_read_report does, cuts out the shortest run that convicts by itself as tb_cut_run does, and
+ * writes that run's text. The answers are two bytes for each record of the text. It can refuse, in
+ * this order, with 24 and 25, 15 for the answers, 18, and 19 for the text. It needs TB_TEXT_STACK.
+ */
 struct tb_forwarded tb_cut_text(const uint8_t *text, tb_size text_len, const uint8_t *answers,
                                 tb_size answers_len, uint8_t *out, tb_size out_len);
 
-/* From text to text in one call, as tb_cut_text does, and verifies the signatures of each record by
- * the key in it. The codes are 24, 25, 18, and 19 for the text. It needs TB_TEXT_STACK. */
+/* Cuts a report in JSON, and writes the result as JSON, in one call. It does what tb_cut_text does,
+ * and verifies the signatures of each record by the key in it. out of TB_LONGEST_REPORT bytes is
+ * always long enough. It can refuse, in this order, with 24, 25, 18, and 19 for the text. It needs
+ * TB_TEXT_STACK. */
 struct tb_forwarded tb_cut_signed_text(const uint8_t *text, tb_size text_len, uint8_t *out,
                                        tb_size out_len);
 
@@ -1101,10 +1147,10 @@ struct tb_forwarded tb_cut_signed_text(const uint8_t *text, tb_size text_len, ui
  *         took = tb_walk_take_signed(&walk, ..);   where it is refused: wait, and ask again
  *     }
  *
- * The loop goes by the code of tb_walk_ask. So it also ends where you go on with a walk that you
- * kept and that had ended before. took.outcome is then still TB_NOTHING_SAID.
+ * The loop goes by the code of tb_walk_ask. So it also ends for a stored walk that had ended.
+ * took.outcome is then still TB_NOTHING_SAID.
  *
- * The pile is at the front of your buffer, which has room for two records a server. You lend it at
+ * The pile is at the front of your buffer, which has room for two records a server. You pass it at
  * each call, and must not alter it between calls. It holds one record for each response that was
  * taken; with 8 servers it is TB_MOST_PILE_LENGTH bytes in the end. The rest of the buffer stays.
  * Once the walk has ended, tb_check_report with every answer yes says of that pile what the walk
@@ -1150,10 +1196,10 @@ struct tb_asked {
  * - TB_PILE_ALTERED: the walk has ended, and the buffer is not what the walk wrote. Nothing is said
  *   of the servers.
  *
- * TB_PILE_ALTERED is said where a record is no longer valid, with every answer yes, or no longer
- * linked, or the first rand is not zero. So it notices every altered byte of the pile but those of
- * the keys, as far as no two texts have one hash. An altered key is not noticed, since no check
- * reads it but with a signature: tb_check_signed_report returns 12 for such a record. */
+ * TB_PILE_ALTERED means that a record is no longer valid, with every answer yes, or no longer
+ * linked, or that the first rand is not zero. So it notices every altered byte of the pile except
+ * in the keys, if SHA-512 has no collision. An altered key is not noticed, since no check reads it
+ * but with a signature: tb_check_signed_report returns 12 for such a record. */
 enum tb_outcome {
     TB_NOTHING_SAID = 0,
     TB_GOES_ON = 1,
@@ -1162,11 +1208,11 @@ enum tb_outcome {
     TB_PILE_ALTERED = 4
 };
 
-/* What is said of a response: a code, beside which the outcome is TB_NOTHING_SAID, or how the walk
- * stands. On TB_MALFEASANCE only, first and second are the places of two records that contradict
- * each other, as tb_check_report names them. at is a byte of the response packet. The rest is the
- * window of the response that was taken, as in tb_verdict, for the server that tb_asked named. The
- * last response has one, too, whatever the outcome is. Beside a code it is zeros. pubk is not here:
+/* The result for one response. If code is not 0, outcome is TB_NOTHING_SAID. On TB_MALFEASANCE
+ * only, first and second are the places of two records that contradict each other, as
+ * tb_check_report names them. at is a byte of the response packet. The rest is the window of the
+ * response that was taken, as in tb_verdict, for the server that tb_asked named. The last response
+ * has one, too, whatever the outcome is. Beside a code it is zeros. pubk is not here:
  * tb_judge_signed of the record returns it. */
 struct tb_took {
     uint32_t code;
@@ -1205,9 +1251,9 @@ struct tb_took tb_walk_take_signed_fields(const uint8_t keys[256], uint64_t coun
 
 /* Starts a walk over the servers with these long-term keys, 32 bytes each, in their order. nonce is
  * 32 random bytes. longest is the longest delay in seconds that a response may take. Nothing is
- * written to the pile. The codes are 31, where the keys are not 3 to 8 whole ones or one is there
- * twice, and 19, where the pile has under two records a server. On a refusal the state stays as it
- * was. A state of zeros is no walk: every call on it is refused with 28. */
+ * written to the pile. It can refuse, in this order, with 31, where the keys are not 3 to 8 whole
+ * ones or one is there twice, and 19, where the pile has under two records a server. On a refusal
+ * the state stays as it was. A state of zeros is no walk: every call on it is refused with 28. */
 static inline uint32_t tb_walk_start(struct tb_walk *walk, const uint8_t *servers,
                                      tb_size servers_len, const uint8_t nonce[32], uint64_t longest,
                                      const uint8_t *pile, tb_size pile_len) {
@@ -1217,18 +1263,25 @@ static inline uint32_t tb_walk_start(struct tb_walk *walk, const uint8_t *server
 }
 
 /* Returns which server is asked next, and writes the request to it: TB_REQUEST_LENGTH bytes.
- * Nothing else changes, so asking again gives the same. The codes are 28 and 19. */
+ * Nothing else changes, so asking again gives the same. It can refuse, in this order, with 28
+ * and 19. */
 static inline struct tb_asked tb_walk_ask(const struct tb_walk *walk, uint8_t *out,
                                           tb_size out_len) {
     return tb_walk_ask_fields(walk->keys, walk->count, walk->step, walk->nonce, walk->rand,
                               walk->last, walk->most, out, out_len);
 }
 
-/* Takes the response to the request that is asked, by the caller's word on its signatures.
- * delegation and signature say whether each verifies: 1 is yes, and every other number is no. sent
- * and received are when the request was sent and the response received, by the caller's own clock,
- * in seconds. rand is 32 random bytes for the next request. The codes are 28; 19, where the pile
- * has under two records a server; 26; 27; and then 1 to 13, as in tb_check_response. */
+/* Takes the response to the request that tb_walk_ask wrote, by the caller's answers about its
+ * signatures. delegation and signature say whether each verifies: 1 is yes, and every other number
+ * is no. sent and received are when the request was sent and the response received, by the caller's
+ * own clock, in seconds. rand is 32 random bytes for the next request. pile is the same buffer at
+ * every call. It can refuse, in this order, with:
+ *
+ * - 28, where the walk has ended;
+ * - 19, where the pile has under two records a server;
+ * - 26, where received is before sent, or sent is before the last receipt;
+ * - 27, where it took longer than the walk's longest delay;
+ * - 1 to 13, as in tb_check_response. */
 static inline struct tb_took tb_walk_take(struct tb_walk *walk, uint32_t delegation,
                                           uint32_t signature, uint64_t sent, uint64_t received,
                                           const uint8_t rand[32], const uint8_t *response,
@@ -1238,10 +1291,18 @@ static inline struct tb_took tb_walk_take(struct tb_walk *walk, uint32_t delegat
                                response, response_len, pile, pile_len);
 }
 
-/* Takes the response to the request that is asked, and verifies its signatures under the key of the
- * server that is asked. sent and received are when the request was sent and the response received,
- * by the caller's own clock, in seconds. rand is 32 random bytes for the next request. The codes
- * are those of tb_walk_take. Signatures are verified last, and only where no other code applies. */
+/* Takes the response to the request that tb_walk_ask wrote, and verifies its signatures under the
+ * key of the server that is asked. sent and received are when the request was sent and the response
+ * received, by the caller's own clock, in seconds. rand is 32 random bytes for the next request.
+ * pile is the same buffer at every call. It needs TB_VERIFY_STACK. It can refuse, in this order,
+ * with:
+ *
+ * - 28, where the walk has ended;
+ * - 19, where the pile has under two records a server;
+ * - 26, where received is before sent, or sent is before the last receipt;
+ * - 27, where it took longer than the walk's longest delay;
+ * - 1 to 13, as in tb_check_signed. Signatures are verified last, and only where no other code
+ *   applies. */
 static inline struct tb_took tb_walk_take_signed(struct tb_walk *walk, uint64_t sent,
                                                  uint64_t received, const uint8_t rand[32],
                                                  const uint8_t *response, tb_size response_len,
@@ -1267,8 +1328,8 @@ static inline struct tb_took tb_walk_take_signed(struct tb_walk *walk, uint64_t 
  *
  * What the host must do:
  *
- * - liars. Of n servers that you ask, at most (n - 1) / 2 may lie. A silent server lowers counted.
- *   With 2 * liars >= counted the answer is still right, but one liar may stretch it.
+ * - liars. If you ask n servers, pass at most (n - 1) / 2. A silent server lowers counted. With 2 *
+ *   liars >= counted the answer is still right, but one liar may stretch it.
  * - drift. State what the maker of the clock crystal states, and more for heat and age. 100 is
  *   usual, and 500 more where the system slews the clock. Too small a drift is the one lie that
  *   nothing shows.
@@ -1278,19 +1339,18 @@ static inline struct tb_took tb_walk_take_signed(struct tb_walk *walk, uint64_t 
  *   may be to any copy. Read received after the response came, and round it up.
  * - Which windows. Give each server one number, for good. Take windows of valid responses alone,
  *   each to a request whose nonce nobody could guess.
- * - Leap seconds. The time is that of timestamps, which stand still for a second at one (draft 19,
- *   4.1.4). After it, a window from before is a second too late, as if its server lied. Beside
- *   windows from after it the time may be wrong, and honest servers suspect. Servers allow for it
- *   in their radi while it happens. If you know of one, start a new state after it.
+ * - Leap seconds. The time counts none: it stands still for one second there (draft 19, 4.1.4).
+ *   After it, a window from before is a second too late, as if its server lied. Beside windows from
+ *   after it the time may be wrong, and honest servers suspect. Servers allow for it in their radi
+ *   while it happens. If you know of one, start a new state after it.
  *
  * How the time is found (Marzullo 1984). The span of a window at a moment starts at low, plus what
  * has passed since it was received, less the drift. It ends at high, plus what has passed since its
  * request was first sent, plus the drift. It is rounded outwards. A window is not used where, at
  * the moment that is asked about, its own high end is past its maxt; maxt itself still counts. The
  * span of a server is what all its used windows allow, and a server that has one is counted. The
- * servers are counted at the newest receipt among the used windows, and from there the two ends
- * drift on to the moment. So waiting brings no agreement and clears no suspect. Until a window is
- * taken or one passes its maxt, only the ends change, and code 26.
+ * servers are counted at the newest receipt among the used windows. From there the two ends move on
+ * with your clock. So waiting changes only the ends: it brings no agreement and clears no suspect.
  *
  * The state is yours. You can copy it, and keep it as long as the machine runs. It must be
  * initialised memory before it is started ({0} in C, {} in C++). A state of zeros is what a start
@@ -1314,7 +1374,7 @@ struct tb_clock {
 };
 
 /* The time at a moment: from low to high, in microseconds since 1970. stopped is 1 where high is
- * 2^64 - 1: there an end stopped, and the time may be later. counted is how many servers were
+ * 2^64 - 1: the result did not fit, and the time may be later. counted is how many servers were
  * counted. agree and suspects are sets of these, in which server s is the bit 1 << s: those whose
  * span meets the time, and those whose span does not. Each counted server is in one of the two. */
 struct tb_time {
@@ -1341,7 +1401,7 @@ struct tb_time tb_clock_now_fields(uint32_t drift, const uint64_t low[16], const
                                    const uint64_t received[16], uint64_t moment, uint64_t liars);
 
 /* Starts, before any window. drift is the most by which the host's own clock goes wrong, in parts
- * per million, below 1,000,000. The code is 32. On a refusal the state stays as it was. */
+ * per million, below 1,000,000. It can refuse with 32. On a refusal the state stays as it was. */
 static inline uint32_t tb_clock_start(struct tb_clock *clock, uint32_t drift) {
     return tb_clock_start_fields(&clock->drift, clock->low, clock->high, clock->maxt, clock->sent,
                                  clock->received, drift);
@@ -1349,13 +1409,13 @@ static inline uint32_t tb_clock_start(struct tb_clock *clock, uint32_t drift) {
 
 /* Takes the window of a valid response of a server, 0 to 7. low, high and maxt are as in its
  * tb_verdict, tb_judged or tb_took. sent is when the first copy of its request was sent, and
- * received when it was received. Two of so many numbers are easily swapped: the two functions after
- * this one take a whole answer. The window becomes that server's newest, and the one before the
- * newest so far is forgotten.
+ * received when it was received. Both are microseconds of the host's own clock. Prefer the next two
+ * functions, which take a whole answer: it is easy to swap numbers here. The window becomes that
+ * server's newest, and the one before the newest so far is forgotten.
  *
- * The codes are 32, where the server is above 7; and 26, where it was received before it was sent
- * for, or before the last window that was taken of that server. Windows of two servers may be taken
- * in any order. On a refusal the state stays as it was. */
+ * It can refuse, in this order, with 32, where the server is above 7; and 26, where it was received
+ * before it was sent for, or before the last window that was taken of that server. Windows of two
+ * servers may be taken in any order. On a refusal the state stays as it was. */
 static inline uint32_t tb_clock_take(struct tb_clock *clock, uint64_t server, uint64_t low,
                                      uint64_t high, uint64_t maxt, uint64_t sent,
                                      uint64_t received) {
@@ -1364,8 +1424,9 @@ static inline uint32_t tb_clock_take(struct tb_clock *clock, uint64_t server, ui
 }
 
 /* Takes the window of a valid response from what tb_check_signed, tb_check_response or
- * tb_verdict_of returned. The codes are the answer's own, where it is a refusal, and then nothing
- * is taken; else those of tb_clock_take. */
+ * tb_verdict_of returned. sent and received are microseconds of the host's own clock. It can
+ * refuse, in this order, with the answer's own, where it is a refusal, and then nothing is taken;
+ * else those of tb_clock_take. */
 static inline uint32_t tb_clock_take_verdict(struct tb_clock *clock, uint64_t server,
                                              struct tb_verdict said, uint64_t sent,
                                              uint64_t received) {
@@ -1377,8 +1438,8 @@ static inline uint32_t tb_clock_take_verdict(struct tb_clock *clock, uint64_t se
 
 /* Takes the window of a response from what tb_walk_take_signed or tb_walk_take returned, whatever
  * the outcome is. server is the one that tb_asked named. sent and received are microseconds here,
- * and seconds in the walk. The codes are the answer's own, where it is a refusal, and then nothing
- * is taken; else those of tb_clock_take. */
+ * and seconds in the walk. It can refuse, in this order, with the answer's own, where it is a
+ * refusal, and then nothing is taken; else those of tb_clock_take. */
 static inline uint32_t tb_clock_take_walked(struct tb_clock *clock, uint64_t server,
                                             struct tb_took took, uint64_t sent, uint64_t received) {
     if (took.code != TB_PASSED) return took.code;
@@ -1387,8 +1448,8 @@ static inline uint32_t tb_clock_take_walked(struct tb_clock *clock, uint64_t ser
                                 received);
 }
 
-/* Returns the time at a moment of the host's own clock, where at most `liars` of the counted
- * servers lie. Nothing changes. The codes are:
+/* Returns the time at a moment of the host's own clock, in microseconds, where at most `liars` of
+ * the counted servers lie. Nothing changes. It can refuse, in this order, with:
  *
  * - 26: the moment is before the receipt of some window that was taken;
  * - 33: no more servers are counted than may lie;
@@ -1430,8 +1491,8 @@ struct tb_old {
 /* Returns the window of an old MIDP and RADI. A day has 86,400 seconds. low is the largest whole
  * second that is not after MIDP - RADI, or 0 where that is before 1970. high is the smallest that
  * is not before MIDP + RADI. Microseconds of the day from 86,400,000,000 to 86,400,999,999, a leap
- * second, are all read as the next midnight before RADI is applied. The code is 29, where the day
- * is under 40587 or the microseconds are 86,401,000,000 or more. */
+ * second, are all read as the next midnight before RADI is applied. It can refuse with 29, where
+ * the day is under 40587 or the microseconds are 86,401,000,000 or more. */
 struct tb_old tb_old_window(uint64_t midp, uint32_t radi);
 
 /* ---- Layouts ----

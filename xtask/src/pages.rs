@@ -1,8 +1,8 @@
 //! Holds the pages to what makes them readable: README has at most 150 lines, no sentence has above
 //! 40 words, those of a page have at most 25 on average, and a line of prose ends at 100 columns.
-//! The comments of the header are a page, too.
+//! The comments of the header are a page, too, and so are the manual pages.
 
-use crate::prose::{of_header, of_markdown, Prose, Sentence};
+use crate::prose::{of_header, of_manual, of_markdown, Prose, Sentence};
 use crate::report::{at, no_words, unless, Verdict};
 use crate::scan::numbered;
 use crate::tree::Tree;
@@ -10,6 +10,7 @@ use crate::tree::Tree;
 const README: &str = "README.md";
 const HEADER: &str = "include/trawlbeacon.h";
 const OTHERS: [&str; 3] = ["CHANGELOG.md", "CONTRIBUTING.md", "SECURITY.md"];
+const MANUALS: &str = "man/";
 
 const MOST_LINES: usize = 150;
 const MOST_WORDS: usize = 40;
@@ -22,7 +23,7 @@ pub fn check(tree: &Tree, words: &[&str]) -> Verdict {
     let mut held = Vec::new();
     for page in pages(tree) {
         let text = tree.read(&page)?;
-        let prose = if page == HEADER { of_header(&text) } else { of_markdown(&text) };
+        let prose = prose_of(&page, &text);
         if page == README && text.lines().count() > MOST_LINES {
             let found = format!("has {} lines, above {MOST_LINES}", text.lines().count());
             problems.push(format!("{page}: {found}"));
@@ -40,8 +41,16 @@ pub fn check(tree: &Tree, words: &[&str]) -> Verdict {
     unless(problems, said)
 }
 
-/// README, the pages beside it and those of docs, but not the notes in a folder below, and the
-/// header.
+fn prose_of(page: &str, text: &str) -> Prose {
+    match page {
+        HEADER => of_header(text),
+        _ if page.starts_with(MANUALS) => of_manual(text),
+        _ => of_markdown(text),
+    }
+}
+
+/// README, the pages beside it and those of docs, but not the notes in a folder below, the manual
+/// pages, and the header.
 fn pages(tree: &Tree) -> Vec<String> {
     let in_docs = |file: &String| {
         let name = file.strip_prefix("docs/").and_then(|name| name.strip_suffix(".md"));
@@ -49,7 +58,9 @@ fn pages(tree: &Tree) -> Vec<String> {
     };
     let mut pages = vec![String::from(README)];
     pages.extend(OTHERS.iter().map(|page| page.to_string()));
-    pages.extend(tree.files().into_iter().filter(in_docs));
+    let files = tree.files();
+    pages.extend(files.iter().filter(|file| in_docs(file)).cloned());
+    pages.extend(files.into_iter().filter(|file| file.starts_with(MANUALS)));
     pages.push(HEADER.into());
     pages
 }
@@ -103,6 +114,7 @@ mod tests {
             (OTHERS[2], "One promise.\n"),
             ("docs/GUIDE.md", "One two three four.\n"),
             ("docs/landings/01.md", &"word ".repeat(50)),
+            ("man/name.1", ".TH NAME 1\nOne two three four.\n"),
             (HEADER, "/* One two. */\nint x;\n"),
         ])
     }
@@ -110,7 +122,7 @@ mod tests {
     #[test]
     fn pages_that_can_be_read_pass() {
         let said = check(&right().tree(), &[]).unwrap();
-        assert_eq!(said, "7 sentences, of 2.5 words on average and 4 at the most");
+        assert_eq!(said, "8 sentences, of 2.7 words on average and 4 at the most");
     }
 
     #[test]
@@ -131,6 +143,15 @@ mod tests {
         let due = "a sentence of 41 words, above 40: one two one two one two one ..";
         let due = [format!("docs/GUIDE.md:3: {due}"), format!("{HEADER}:1: {due}")];
         assert_eq!(found(check(&scratch.tree(), &[])), due);
+    }
+
+    #[test]
+    fn a_sentence_of_41_words_is_found_in_a_manual() {
+        let scratch = right();
+        let long = format!(".SH A\n{}end.\n", ".B one\ntwo\n".repeat(20));
+        scratch.put("man/name.1", &(long + &"C.\n".repeat(40)));
+        let due = "man/name.1:2: a sentence of 41 words, above 40: one two one two one two one ..";
+        assert_eq!(found(check(&scratch.tree(), &[])), [due]);
     }
 
     #[test]

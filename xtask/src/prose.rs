@@ -1,4 +1,4 @@
-//! The sentences of a page in Markdown, and of the comments of a header in C.
+//! The sentences of a page in Markdown, of a manual page, and of the comments of a header in C.
 //!
 //! A sentence ends at a full stop, a question mark or an exclamation mark before a blank, and at the
 //! end of its paragraph or list item. Code blocks, tables, headings, pictures and comments of HTML
@@ -104,6 +104,25 @@ fn behind_mark(line: &str) -> Option<&str> {
     })
 }
 
+/// The macros of a manual page that set words in another font, and leave them in their sentence.
+const FONTS: [&str; 8] = ["B", "I", "BI", "BR", "IB", "IR", "RB", "RI"];
+
+/// A manual page: every other macro ends a paragraph, and its words are none of a sentence.
+pub fn of_manual(text: &str) -> Prose {
+    let mut found = Paragraphs::default();
+    for (number, line) in numbered(text) {
+        let Some(call) = line.strip_prefix('.') else {
+            found.add(number, line);
+            continue;
+        };
+        match call.split_once(' ') {
+            Some((name, words)) if FONTS.contains(&name) => found.add(number, words),
+            _ => found.end(),
+        }
+    }
+    found.prose()
+}
+
 /// The comments of a header, from `/*` to `*/`. Each is a paragraph of its own, and so is each part
 /// of it behind an empty line or a mark of a list. Lines that are set in by four blanks or more and
 /// go on with no paragraph are code, as in Markdown.
@@ -199,6 +218,13 @@ mod tests {
             <!-- bench: x -->\ntwo three\n<!-- bench: y --> four\n";
         assert_eq!(counts(&of_markdown(text)), [(11, 2), (12, 1)]);
         assert_eq!(of_markdown(text).lines, BTreeSet::from([11, 12]));
+    }
+
+    #[test]
+    fn a_manual_has_its_words_in_fonts_and_ends_at_other_macros() {
+        let text = ".TH NAME 1\n.SH NAME\nname \\- does\n.TP\n.BI \\-\\-flag \" FILE\"\nReads\n.IR FILE .\n\
+            Then\n.B more\nwords.\n.\\\" a comment\n";
+        assert_eq!(counts(&of_manual(text)), [(3, 2), (5, 4), (8, 3)]);
     }
 
     #[test]

@@ -21,7 +21,7 @@
 //!   server answered;
 //! - `console` does the same with an Ed25519 of the host's;
 //! - `server` delegates a key and answers a batch of 900 requests;
-//! - `demo` has a console measure three servers, one of which lies, and tell the time all the same.
+//! - `demo` runs three servers, `trawld`, of which one lies, and has `trawl` ask them.
 //!
 //! The feature `std` is on by default, and brings `alloc` along. Without `std` the package needs no
 //! operating system, and without `alloc` no heap. What holds bytes of its own is then left out, and
