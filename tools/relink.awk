@@ -24,10 +24,11 @@ END {
 }
 
 # The text up to the end of a link. A link starts at the last bracket.
-function relinked(before, target,    start, named) {
+function relinked(before, target,    start, named, heading) {
     if (target ~ /^[a-z]+:|^#/) return before "](" target ")"
-    named = whole(folder(from) target)
-    if (named in placed) return before "](" relative(folder(to), placed[named]) ")"
+    if (target ~ /#/) heading = substr(target, index(target, "#"))
+    named = whole(folder(from) substr(target, 1, length(target) - length(heading)))
+    if (named in placed) return before "](" relative(folder(to), placed[named]) heading ")"
     for (start = length(before); start > 0 && substr(before, start, 1) != "["; start--) continue
     return substr(before, 1, start - 1) substr(before, start + 1)
 }

@@ -9,6 +9,8 @@ cd "$(dirname "$(readlink -f "${BASH_SOURCE[0]}")")/.." || exit 1
 
 # shellcheck source=tools/names.sh
 . tools/names.sh
+# shellcheck source=tools/processors.sh
+. tools/processors.sh
 
 # Nothing of the caller's environment may lead a script elsewhere: cd by a relative name, tar and
 # gzip to other options, cargo to another folder or processor than those whose programs are then
@@ -92,7 +94,7 @@ have_sodium() {
 
 # A disassembler for a processor: this machine's, or that which comes with the compiler for it.
 reader_of() { # PROCESSOR
-    if [ "$1" = "$(uname -m)" ]; then command -v objdump; else command -v "$1-linux-gnu-objdump"; fi
+    if [ "$1" = "$(uname -m)" ]; then command -v objdump; else command -v "$(gnu_name "$1")-objdump"; fi
 }
 
 # Puts a copy of a file in its place in one step, once it is on the disk, so that there is the old
@@ -115,6 +117,34 @@ take_lock() {
         flock -w "${TRAWLBEACON_PULSE:-20}" 9
     do :; done
     export TRAWLBEACON_LOCKED=yes
+}
+
+# A folder in memory for what a command writes for a while, where there is one that has room for
+# several checks and in which programs can be run.
+room_in_memory() {
+    local kind kept free
+    read -r kind kept free < <(stat -f -c '%T %S %a' /dev/shm 2>/dev/null)
+    [ "$kind" = tmpfs ] && [ $((kept * free)) -ge 4000000000 ] && [ -w /dev/shm ] || return 1
+    ! awk '$2 == "/dev/shm" && $4 ~ /noexec/ { found = 1 } END { exit !found }' /proc/mounts || return 1
+    mktemp -d /dev/shm/trawlbeacon.XXXXXX
+}
+
+# Runs a prover in the way that takes least of the processors' time. Each check unpacks all that is
+# proved below its crate, some thousand small files, and removes them at its end: in memory that
+# takes half of the system's time that it takes on a disk. Who has named a folder for such files in
+# TMPDIR has it used. rt runs programs in it as nobody, who must be able to pass through. And a check
+# ends soon, so that it need not hand memory back before it does.
+proving() { # COMMAND...
+    local room
+    if [ -n "${TMPDIR:-}" ] || ! room=$(room_in_memory); then
+        MIMALLOC_PURGE_DELAY=-1 "$@"
+        return
+    fi
+    (
+        trap 'rm -rf "$room"' EXIT
+        chmod 711 "$room"
+        TMPDIR=$room MIMALLOC_PURGE_DELAY=-1 "$@"
+    )
 }
 
 # Runs a command whose words go to standard error, and says every so often that it still runs.

@@ -23,8 +23,8 @@ exported_names() {
 }
 
 # Compiles the module for wasm32 and links it: every function of the header, the memory, where the
-# caller's part of it begins, and the top of the stack. It imports nothing. The stack is the first of
-# memory, so that what would run past its end stops, and touches nothing.
+# caller's part of it begins, and the top of the stack. It imports nothing. The stack is the first
+# of memory, so that what would run past its end stops, and touches nothing.
 wasm_library() { # OUT
     local name words=(--export=__stack_pointer)
     portable_module

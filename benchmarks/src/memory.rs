@@ -82,11 +82,12 @@ pub fn part(run: &mut Run) {
     };
     let sizes = by_crate(&symbols);
     let all: usize = sizes.iter().map(|(_, bytes)| bytes).sum();
+    let largest = sizes.iter().take(12);
     let named: Vec<String> =
-        sizes.iter().map(|(name, bytes)| format!("`{name}` {}", count(*bytes))).collect();
+        largest.map(|(name, bytes)| format!("`{name}` {}", count(*bytes))).collect();
     let text = format!(
-        "The archive leaves {} undefined and nothing else, so that nothing in it can take memory \
-         from the heap. Its code has {} bytes: {}.",
+        "The archive leaves {} undefined and nothing else. So nothing in it can take memory from \
+         the heap. Its code has {} bytes. The largest crates are {}.",
         undefined().unwrap_or_default(),
         count(all),
         named.join(", ")

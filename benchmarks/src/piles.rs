@@ -191,9 +191,9 @@ pub fn part(run: &mut Run) {
     let measured = run.table(table, &COLUMNS, subjects.collect());
     let whole = &measured[Operation::ALL.len() - 1];
     let text = format!(
-        "Asked was that the whole of a full pile takes at most twice the time of an independent \
-         checker with its own SHA-512: it takes {} of that time (goal: 0.70), and {} of the time of \
-         the same checker over RustCrypto's SHA-512 in its portable form (goal: 1.0).",
+        "The whole of a full pile takes {} of the time of an independent checker with its own \
+         SHA-512. At most 2 was asked, and 0.70 is the goal. It takes {} of the time of the same \
+         checker over RustCrypto's SHA-512 in its portable form, where 1.0 is the goal.",
         whole.ratio_text(Side::Independent),
         whole.ratio_text(Side::OverSha2)
     );

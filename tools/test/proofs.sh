@@ -5,11 +5,22 @@
 # the whole. What rt says is kept, for where the wrong programs are refused.
 proofs() {
     local status=0
-    (take_lock && rt ci) | tee build/proofs | tell_counts | hold_back_last "$count" || status=$?
+    (take_lock && keep_busy && proving rt ci) | tee build/proofs | tell_counts | hold_back_last "$count" || status=$?
     [ "$status" -eq 0 ] && grep -qxE '[0-9]+ passed, 0 failed' "$count" && return
     cat "$count"
     say "rt ci ended with status $status"
     return 1
+}
+
+# rt starts as many checks as there are processors, up to 4, and waits for all of them before it
+# starts more, so that the shorter one of two leaves its processor idle. With twice as many it seldom
+# does. That is asked for where each has 2 GB of memory, and the caller said nothing.
+keep_busy() {
+    local processors free
+    processors=$(nproc 2>/dev/null || echo 4)
+    free=$(awk '$1 == "MemAvailable:" { print int($2 / 2000000) }' /proc/meminfo 2>/dev/null)
+    [ -z "${RT_JOBS:-}" ] && [ "$processors" -le 4 ] && [ "${free:-0}" -ge $((2 * processors)) ] || return 0
+    export RT_JOBS=$((2 * processors))
 }
 
 # Passes its input on as it comes, but for the last line, which it writes to a file.

@@ -35,11 +35,12 @@ const fn lock(file: &'static str) -> Place {
 
 const PACKAGE: &str = "name = \"trawlbeacon\"";
 
-const PLACES: [Place; 11] = [
+const PLACES: [Place; 12] = [
     place("include/trawlbeacon.h", "#define TB_VERSION_MAJOR ", Part::Major),
     place("include/trawlbeacon.h", "#define TB_VERSION_MINOR ", Part::Minor),
     place("tools/exports.map", "TRAWLBEACON_", Part::Major),
     place("hosts/rust/Cargo.toml", "version = \"", Part::All),
+    place("hosts/js/package.json", "  \"version\": \"", Part::All),
     place("man/trawl.1", ".TH TRAWL 1 \"*\" \"Trawlbeacon ", Part::All),
     place("programs/trawld/Cargo.toml", "version = \"", Part::All),
     place("man/trawld.8", ".TH TRAWLD 8 \"*\" \"Trawlbeacon ", Part::All),
@@ -176,6 +177,7 @@ mod tests {
             ("include/trawlbeacon.h", header),
             ("tools/exports.map", "TRAWLBEACON_1\n{\n};\n"),
             ("hosts/rust/Cargo.toml", "[package]\nversion = \"1.2.3\"\n"),
+            ("hosts/js/package.json", "{\n  \"version\": \"1.2.3\"\n}\n"),
             ("man/trawl.1", ".TH TRAWL 1 \"a day\" \"Trawlbeacon 1.2.3\" \"\"\n"),
             ("programs/trawld/Cargo.toml", "[package]\nversion = \"1.2.3\"\n"),
             ("man/trawld.8", ".TH TRAWLD 8 \"a day\" \"Trawlbeacon 1.2.3\" \"\"\n"),
@@ -190,7 +192,7 @@ mod tests {
     #[test]
     fn the_same_version_everywhere_passes() {
         let said = check(&right().tree(), &[]).unwrap();
-        assert_eq!(said, "1.2.3, in 11 other places, and first in CHANGELOG.md");
+        assert_eq!(said, "1.2.3, in 12 other places, and first in CHANGELOG.md");
     }
 
     #[test]
@@ -200,6 +202,7 @@ mod tests {
             ("include/trawlbeacon.h", "MINOR 2", "MINOR 1", 2),
             ("tools/exports.map", "_1", "_2", 1),
             ("hosts/rust/Cargo.toml", "1.2.3", "1.2.4", 2),
+            ("hosts/js/package.json", "1.2.3", "1.2.4", 2),
             ("man/trawl.1", "1.2.3", "1.2", 1),
             ("programs/trawld/Cargo.toml", "1.2.3", "1.2.4", 2),
             ("man/trawld.8", "1.2.3", "1.2", 1),

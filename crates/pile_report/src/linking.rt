@@ -1,7 +1,9 @@
 // Which records are linked. A link is hashed only where what is said hangs on it.
 ghost use mathlib.Core.Path.{_≡_};
+ghost use mathlib.Core.Bool.{_&&_};
 ghost use Prim.Native.Nat.{ℕ, _<_};
 ghost use Rattle.pile.specs.Links.{linkedOf};
+ghost use Rattle.pile_runs.specs.Clash.{valid};
 ghost use Rattle.pile_runs.specs.Convict.{verdictIn, flagIn};
 ghost use Rattle.pile_report.specs.Promises.{FirstAt, between};
 ghost use Rattle.pile_report.specs.Report.{joined, loose};
@@ -41,27 +43,24 @@ pub fn links_of(pile: &[u8], verdicts: [Verdict; 16]) -> [bool; 16]
         ⌝ }
 {
     let mut links = [false; 16];
-    let mut k: usize = 0;
+    let mut k: usize = 1;
     while k < 16 {
-        links[k] = link_at(pile, verdicts, k);
+        let before = verdicts[k - 1];
+        let v = verdicts[k];
+        links[k] = link_at(pile, before, v, k);
         k += 1;
     }
     links
 }
 
-// The link of record k.
-fn link_at(pile: &[u8], verdicts: [Verdict; 16], k: usize) -> bool
-    requires { ⌜ k < 16 ⌝ }
-    ensures { λ r. ⌜ r ≡ between (verdictIn verdicts) (linkedOf (now (pile .entry))) k ⌝ }
+// The link of record k, by the verdicts on the one before it and on itself. These are taken out of the array by the
+// caller, so that the array is not copied for each record.
+fn link_at(pile: &[u8], before: Verdict, v: Verdict, k: usize) -> bool
+    ensures { λ r. ⌜ r ≡ (valid before && (valid v && linkedOf (now (pile .entry)) k)) ⌝ }
 {
-    if k == 0 {
-        return false;
-    }
-    let before = verdicts[k - 1];
     if !is_valid(before) {
         return false;
     }
-    let v = verdicts[k];
     if !is_valid(v) {
         return false;
     }

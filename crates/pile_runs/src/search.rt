@@ -9,7 +9,8 @@ ghost use Rattle.pile_runs.specs.Told.{Tells};
 ghost use Rattle.pile_runs.specs.Convict.{verdictIn, flagIn, Convicts};
 ghost use Rattle.pile_runs.specs.Searched.{Exposes, FirstStart};
 use super::Span;
-use super::inspect::exposes;
+use super::compare::both_contradict;
+use super::inspect::is_clean;
 use check_response::Verdict;
 
 // The shortest run of the first n records that convicts, and of those as short the one that starts first. No more than
@@ -37,6 +38,8 @@ pub fn capped(n: usize) -> usize
 }
 
 // The first start of a clean run whose ends lie gap apart and contradict, and m - gap where no such run ends below m.
+// The ends are compared first, since that is little work and rules most runs out: the arrays are copied for a call, and
+// so only for a run whose ends contradict.
 fn first_start(verdicts: [Verdict; 16], linked: [bool; 16], m: usize, gap: usize) -> usize
     requires { ⌜ (gap ≤ m) × (m ≤ 16) ⌝ }
     ensures { λ r. ⌜ FirstStart (Exposes (verdictIn verdicts) (flagIn linked)) m gap r ⌝ }
@@ -44,8 +47,12 @@ fn first_start(verdicts: [Verdict; 16], linked: [bool; 16], m: usize, gap: usize
     let starts = m - gap;
     for start in 0..starts {
         let end = start + gap;
-        if exposes(verdicts, linked, start, end) {
-            return start;
+        let v = verdicts[start];
+        let w = verdicts[end];
+        if both_contradict(v, w) {
+            if is_clean(verdicts, linked, start, end) {
+                return start;
+            }
         }
     }
     starts

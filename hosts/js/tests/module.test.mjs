@@ -5,7 +5,7 @@ import assert from "node:assert/strict";
 import test from "node:test";
 import * as package_ from "../trawlbeacon.js";
 import { Library, slice } from "../lending.js";
-import { file, hex, library, PILE, random, REPORT, utf8, wasmBytes } from "./support.mjs";
+import { file, hex, library, PILE, random, REPORT, text, utf8, wasmBytes } from "./support.mjs";
 
 const { CODE, load, MemoryError, operations, Refusal, TrapError, WORDS } = package_;
 const tb = await library();
@@ -194,4 +194,13 @@ test("it loads from bytes, from a module, and by an instance", async () => {
         operations(new WebAssembly.Instance(module)),
     ];
     for (const way of ways) assert.deepEqual(way.readReport(REPORT), PILE);
+});
+
+test("the declarations for TypeScript have the functions that there are, and no others", () => {
+    const types = text("hosts/js/trawlbeacon.d.ts");
+    const names = (part, pattern) => [...part.matchAll(pattern)].map(([, name]) => name).sort();
+    const [interface_] = /^export interface Trawlbeacon \{\n[^]*?^\}/m.exec(types);
+    assert.deepEqual(names(interface_, /^    (\w+)\(/gm), Object.keys(tb).sort());
+    const declared = names(types, /^export (?:const|class|function) (\w+)/gm);
+    assert.deepEqual(declared, Object.keys(package_).sort());
 });

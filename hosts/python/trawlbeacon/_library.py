@@ -12,6 +12,9 @@ NAME = "libtrawlbeacon.so.1"
 VARIABLE = "TRAWLBEACON_LIBRARY"
 """The variable of the environment that names the file of the library, before all other places."""
 
+INSTALLED = ("share", "trawlbeacon", "python", "trawlbeacon")
+"""Where this folder stands below the prefix of an installation."""
+
 
 def places() -> List[Path]:
     """Where the library is sought: what the variable names and nothing else, where it is set; else
@@ -21,7 +24,9 @@ def places() -> List[Path]:
     if named:
         return [Path(named)]
     here = Path(__file__).resolve().parent
-    return [here / NAME] + [above / "lib" / NAME for above in list(here.parents)[3:4]]
+    if here.parts[-4:] == INSTALLED:
+        return [here / NAME, here.parents[3] / "lib" / NAME]
+    return [here / NAME]
 
 
 def load() -> ctypes.CDLL:

@@ -6,6 +6,8 @@ from typing import Optional
 
 from .codes import Refusal, words
 
+_KNOWN = frozenset(int(code) for code in Refusal)
+
 _PLACED = frozenset(range(Refusal.FRAME, Refusal.VALUE + 1))
 """The codes that come with the byte of a packet."""
 
@@ -19,10 +21,11 @@ class Refused(Exception):
     """
 
     def __init__(self, code: int, place: Optional[int] = None, at: Optional[int] = None) -> None:
+        at = at if code in _PLACED else None
         super().__init__(code, place, at)
-        self.code: int = Refusal(code) if code in Refusal.__members__.values() else code
+        self.code: int = Refusal(code) if code in _KNOWN else code
         self.place = place
-        self.at = at if code in _PLACED else None
+        self.at = at
 
     @property
     def words(self) -> str:

@@ -83,8 +83,9 @@ class _Reader:
     def source(self, place: int) -> str:
         return self.written(library.tb_list_source(*self.lent, place, *self.out))
 
-    def reports(self) -> str:
-        return self.written(library.tb_list_reports(*self.lent, *self.out))
+    def reports(self) -> Optional[str]:
+        told = library.tb_list_reports(*self.lent, *self.out)
+        return None if told.code == Refusal.LIST_PLACE else self.written(told)
 
 
 def _all(at: Callable[[int], _T]) -> List[_T]:
@@ -113,9 +114,4 @@ def read_servers(text: Text) -> ServerList:
         key, srv = records.raw[start : start + 32], records.raw[start + 32 : start + 64]
         servers.append(Server(reader.name(place), key, srv, reader.addresses(place)))
     sources = tuple(_all(reader.source))
-    reports = _all(lambda place: reader.reports() if place == 0 else _nothing())
-    return ServerList(tuple(servers), sources, (reports or [None])[0], read.passed_over)
-
-
-def _nothing() -> str:
-    raise Refused(Refusal.LIST_PLACE)
+    return ServerList(tuple(servers), sources, reader.reports(), read.passed_over)

@@ -103,7 +103,8 @@ class Walk:
         nothing."""
         out = create_string_buffer(REQUEST_LENGTH)
         with self._lock:
-            asked = library.tb_walk_ask_fields(*self._now("count", "step", "last", "most"), out, REQUEST_LENGTH)
+            state = self._now("count", "step", "last", "most")
+            asked = library.tb_walk_ask_fields(*state, out, REQUEST_LENGTH)
         if asked.code == Refusal.ENDED:
             return None
         passed(asked.code)
@@ -119,9 +120,8 @@ class Walk:
         lent = (exactly(32, rand, "a rand"), told, len(told))
         with self._lock:
             state = self._now("count", "most")
-            took = library.tb_walk_take_signed_fields(
-                *state, *when, *lent, self._pile, self._room
-            )
+            lent_too = (self._pile, self._room)
+            took = library.tb_walk_take_signed_fields(*state, *when, *lent, *lent_too)
         passed(took.code, at=took.at)
         outcome = Outcome(took.outcome)
         pair = Pair(took.first, took.second) if outcome is Outcome.MALFEASANCE else None

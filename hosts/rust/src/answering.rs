@@ -49,11 +49,11 @@ pub struct Sending<'a> {
 /// Answers a batch of 1 to [`MOST_LEAVES`] packets, with one signature for all, and tells how many
 /// of them have an answer. [`Batch`](crate::Batch) holds all that is lent here.
 ///
-/// Meant for this server is a good request that has no SRV or this one (draft 19, 5.2). Each of
-/// those is answered that has room for an answer with d siblings, where d is the least number for
-/// which no more than 2^d have; so no answer is longer than its request, and a request that is too
-/// short for any answer disturbs no other. What does not hold an answer stays, but for the lengths and the
-/// rows. It is for a server with one long-term key.
+/// A good request is meant for this server if it has no SRV or this one (draft 19, 5.2). It is
+/// answered if it has room for an answer with d siblings, where d is the least number for which no
+/// more than 2^d have that room. So no answer is longer than its request, and a request that is too
+/// short for any answer changes nothing for the others. What does not hold an answer stays, but for
+/// the lengths and the rows. It is for a server with one long-term key.
 ///
 /// The refusals are 7, where RADI is 0; 4 to 7 of CERT, then of its DELE; 35, where PUBK there is
 /// not the key's public one; 11; 20; 19; and then all stays. A place is one in the value of CERT,

@@ -1,24 +1,31 @@
 //! The proved Roughtime library, for Rust.
 //!
 //! Each function here calls the function of the proved library that has the same name after `tb_`,
-//! and adds nothing to it; [`cut`], [`cut_signed`], [`Record`], [`Pile`] and [`SignedPile`] only
-//! lay out bytes beside such calls, and [`Sha512`], [`Tally`], [`Clock`] and [`Walk`] hold the
-//! state between those that end in `_fields` or `_field`, the last with its pile; [`SigningKey`]
-//! holds a seed for those that sign, and overwrites it in the end; [`Batch`] holds packets and the
-//! answers to them, and [`ServerList`] what a published list of servers says. The module `picture`
-//! draws what such calls say of a pile. The proofs speak of the library's own code; that these few
-//! lines declare and call it rightly is shown by the tests alone, which compare every function
-//! with an implementation that shares no code with the library.
+//! and adds nothing to it. The types hold what goes from call to call:
 //!
-//! H, below, is Roughtime's hash: the first 32 bytes of SHA-512. The example `time` goes from the
-//! request to the window by [`check_signed`], and takes a file for what the server answered; the
-//! example `console` does the same with an Ed25519 of the host's; the example `server` delegates a
-//! key and answers a batch of 900 requests; the example `demo` has a console measure three servers,
-//! one of which lies, and tell the time all the same.
+//! - [`Record`], [`Pile`] and [`SignedPile`] hold evidence, and [`cut`] and [`cut_signed`] cut it;
+//! - [`Walk`] measures servers and holds its pile, and [`Clock`] tells the time;
+//! - [`Sha512`] and [`Tally`] hold a state between calls;
+//! - [`SigningKey`] holds a seed, and overwrites it in the end;
+//! - [`Batch`] holds packets and the answers to them;
+//! - [`ServerList`] is what a published list of servers says;
+//! - the module `picture` draws what is said of a pile.
 //!
-//! Without the feature `std`, which is on by default, the package needs no operating system, and
-//! without `alloc`, which `std` brings along, no heap: what holds bytes of its own is then left out,
-//! and every function of the library is there, with buffers that are lent.
+//! The proofs speak of the library's own code. That these few lines declare and call it rightly is
+//! shown by tests alone, which compare every function with an implementation that shares no code
+//! with the library.
+//!
+//! H, below, is Roughtime's hash: the first 32 bytes of SHA-512. The examples:
+//!
+//! - `time` goes from the request to the window by [`check_signed`], and takes a file for what the
+//!   server answered;
+//! - `console` does the same with an Ed25519 of the host's;
+//! - `server` delegates a key and answers a batch of 900 requests;
+//! - `demo` has a console measure three servers, one of which lies, and tell the time all the same.
+//!
+//! The feature `std` is on by default, and brings `alloc` along. Without `std` the package needs no
+//! operating system, and without `alloc` no heap. What holds bytes of its own is then left out, and
+//! every function of the library is there, with buffers that are lent.
 //!
 //! ```
 //! use trawlbeacon::Refusal;

@@ -161,9 +161,12 @@ pub fn contradicts(earlier: (u64, u32), later: (u64, u32)) -> bool {
 /// all zero, each later record is linked, and two records contradict each other; the pair is the
 /// closest together, and of those as close the first.
 ///
-/// The refusals are 15; then 16, 14 and 1 to 13 of the first record to which one applies; then 17
-/// of the first record that is not linked, or the first one of all where its rand is not zero; then
-/// 18.
+/// The refusals are, in this order:
+///
+/// - 15;
+/// - 16, 14 and 1 to 13, of the first record to which one applies;
+/// - 17, of the first record that is not linked, or of record 0 where its rand is not zero;
+/// - 18.
 ///
 /// ```
 /// use trawlbeacon::{check_report, Refusal, ReportRefusal, RECORD_LENGTH};

@@ -2,9 +2,8 @@
 //! asks whether both verify, of [`verify`](crate::verify) or of an Ed25519 of its own, and tells
 //! [`check_response`](crate::check_response) what came out.
 //!
-//! Both questions go by what stands here, and nothing is to be read from the packet by the caller's
-//! own code: one that reads a key or a signature at the place where it usually stands can be made
-//! to accept a forged time.
+//! Take what is verified from here, and read none of it from the packet. Code that reads a key or a
+//! signature at the place where it usually is can be made to accept a forged time.
 
 use crate::packets::wrote;
 use crate::raw::{self, size};

@@ -10,12 +10,11 @@ use core::{fmt, ptr};
 /// The public key is made of the seed at each call and never taken beside it: two signatures of one
 /// text, by one seed and beside two public keys, would tell the key to whoever sees both.
 ///
-/// No branch and no address hangs on the seed, as far as `tools/try-secrets` sees in the compiled
-/// code; `SECURITY.md` says what is promised of it and what is not. Where the key is dropped its
-/// seed is overwritten with zeros. That is not so of the bytes that it was made of, of the place
-/// that it was moved from, and of what a call left on the stack: put it where it is to stay, and
-/// clear your own copy of the seed. It cannot be copied, cloned or compared, and `{:?}` prints none
-/// of it.
+/// No branch and no address depends on the seed, as far as `tools/try-secrets` sees in the compiled
+/// code. `SECURITY.md` says what is promised of it and what is not. When the key is dropped its seed
+/// is overwritten with zeros. The bytes that it was made of, the place that it was moved from and
+/// what a call left on the stack are not. So put it where it is to stay, and clear your own copy of
+/// the seed. It cannot be copied, cloned or compared, and `{:?}` prints none of it.
 ///
 /// ```
 /// use trawlbeacon::SigningKey;

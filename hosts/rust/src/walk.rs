@@ -189,10 +189,14 @@ impl<Buffer: AsRef<[u8]> + AsMut<[u8]>> Walk<Buffer> {
     ///
     /// # Errors
     ///
-    /// In this order: 28 where the walk has ended; of a walk that was resumed, 19 where its buffer
-    /// has under two records a server; 26 where the response was received before it was sent for,
-    /// or sent for before the last one was received; 27 where it took too long; and 1 to 13 as
-    /// [`check_response`](crate::check_response) has them. The walk stays as it was.
+    /// The walk stays as it was. In this order:
+    ///
+    /// - 28, where the walk has ended;
+    /// - 19, of a walk that was resumed, where its buffer has under two records a server;
+    /// - 26, where the response was received before it was sent for, or sent for before the last one
+    ///   was received;
+    /// - 27, where it took too long;
+    /// - 1 to 13, as [`check_response`](crate::check_response) has them.
     pub fn take(&mut self, response: &[u8], heard: &Heard) -> Result<Taken, PacketRefusal> {
         let answers = [heard.delegation, heard.signature].map(u32::from);
         let (when, pile) = ([heard.sent, heard.received], self.buffer.as_mut());

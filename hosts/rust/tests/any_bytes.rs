@@ -94,7 +94,7 @@ fn no_bytes_do_harm() {
     said_all_that_the_header_names(&plan, &runs);
     let whole = plan.only.is_none() && plan.calls >= any_run::usual_calls();
     if env::var_os("TRAWLBEACON_KEEP").is_none() {
-        as_kept(&runs, whole);
+        as_kept(&runs, whole, plan.calls >= any_run::least_calls());
     } else {
         assert!(whole, "only a whole run is kept");
         keep(&runs);
@@ -149,7 +149,8 @@ fn what_is_kept_takes_the_place_of_the_old_in_one_step() {
     assert_eq!(fs::read_dir(&folder).expect("it is there").count(), 1);
 }
 
-fn as_kept(runs: &[Run], whole: bool) {
+/// Where a run is long enough, each export has a digest to be compared.
+fn as_kept(runs: &[Run], whole: bool, enough: bool) {
     let text = fs::read_to_string(file()).unwrap_or_else(|error| panic!("the digests: {error}"));
     let kept: BTreeMap<&str, &str> =
         text.lines().filter_map(|line| line.rsplit_once(' ')).collect();
@@ -162,5 +163,6 @@ fn as_kept(runs: &[Run], whole: bool) {
     }
     assert!(other.is_empty(), "other answers than those that are kept:\n{}", other.join("\n"));
     assert!(!whole || same == kept.len(), "digests are kept of exports that are no more");
+    assert!(!enough || same >= runs.len(), "nothing is compared of some exports");
     println!("{same} digests are as kept");
 }

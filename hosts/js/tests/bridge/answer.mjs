@@ -4,7 +4,8 @@
 // What a call is lent stands in memory between bytes that tell whether they were written over, the
 // bytes at any address and numbers at multiples of their size. In turn one of what is lent ends
 // where the memory ends, so that what reads past its end stops. What may only be read must be as it
-// was.
+// was. No call may come near the end of the stack; with TRAWLBEACON_STACK it is told in the end how
+// much of it was taken.
 
 import { readFileSync, readSync, writeSync } from "node:fs";
 import { exports, structs } from "./header.mjs";
@@ -30,6 +31,21 @@ let memory = Buffer.from(wasm.memory.buffer);
 const base = wasm.__heap_base.value;
 const top = wasm.__stack_pointer.value;
 let calls = 0;
+
+// The stack is the first of memory, and grows towards its start.
+const UNTOUCHED = 0xa7;
+memory.fill(UNTOUCHED, 0, top);
+
+/** How much of the stack was taken by the deepest call. */
+function stackTaken() {
+    return top - memory.subarray(0, top).findIndex((byte) => byte !== UNTOUCHED);
+}
+
+/** Whether a call came into the last quarter of the stack: a byte in every 64 is looked at. */
+function stackNearlyFull() {
+    for (let at = 0; at < top / 4; at += 64) if (memory[at] !== UNTOUCHED) return true;
+    return false;
+}
 
 /** The arguments of a call, out of its bytes. */
 function argumentsOf(takes, bytes) {
@@ -87,7 +103,7 @@ function broken(lent) {
         if (readOnly && !memory.subarray(at, end).equals(bytes)) return `${name} was written to`;
     }
     if (wasm.__stack_pointer.value !== top) return "the stack was left elsewhere";
-    return null;
+    return stackNearlyFull() ? "the stack is nearly full" : null;
 }
 
 const isLent = ({ kind }) => kind !== "number";
@@ -161,3 +177,4 @@ while (read(4)) {
     if (!read(length)) break;
     write(outcome(Buffer.from(room.subarray(0, length))));
 }
+if (process.env.TRAWLBEACON_STACK) console.error(`${stackTaken()} bytes of stack were taken`);

@@ -5,11 +5,9 @@
 
 #include <fcntl.h>
 #include <pthread.h>
-#include <signal.h>
 #include <stdio.h>
 #include <stdlib.h>
 #include <string.h>
-#include <sys/prctl.h>
 #include <unistd.h>
 
 enum { NODES = 4, PIPE_BYTES = 1 << 20 };
@@ -44,7 +42,6 @@ static void start(struct node *node) {
     pid_t child = fork();
     if (child < 0) stop("there is no", "process");
     if (child == 0) {
-        prctl(PR_SET_PDEATHSIG, SIGKILL);
         dup2(to[0], 0);
         dup2(from[1], 1);
         execlp("node", "node", script, wasm, (char *)NULL);

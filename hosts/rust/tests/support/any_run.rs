@@ -1,7 +1,8 @@
 //! A run over the exports: how long it is, what its cases are made from, and in which threads.
 //!
-//! TRAWLBEACON_CALLS is about how many calls all exports together get, TRAWLBEACON_SEED the number
-//! that the cases are made from, and TRAWLBEACON_EXPORT the one export that is to be called.
+//! TRAWLBEACON_CALLS is about how many calls all exports together get, or 1/16 for a sixteenth of the
+//! usual ones, of which digests are kept, too. TRAWLBEACON_SEED is the number that the cases are made
+//! from, and TRAWLBEACON_EXPORT the one export that is to be called.
 
 use crate::any_exports::{self, Export};
 use crate::any_make::Maker;
@@ -43,6 +44,19 @@ pub fn usual_calls() -> usize {
     any_exports::all().map(|export| 2 * export.cases).sum()
 }
 
+/// The calls of the shortest run of which digests are kept.
+pub fn least_calls() -> usize {
+    (usual_calls() + 15) / 16
+}
+
+/// How many calls the environment asks for.
+fn calls() -> usize {
+    if env::var("TRAWLBEACON_CALLS").is_ok_and(|text| text == "1/16") {
+        return least_calls();
+    }
+    number("TRAWLBEACON_CALLS").map_or_else(usual_calls, |calls| calls as usize)
+}
+
 impl Plan {
     /// The run that is kept.
     pub fn usual() -> Self {
@@ -52,7 +66,7 @@ impl Plan {
     pub fn from_environment() -> Self {
         Plan {
             seed: number("TRAWLBEACON_SEED").unwrap_or(KEPT_SEED),
-            calls: number("TRAWLBEACON_CALLS").map_or_else(usual_calls, |calls| calls as usize),
+            calls: calls(),
             only: env::var("TRAWLBEACON_EXPORT").ok(),
         }
     }
