@@ -22,7 +22,8 @@ const CROWDS: usize = 4;
 const SOCKETS: usize = 200;
 
 /// So many sockets of a crowd ask at once, and the next ones in the next round. Linux by itself has
-/// room for some hundred packets at a socket, and drops what comes beyond that.
+/// room for some hundred packets at a socket, and drops what comes beyond that. Where it has more
+/// room, TRAWLD_AT_ONCE=200 has batches that are larger, and millions sooner.
 const AT_ONCE: usize = 40;
 
 /// Kinds of packets that deserve no answer. A crowd sends one in each round.
@@ -43,8 +44,12 @@ fn number(name: &str, usual: usize) -> usize {
     word.parse().unwrap_or_else(|_| panic!("{name} is no number: {word}"))
 }
 
+fn at_once() -> usize {
+    number("TRAWLD_AT_ONCE", AT_ONCE).clamp(1, SOCKETS)
+}
+
 fn rounds() -> usize {
-    number("TRAWLD_REQUESTS", 100_000) / CROWDS / AT_ONCE
+    number("TRAWLD_REQUESTS", 100_000) / CROWDS / at_once()
 }
 
 fn now() -> u64 {
@@ -73,6 +78,7 @@ struct Crowd {
     /// One answer in so many is checked by both, and so many were.
     among: u64,
     twice: u64,
+    at_once: usize,
 }
 
 impl Crowd {
@@ -91,13 +97,16 @@ impl Crowd {
             heard: 0,
             among: number("TRAWLD_TWICE", 1).max(1) as u64,
             twice: 0,
+            at_once: at_once(),
         }
     }
 
     /// Asks from the sockets whose turn it is, and waits for the answers.
     fn round(&mut self, number: usize) {
-        let first = number * AT_ONCE % SOCKETS;
-        for client in &mut self.clients[first..first + AT_ONCE] {
+        let count = self.at_once;
+        let asking = (0..count).map(|at| (number * count + at) % SOCKETS);
+        for at in asking.clone() {
+            let client = &mut self.clients[at];
             let nonce = self.random.array();
             let request = padded_request(&self.key, &nonce, PADDING);
             let sent = now();
@@ -109,7 +118,7 @@ impl Crowd {
         self.undeserving.send(&packet).expect("it is sent");
         self.others += 1;
         let end = Instant::now() + PATIENCE;
-        for at in first..first + AT_ONCE {
+        for at in asking {
             while !self.clients[at].waiting.is_empty() && self.hear(at, end) {}
         }
     }
