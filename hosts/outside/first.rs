@@ -22,10 +22,19 @@ extern "C" fn look() {
 
 // The system calls what stands in this section before anything of Rust's. (An attribute would do
 // it, too, which each edition of Rust spells otherwise.)
+#[cfg(target_pointer_width = "64")]
 std::arch::global_asm!(
     ".pushsection .init_array, \"aw\"",
     ".balign 8",
     ".quad {}",
+    ".popsection",
+    sym look
+);
+#[cfg(target_pointer_width = "32")]
+std::arch::global_asm!(
+    ".pushsection .init_array, \"aw\"",
+    ".balign 4",
+    ".long {}",
     ".popsection",
     sym look
 );
