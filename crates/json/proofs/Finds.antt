@@ -1,8 +1,9 @@
 -- Laws about `tally`, for the loop over the members of an object.
 use Prim.Native.Nat.{ℕ, suc, _+_}
-use mathlib.Core.Path.{_≡_, refl, sym, _∙_}
+use mathlib.Core.Path.{_≡_, refl, sym, _∙_, ap}
 use mathlib.Core.Bool.{Bool, true, false}
 use mathlib.Core.List.{List, [], _∷_}
+use native.Mathlib.Omega.{arith}
 use lib.Dec.{eqb}
 use lib.ListN.{length, getD}
 use borrow.Author.Needs.{needs}
@@ -15,7 +16,7 @@ use Rattle.json_tokens.specs.Walk.{starts, walked}
 use Rattle.json_tokens.proofs.Picks.{picks}
 use Rattle.json.specs.Value.{memberStep, valueAt, objectOf}
 use Rattle.json.specs.declared.Seen.{Seen}
-use Rattle.json.specs.Facts.{Noted}
+use Rattle.json.specs.Facts.{Noted, Letters}
 use Rattle.json_strings.specs.Text.{unescaped, contentAt, sameList}
 use Rattle.json_strings.proofs.Content.{content-code}
 use Rattle.json_strings.proofs.Runs.{unit-unescaped}
@@ -82,6 +83,16 @@ unfolding sameList both
 not-same b [] x h = refl
 not-same b (y ∷ l) x h = simp (ne-eqb b y h)
 
+not-both : (p : Bool) → both p false ≡ false
+unfolding both pick
+not-both true = refl
+not-both false = refl
+
+not-same-then : (a b : ℕ) (l x : List ℕ) → (b ≡ getD l 1 0 → ⊥) → sameList (a ∷ b ∷ x) l ≡ false
+unfolding sameList
+not-same-then a b [] x h = refl
+not-same-then a b (y ∷ l) x h = rw (not-same b l x h) (not-both (eqb a y))
+
 -- ---- A member that has not the name changes nothing.
 module _ (s w : List ℕ) (k : ℕ) where
   pub noted-not : {v : ℕ} {t : Seen} → named s w k ≡ false → Noted s w k v t t
@@ -102,4 +113,24 @@ module _ (s w : List ℕ) (k : ℕ) where
 
       by : (q : Bool) → pick q (sameList (contentAt s (k + 1)) w) false ≡ false
       by true = rw content (not-same b w (contentAt s (k + 1 + 1)) h)
+      by false = refl
+
+  -- and by its second
+  pub unnamed-second : {a b : ℕ} → Letters s k a b → unescaped b ≡ true → (b ≡ getD w 1 0 → ⊥) → named s w k ≡ false
+  unfolding named pick
+  unnamed-second {a} {b} g u h = by (eqb (getD s k 0) 34)
+    where
+      next : k + 2 ≡ k + 1 + 1
+      next = omega arith
+
+      second : b ≡ getD s (k + 1 + 1) 0
+      second = g .then ∙ ap (λ j. getD s j 0) next
+
+      content : contentAt s (k + 1) ≡ a ∷ b ∷ contentAt s (k + 1 + 1 + 1)
+      content = rw (sym (g .first)) at (content-code s (k + 1) refl (unit-unescaped s (k + 1) (rw (g .first) at (g .itself))))
+          ∙ ap (λ l. a ∷ l) (rw (sym second) at
+          (content-code s (k + 1 + 1) refl (unit-unescaped s (k + 1 + 1) (rw second at u))))
+
+      by : (q : Bool) → pick q (sameList (contentAt s (k + 1)) w) false ≡ false
+      by true = rw content (not-same-then a b w (contentAt s (k + 1 + 1 + 1)) h)
       by false = refl

@@ -1,15 +1,19 @@
--- Laws about `startsWith`, for a loop over the word.
-use Prim.Native.Nat.{ℕ, zero, suc, _+_, _≤_, _<_}
-use mathlib.Core.Path.{_≡_, refl, sym}
-use mathlib.Core.Bool.{Bool, true, false}
+-- Laws about `startsWith`, for a loop over the word, and about a digit that stands alone.
+use Prim.Native.Nat.{ℕ, zero, suc, _+_, _≤_, _<_, _^_}
+use mathlib.Core.Path.{_≡_, refl, sym, _∙_}
+use mathlib.Core.Bool.{Bool, true, false, true≢false}
 use mathlib.Core.List.{List, [], _∷_}
 use native.Mathlib.Numerals.{add-one}
 use lib.Dec.{eqb}
 use lib.ListN.{length, getD, drop, drop-of-length-le}
 use lib.Seq.{drop-cons}
 use borrow.Author.Tests.{eq-eqb, ne-eqb}
-use Rattle.laws.specs.Pick.{both}
-use Rattle.json_tokens.specs.Scan.{startsWith}
+use mir.Syntax.{w64}
+use mir.Val.{Fits}
+use Rattle.laws.specs.Pick.{pick, both}
+use Rattle.json_tokens.specs.Scan.{startsWith, digit}
+use Rattle.json_tokens.specs.Number.{loneDigit}
+use Rattle.json_tokens.proofs.Lone.{digit-next}
 
 module _ (s w : List ℕ) (k : ℕ) where
   pub word-more : k < length w → k < length s → getD s k 0 ≡ getD w k 0
@@ -29,3 +33,12 @@ module _ (s w : List ℕ) (k : ℕ) where
 
   pub word-done : length w ≤ k → true ≡ startsWith (drop k w) (drop k s)
   word-done h = rw (drop-of-length-le w h) refl
+
+-- past a digit that stands alone
+pub lone-next : {r : Bool} (s : List ℕ) (at : ℕ) → r ≡ loneDigit s at → r ≡ true → length s < 2 ^ 64 → Fits w64 (at + 1)
+unfolding loneDigit pick
+lone-next s at e h b = by (digit (getD s at 0)) _ refl (sym e ∙ h)
+  where
+    by : (p q : Bool) → digit (getD s at 0) ≡ p → pick p q false ≡ true → Fits w64 (at + 1)
+    by true q d g = digit-next s at refl d b
+    by false q d g = absurd (true≢false (sym g))

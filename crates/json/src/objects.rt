@@ -5,7 +5,7 @@ ghost use Prim.Native.Nat.{_+_, _<_};
 ghost use lib.ListN.{length};
 ghost use Rattle.json.specs.Members.{named, valuePlace, answerOf, foundOf};
 ghost use Rattle.json.specs.Value.{valueAt, memberStep, objectOf};
-ghost use Rattle.json.specs.Facts.{Noted};
+ghost use Rattle.json.specs.Facts.{Noted, Letters, Begins};
 use super::Five;
 use super::Object;
 use super::Seen;
@@ -51,7 +51,61 @@ fn looked(s: &[u8], k: usize, v: usize, w: &[u8], t: Seen) -> Seen
     }
 }
 
+// The same by its first two letters, of which x is none that is escaped: mostly they are others.
+fn looked_by(s: &[u8], k: usize, v: usize, w: &[u8], t: Seen, x: u8, y: u8) -> Seen
+    requires { ⌜ Letters (now s) k x y ⌝ }
+    ensures { λ r. ⌜ Noted (now (s .entry)) (now (w .entry)) k v t r ⌝ }
+{
+    if x != byte(w, 0) {
+        return t;
+    }
+    if (y != byte(w, 1)) & is_unescaped(y) {
+        return t;
+    }
+    looked(s, k, v, w, t)
+}
+
 // The same under each of them.
+fn look_by(
+    s: &[u8],
+    k: usize,
+    v: usize,
+    m: Five,
+    a: &[u8],
+    b: &[u8],
+    c: &[u8],
+    d: &[u8],
+    e: &[u8],
+    x: u8,
+    y: u8,
+) -> Five
+    requires { ⌜ Letters (now s) k x y ⌝ }
+    ensures { λ r. ⌜ Noted (now (s .entry)) (now (a .entry)) k v (m .a) (r .a) ⌝ }
+    ensures { λ r. ⌜ Noted (now (s .entry)) (now (b .entry)) k v (m .b) (r .b) ⌝ }
+    ensures { λ r. ⌜ Noted (now (s .entry)) (now (c .entry)) k v (m .c) (r .c) ⌝ }
+    ensures { λ r. ⌜ Noted (now (s .entry)) (now (d .entry)) k v (m .d) (r .d) ⌝ }
+    ensures { λ r. ⌜ Noted (now (s .entry)) (now (e .entry)) k v (m .e) (r .e) ⌝ }
+{
+    let ma = m.a;
+    let mb = m.b;
+    let mc = m.c;
+    let md = m.d;
+    let me = m.e;
+    let fa = looked_by(s, k, v, a, ma, x, y);
+    let fb = looked_by(s, k, v, b, mb, x, y);
+    let fc = looked_by(s, k, v, c, mc, x, y);
+    let fd = looked_by(s, k, v, d, md, x, y);
+    let fe = looked_by(s, k, v, e, me, x, y);
+    Five {
+        a: fa,
+        b: fb,
+        c: fc,
+        d: fd,
+        e: fe,
+    }
+}
+
+// The same where the first letter is escaped.
 fn look_at_all(
     s: &[u8],
     k: usize,
@@ -88,16 +142,20 @@ fn look_at_all(
     }
 }
 
-// A name that begins with another letter than the word. Most members have a name that nobody asks for.
-fn differs(s: &[u8], k: usize, w: &[u8]) -> bool
-    requires { ⌜ k < length (now s) ⌝ }
-    ensures { λ r. ⌜ (r ≡ true → named (now (s .entry)) (now (w .entry)) k ≡ false) ⌝ }
+// Whether a letter is the first of none of the words. Most members have a name that nobody asks for.
+fn begins_none(x: u8, a: &[u8], b: &[u8], c: &[u8], d: &[u8], e: &[u8]) -> bool
+    ensures { λ r. ⌜ (r ≡ true →
+        Begins x (now (a .entry)) × Begins x (now (b .entry)) × Begins x (now (c .entry))
+        × Begins x (now (d .entry)) × Begins x (now (e .entry))) ⌝ }
 {
-    let b = byte(s, k + 1);
-    is_unescaped(b) & (b != byte(w, 0))
+    (x != byte(a, 0))
+        & (x != byte(b, 0))
+        & (x != byte(c, 0))
+        & (x != byte(d, 0))
+        & (x != byte(e, 0))
 }
 
-// The same, where that is seen by the first letter for most.
+// The member at k under each of the names, where that is seen by the first letter for most.
 fn look(
     s: &[u8],
     k: usize,
@@ -118,15 +176,14 @@ fn look(
     if byte(s, k) != b'"' {
         return m;
     }
-    if differs(s, k, a)
-        & differs(s, k, b)
-        & differs(s, k, c)
-        & differs(s, k, d)
-        & differs(s, k, e)
-    {
+    let x = byte(s, k + 1);
+    if !is_unescaped(x) {
+        return look_at_all(s, k, v, m, a, b, c, d, e);
+    }
+    if begins_none(x, a, b, c, d, e) {
         return m;
     }
-    look_at_all(s, k, v, m, a, b, c, d, e)
+    look_by(s, k, v, m, a, b, c, d, e, x, byte(s, k + 2))
 }
 
 // A turn of an object, and the place of the member's value.

@@ -12,6 +12,7 @@ use json_tokens::after_item;
 use json_tokens::blanks;
 use json_tokens::byte;
 use json_tokens::colon;
+use json_tokens::lone_digit;
 use json_tokens::number;
 
 // The bytes at the front are those of the word.
@@ -68,7 +69,10 @@ fn plain(s: &[u8], at: usize) -> Skip
         return literal(s, at, b"false");
     }
     if b == b'n' {
-        literal(s, at, b"null")
+        return literal(s, at, b"null");
+    }
+    if lone_digit(s, at) {
+        Skip::Past(at + 1)
     } else {
         number(s, at)
     }

@@ -14,7 +14,7 @@ use Rattle.base64.specs.declared.Group.the-variants.{Bad as BadGroup}
 use Rattle.base64.specs.Decode.{Decoded, bytes, none, onto, withGroup, groupOf, decode64}
 use Rattle.json_base64.specs.declared.Size.{Size}
 use Rattle.json_base64.specs.declared.Size.the-variants.{Of, Bad}
-use Rattle.json_base64.specs.Sized.{sizeOf, good, plain, Grouped}
+use Rattle.json_base64.specs.Sized.{sizeOf, good, plain, Grouped, Begun}
 use Rattle.json_base64.proofs.Quads.{decode-at}
 
 -- The state of the writer at the character k.
@@ -22,6 +22,25 @@ pub record Filling (E : List ℕ) (s : List ℕ) (k : ℕ) (was : List ℕ) (n :
   pub rest : List ℕ
   pub reads : decode64 (contentAt s k) ≡ bytes rest
   pub filled : Filled E rest was n out
+
+-- the same with no word of the room
+module _ {E s was out : List ℕ} {k n : ℕ} where
+  pub filling-begun : Filling E s k was n out → Begun E s k was n out
+  filling-begun f = record {
+    done = f .filled .done;
+    rest = f .rest;
+    reads = f .reads;
+    whole = f .filled .whole;
+    count = f .filled .count;
+    over = f .filled .over;
+  }
+
+  pub begun-filling : length E ≤ length was → Begun E s k was n out → Filling E s k was n out
+  begun-filling h b = record {
+    rest = b .rest;
+    reads = b .reads;
+    filled = record { done = b .done; whole = b .whole; count = b .count; room = h; over = b .over };
+  }
 
 is-bytes : (d : Decoded) → good d ≡ true → d ≡ bytes (plain d)
 is-bytes (bytes x) e = refl

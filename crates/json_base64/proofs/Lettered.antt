@@ -108,6 +108,13 @@ module _ {s : List ℕ} {at : ℕ} where
         rw e at (l .letters (4 * m + i) (omega arith));
   }
 
+  -- the one at an index
+  pub lettered-at : {m k : ℕ} (i : ℕ) → Lettered s at m → i < m → k ≡ at + 4 * i → Lettered s k 1
+  lettered-at {m} {k} i l h e = record {
+    inside = omega (arith, l .inside);
+    letters = λ j g. let f : at + (4 * i + j) ≡ k + j = omega arith in rw f at (l .letters (4 * i + j) (omega arith));
+  }
+
   pub size-letters : (m : ℕ) → Lettered s at m
       → sizeOf (3 * m) (decode64 (contentAt s (at + 4 * m))) ≡ sizeOf 0 (decode64 (contentAt s at))
   size-letters zero l = ap (λ k. sizeOf 0 (decode64 (contentAt s k))) (omega arith)
@@ -116,19 +123,9 @@ module _ {s : List ℕ} {at : ℕ} where
       let f : at + 4 * suc m ≡ at + 4 * m + 4 = omega arith in
       rw (e, f) (one-group (lettered-last l) (3 * m) ∙ size-letters m (lettered-front l))
 
-  -- ---- counted in stretches
+  -- ---- counted
   pub lettered-none : Lettered s at 0
   lettered-none = record { inside = omega arith; letters = λ i h. absurd (omega arith) }
-
-  pub lettered-more : {n k : ℕ} → k ≡ at + 4 * n → Lettered s at n → Passes isLetter s k 64 → k + 64 ≤ length s
-      → Lettered s at (n + 16)
-  lettered-more {n} {k} e l g h = record { inside = omega arith; letters = λ i b. by i b (ltb i (4 * n)) refl }
-    where
-      by : (i : ℕ) → i < 4 * (n + 16) → (b : Bool) → ltb i (4 * n) ≡ b → isLetter (getD s (at + i) 0) ≡ true
-      by i b true q = l .letters i (ltb-true _ _ q)
-      by i b false q =
-          let j = ltb-false i (4 * n) q in
-          let f : k + (i - 4 * n) ≡ at + i = omega arith in rw f at (g (i - 4 * n) (omega arith))
 
   pub lettered-next : {n k : ℕ} → k ≡ at + 4 * n → Lettered s at n → Lettered s k 1 → Lettered s at (n + 1)
   lettered-next {n} {k} e l g = record {

@@ -1,11 +1,13 @@
 -- Laws about groups of characters in a string, and about the size of what they stand for.
 use Prim.Native.Nat.{ℕ, _+_, _-_, _≤_, _<_}
 use mathlib.Core.Path.{_≡_, refl, sym, _∙_, ap}
-use mathlib.Core.Bool.{Bool, true, false}
+use mathlib.Core.Bool.{Bool, true, false, _||_, true≢false}
 use mathlib.Core.List.{List, [], _∷_, _++_}
 use native.Mathlib.Omega.{arith}
 use lib.ListN.{length, length-append}
-use Rattle.json_strings.specs.Text.{contentAt}
+use Rattle.json_strings.specs.Text.{contentAt, latinAt}
+use Rattle.json_strings.proofs.Content.{content-code, content-falls}
+use Rattle.json_strings.proofs.TwoDigits.{latin-unit}
 use Rattle.base64.specs.declared.Group.{Group}
 use Rattle.base64.specs.declared.Group.the-variants.{Three, Two, One}
 use Rattle.base64.specs.declared.Group.the-variants.{Bad as BadGroup}
@@ -40,6 +42,16 @@ module _ {s : List ℕ} {k a i : ℕ} (r : Reads s k a i) where
     group = e;
     on = omega (arith, r .on, q .on, p .on, o .on);
   }
+
+-- a character that is written as \u00 and two digits
+pub reads-latin : {s : List ℕ} {k j c : ℕ} → j ≡ k + 6 → c ≡ latinAt s k → (c ≡ 256 → ⊥) → Reads s k c j
+reads-latin {s} {k} q e n =
+    let u = latin-unit s k e n in rw q (record { text = content-code s k refl u; on = content-falls s k refl u })
+
+-- of two tests that fail at once, each by itself
+pub neither : (a b : Bool) → a || b ≡ false → (a ≡ false) × (b ≡ false)
+neither true b e = absurd (true≢false e)
+neither false b e = (refl, e)
 
 pub decode-at : {s : List ℕ} {k j : ℕ} {g : Group} (q : Grouped s k g j)
     → decode64 (contentAt s k) ≡ withGroup g (contentAt s j) (decode64 (contentAt s j))

@@ -2,7 +2,7 @@
 use Prim.Native.Nat.{ℕ, _+_, _*_, _-_, _≤_, _<_}
 use mathlib.Core.Path.{_≡_}
 use mathlib.Core.Bool.{Bool, true, false}
-use mathlib.Core.List.{List, [], _∷_}
+use mathlib.Core.List.{List, [], _∷_, _++_}
 use lib.ListN.{length}
 use Rattle.json_tokens.specs.Scan.{Passes}
 use Rattle.json_strings.specs.Text.{contentAt}
@@ -72,3 +72,13 @@ pub record Tripled (s : List ℕ) (k : ℕ) (was : List ℕ) (n : ℕ) (out : Li
   pub z : ℕ
   pub group : Grouped s k (Three x y z) (k + 4)
   pub put : out ≡ pasted was n (x ∷ y ∷ z ∷ [])
+
+-- of the bytes E, which the string's characters from some place on stand for, the first n stand at the front of a
+-- buffer, and its characters from k on stand for the rest
+pub record Begun (E s : List ℕ) (k : ℕ) (was : List ℕ) (n : ℕ) (out : List ℕ) : Type 0 where
+  pub done : List ℕ
+  pub rest : List ℕ
+  pub reads : decode64 (contentAt s k) ≡ bytes rest
+  pub whole : done ++ rest ≡ E
+  pub count : length done ≡ n
+  pub over : out ≡ pasted was 0 done

@@ -1,12 +1,16 @@
 // The characters of a string, in groups of four.
 ghost use mathlib.Core.Path.{_≡_};
 ghost use mathlib.Core.Bool.{true};
+ghost use Prim.Native.Nat.{_<_};
+ghost use lib.ListN.{length};
 ghost use Rattle.json_strings.specs.Text.{contentAt};
 ghost use Rattle.json_base64.specs.Sized.{CharOf, QuadOf, Lettered, empty};
 use super::Letter;
 use super::Quad;
-use super::stretches::four;
+use super::letters::four;
 use json_strings::Unit;
+use json_strings::latin;
+use json_tokens::byte;
 
 // Whether the string ends at a place.
 pub fn at_end(s: &[u8], k: usize) -> bool
@@ -57,10 +61,28 @@ fn quad_together(s: &[u8], k: usize) -> Quad
     Quad::Four(base64::three_of(s[k], s[k + 1], s[k + 2], s[k + 3]), k + 4)
 }
 
+// The four characters at a place, each written as \u00 and two digits, or one by one where one is not.
+fn quad_escaped(s: &[u8], k: usize) -> Quad
+    requires { ⌜ k < length (now s) ⌝ }
+    ensures { λ r. ⌜ QuadOf (now (s .entry)) k r ⌝ }
+{
+    let a = latin(s, k);
+    let b = latin(s, k + 6);
+    let c = latin(s, k + 12);
+    let d = latin(s, k + 18);
+    if (a == 256) | (b == 256) | (c == 256) | (d == 256) {
+        return quad_singly(s, k);
+    }
+    Quad::Four(base64::group_of(a, b, c, d), k + 24)
+}
+
 // The four characters at a place.
 pub fn quad_of(s: &[u8], k: usize) -> Quad
     ensures { λ r. ⌜ QuadOf (now (s .entry)) k r ⌝ }
 {
+    if byte(s, k) == b'\\' {
+        return quad_escaped(s, k);
+    }
     if four(s, k) {
         quad_together(s, k)
     } else {

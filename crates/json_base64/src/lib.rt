@@ -2,8 +2,8 @@
 // JSON may escape any letter, and some escape each `/`. Letters that stand unescaped, as most do, are read together.
 mod decoding;
 mod groups;
+mod letters;
 mod sizing;
-mod stretches;
 
 use base64::Group;
 pub use decoding::decode;

@@ -8,7 +8,7 @@ use super::Quad;
 use super::Size;
 use super::groups::at_end;
 use super::groups::quad_of;
-use super::stretches::groups;
+use super::letters::groups;
 use base64::Group;
 
 // How many bytes the string whose characters start at a place stands for.

@@ -4,5 +4,4 @@ pub mod Rooms
 pub mod Quotes
 pub mod Chars
 pub mod Once
-pub mod Wide
 pub mod RoundTrip

@@ -10,11 +10,12 @@ use lib.ListN.{length, getD, drop, drop-of-length-le, length-append}
 use lib.Seq.{drop-cons}
 use borrow.Author.Tests.{eqb-true, eqb-false, ltb-true, ltb-false, leb-true, leb-false, ne-eqb, lt-ltb, le-ltb}
 use borrow.Author.Tests.{lt-leb, le-leb}
-use Rattle.laws.specs.Pick.{pick, both}
+use Rattle.laws.specs.Pick.{pick}
 use Rattle.json_tokens.specs.declared.Skip.{Skip}
 use Rattle.json_tokens.specs.declared.Skip.the-variants.{Past, Bad}
 use Rattle.json_tokens.specs.declared.Step.the-variants.{More, End}
 use Rattle.json_tokens.specs.Walk.{onward, walk, walked}
+use Rattle.json_tokens.proofs.Ahead.{of-pick}
 use Rattle.json_tokens.proofs.Turns.{walked-more, walked-end}
 use Rattle.json_tokens.proofs.Stands.{Stands, stands-left, stands-right, stands-at, stands-next}
 use Rattle.json_strings.specs.declared.Unit.{Unit}
@@ -23,7 +24,8 @@ use Rattle.json_strings.specs.Text.{escapeOf, nibbleOf, nibbleAt, hexAt, escape
 use Rattle.json_strings.specs.Text.{stepOf, stringAt, contentAt}
 use Rattle.json_strings.proofs.Ahead.{forth-unit}
 use Rattle.json_strings.proofs.Content.{content-code, content-close}
-use Rattle.json_text.specs.Octets.{isHigh, isLow, utf8, octets, onto, textOf}
+use Rattle.json_strings.proofs.Sizes.{wide-unit}
+use Rattle.json_text.specs.Octets.{utf8, octets, onto, textOf}
 use Rattle.json_text.proofs.Again.{utf8-again}
 use Rattle.json_text.proofs.Joins.{text-one, text-end}
 use Rattle.json_text.proofs.Sizes.{utf8-one}
@@ -31,7 +33,8 @@ use Rattle.json_quote.specs.Quoted.{hexOf, escaped, quotedRest, quoted}
 use Rattle.json_quote.specs.Utf8.{charStep, reached, isUtf8}
 use Rattle.json_quote.proofs.Quotes.{rest-turn, rest-turn-length, rest-end}
 use Rattle.json_quote.proofs.Quotes.{escaped-quote, escaped-slash, escaped-low, escaped-plain}
-use Rattle.json_quote.proofs.Wide.{High, none, more, unit-there}
+use Rattle.json_text.proofs.Wide.{High, none, more, unit-there}
+use Rattle.json_text.proofs.Joins.{no-high, no-low}
 
 -- ---- One octet below 80, as it stands in the string.
 nibble-hex : (n : ℕ) → n < 16 → nibbleOf (hexOf n) ≡ n
@@ -131,23 +134,6 @@ octet-unit {s} {q} b h t = by (eqb b 34) (eqb b 92) (ltb b 32) refl refl refl
         let z = escaped-plain b (eqb-false b 34 e) (eqb-false b 92 f) (ltb-false b 32 g) in
         rw z (plain-unit (eqb-false b 34 e) (eqb-false b 92 f) (ltb-false b 32 g) (stands-at (rw z at t)))
 
--- ---- Numbers that are no surrogates.
-no-high : (c : ℕ) → (0xD800 ≤ c → 0xE000 ≤ c) → isHigh c ≡ false
-unfolding isHigh both
-no-high c h = by (leb 0xD800 c) refl
-  where
-    by : (t : Bool) → leb 0xD800 c ≡ t → both t (leb c 0xDBFF) ≡ false
-    by true e = lt-leb c 0xDBFF (omega (arith, h (leb-true 0xD800 c e)))
-    by false e = refl
-
-no-low : (c : ℕ) → (0xD800 ≤ c → 0xE000 ≤ c) → isLow c ≡ false
-unfolding isLow both
-no-low c h = by (leb 0xDC00 c) refl
-  where
-    by : (t : Bool) → leb 0xDC00 c ≡ t → both t (leb c 0xDFFF) ≡ false
-    by true e = let k = leb-true 0xDC00 c e in lt-leb c 0xDFFF (omega (arith, h (omega arith)))
-    by false e = refl
-
 -- ---- Octets from 80 on stand for themselves.
 high-rest : (l y : List ℕ) → High l → quotedRest (l ++ y) ≡ l ++ quotedRest y
 unfolding quotedRest
@@ -159,22 +145,7 @@ unit-close : (s : List ℕ) (q : ℕ) → getD s q 0 ≡ 34 → unitAt s q ≡ C
 unfolding unitAt pick
 unit-close s q e = rw e refl
 
-wide-unit : (x : List ℕ) (p : ℕ) → 0x80 ≤ getD x p 0 → unitAt x p ≡ wideAt x p
-unfolding unitAt pick
-wide-unit x p h =
-    simp (
-      ne-eqb (getD x p 0) 34 (λ z. omega arith),
-      ne-eqb (getD x p 0) 92 (λ z. omega arith),
-      le-ltb (getD x p 0) 32 (omega arith),
-      le-ltb (getD x p 0) 128 h,
-    )
-
 -- no longer character is the closing quote
-pick-apart : {A : Type 0} (P : A → Type 0) (b : Bool) {x y : A} → P x → P y → P (pick b x y)
-unfolding pick
-pick-apart P true p q = p
-pick-apart P false p q = q
-
 abbrev NotClose : ℕ → Unit → Type 0
 NotClose j u = u ≡ Close j → ⊥
 
@@ -187,9 +158,9 @@ ill-open e = let z : _≡_ {A = ℕ} 0 1 = cc in omega arith
 not-close : (x : List ℕ) (p : ℕ) {j : ℕ} → 0x80 ≤ getD x p 0 → unitAt x p ≡ Close j → ⊥
 unfolding wideAt longAt
 not-close x p {j} h e =
-    pick-apart (NotClose j) _ ill-open (pick-apart (NotClose j) _ (pick-apart (NotClose j) _ code-open
-    (pick-apart (NotClose j) _ (pick-apart (NotClose j) _ code-open (pick-apart (NotClose j) _
-    (pick-apart (NotClose j) _ code-open ill-open) ill-open)) ill-open)) ill-open) (sym (wide-unit x p h) ∙ e)
+    of-pick (NotClose j) _ ill-open (of-pick (NotClose j) _ (of-pick (NotClose j) _ code-open
+    (of-pick (NotClose j) _ (of-pick (NotClose j) _ code-open (of-pick (NotClose j) _
+    (of-pick (NotClose j) _ code-open ill-open) ill-open)) ill-open)) ill-open) (sym (wide-unit x p h) ∙ e)
 
 -- ---- One turn: the end, an octet below 80, and a longer character. The rest is read as it should be.
 end-case : (x s : List ℕ) (p q : ℕ) → length x ≤ p → Stands s q (quotedRest (drop p x))

@@ -14,6 +14,7 @@ use Rattle.json_strings.specs.declared.Unit.the-variants.{Code, Close}
 use Rattle.json_strings.specs.Text.{unitAt, stepOf, unitStep, stringAt, contentAt}
 use Rattle.json_strings.proofs.Ahead.{forth-unit}
 use Rattle.json_strings.proofs.Content.{content-code, content-close}
+use Rattle.json_strings.proofs.Runs.{unit-quoted}
 
 -- a character that stands for itself
 pub record Plain (c : ℕ) : Type 0 where
@@ -37,8 +38,7 @@ unit-plain {s} {k} {c} p t =
     ))
 
 unit-quote : {s : List ℕ} {k : ℕ} {x : List ℕ} → Stands s k (34 ∷ x) → unitAt s k ≡ Close (k + 1)
-unfolding unitAt pick
-unit-quote t = rw (stands-at t) refl
+unit-quote {s} {k} t = unit-quoted s k refl (stands-at t)
 
 -- characters that stand for themselves, and the closing quote
 chars-end : {s : List ℕ} {k : ℕ} (l x : List ℕ) → Each l → Stands s k (l ++ 34 ∷ x)

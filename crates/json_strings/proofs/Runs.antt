@@ -8,7 +8,7 @@ use lib.Dec.{eqb, leb, ltb}
 use lib.ListN.{length, getD}
 use borrow.Author.Tests.{leb-true, leb-false, eqb-true, eqb-false}
 use Rattle.laws.specs.Pick.{pick}
-use Rattle.json_strings.specs.declared.Unit.the-variants.{Code}
+use Rattle.json_strings.specs.declared.Unit.the-variants.{Code, Close}
 use Rattle.json_tokens.specs.declared.Step.the-variants.{More}
 use Rattle.json_tokens.specs.Scan.{pastWhile}
 use Rattle.json_tokens.specs.Walk.{walked}
@@ -55,6 +55,11 @@ unfolding unitAt unescaped
 unit-unescaped s k h =
     by-tests (eqb (getD s k 0) 34) (eqb (getD s k 0) 92) (ltb (getD s k 0) 32) (ltb (getD s k 0) 128) _
     _ _ _ _ h
+
+-- and a quote closes
+pub unit-quoted : {b : ℕ} (s : List ℕ) (k : ℕ) → b ≡ getD s k 0 → b ≡ 34 → unitAt s k ≡ Close (k + 1)
+unfolding unitAt pick
+unit-quoted s k e h = rw (sym e ∙ h) refl
 
 step-unescaped : (s : List ℕ) (k : ℕ) → unescaped (getD s k 0) ≡ true → unitStep s k ≡ More (k + 1)
 unfolding unitStep

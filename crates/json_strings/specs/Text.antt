@@ -1,11 +1,12 @@
 -- string = quotation-mark *char quotation-mark (RFC 8259, section 7). The text is UTF-8 (section 8.1): a byte sequence
 -- that RFC 3629 does not allow is no character.
 use Prim.Native.Char.{code}
-use Prim.Native.Nat.{ℕ, zero, suc, _+_, _*_, _-_, _%_}
+use Prim.Native.Nat.{ℕ, zero, suc, _+_, _*_, _-_, _%_, _≤_}
 use mathlib.Core.Bool.{Bool, true, false, not, _&&_}
 use mathlib.Core.List.{List, [], _∷_, _++_}
+use mathlib.Core.Path.{_≡_}
 use lib.Dec.{eqb, leb, ltb}
-use lib.ListN.{length, getD}
+use lib.ListN.{length, getD, drop}
 use Rattle.json_tokens.specs.declared.Skip.{Skip}
 use Rattle.json_tokens.specs.declared.Skip.the-variants.{Past, Bad}
 use Rattle.json_tokens.specs.declared.Step.{Step}
@@ -45,6 +46,14 @@ unfoldable pub escapeAt : List ℕ → ℕ → Unit
 escapeAt s at =
     pick (eqb (getD s at 0) (code "u")) (hexAt s (at + 1))
     (pick (eqb (escapeOf (getD s at 0)) 0) Ill (Code (escapeOf (getD s at 0)) (at + 1)))
+
+-- the number of a character that is written as \u00 and two digits; 256 for any other
+unfoldable pub latinAt : List ℕ → ℕ → ℕ
+latinAt s at =
+    pick (eqb (getD s at 0) (code "\\")) (pick (eqb (getD s (at + 1) 0) (code "u"))
+    (pick (eqb (getD s (at + 2) 0) (code "0")) (pick (eqb (getD s (at + 3) 0) (code "0"))
+    (pick (eqb (nibbleAt s (at + 4)) 16) 256 (pick (eqb (nibbleAt s (at + 5)) 16) 256
+    (16 * nibbleAt s (at + 4) + nibbleAt s (at + 5)))) 256) 256) 256) 256
 
 -- RFC 3629, section 4. The second byte of a character: mostly UTF8-tail = %x80-BF, and less after four of the first
 -- bytes
@@ -137,3 +146,9 @@ sameList [] [] = true
 sameList [] (y ∷ ys) = false
 sameList (x ∷ xs) [] = false
 sameList (x ∷ xs) (y ∷ ys) = both (eqb x y) (sameList xs ys)
+
+-- ---- For the private functions: what stands at r past as much of a word as stands at a place.
+pub record Alike (s : List ℕ) (at : ℕ) (w : List ℕ) (r : ℕ) : Type 0 where
+  pub rest : sameList (contentAt s r) (drop (r - at) w) ≡ sameList (contentAt s at) w
+  pub on : at ≤ r
+  pub another : unescaped (getD s r 0) ≡ true → false ≡ sameList (contentAt s r) (drop (r - at) w)

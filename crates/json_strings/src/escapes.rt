@@ -3,7 +3,7 @@ ghost use mathlib.Core.Path.{_≡_};
 ghost use Prim.Native.Nat.{_+_, _≤_, _<_};
 ghost use lib.ListN.{length};
 ghost use Rattle.json_tokens.specs.Scan.{digit, after};
-ghost use Rattle.json_strings.specs.Text.{escapeOf, nibbleOf, nibbleAt, hexAt, escapeAt};
+ghost use Rattle.json_strings.specs.Text.{escapeOf, nibbleOf, nibbleAt, hexAt, escapeAt, latinAt};
 use super::Unit;
 use json_tokens::byte;
 
@@ -39,7 +39,7 @@ fn escape_of(b: u8) -> u32
 }
 
 // A hexadecimal digit, 16 for any other letter.
-fn nibble_of(b: u8) -> u32
+pub fn nibble_of(b: u8) -> u32
     ensures { λ r. ⌜ (r ≡ nibbleOf b) × (r ≤ 16) ⌝ }
 {
     if b < b'0' {
@@ -105,4 +105,32 @@ pub fn escape(s: &[u8], at: usize) -> Unit
         return Unit::Ill;
     }
     Unit::Code(e, at + 1)
+}
+
+// The number of the character that is written at a place as \u00 and two digits, 256 for any other: what escapes each
+// letter writes so.
+pub fn latin(s: &[u8], at: usize) -> u32
+    ensures { λ r. ⌜ r ≡ latinAt (now (s .entry)) at ⌝ }
+{
+    if byte(s, at) != b'\\' {
+        return 256;
+    }
+    if byte(s, at + 1) != b'u' {
+        return 256;
+    }
+    if byte(s, at + 2) != b'0' {
+        return 256;
+    }
+    if byte(s, at + 3) != b'0' {
+        return 256;
+    }
+    let h = nibble_at(s, at + 4);
+    if h == 16 {
+        return 256;
+    }
+    let l = nibble_at(s, at + 5);
+    if l == 16 {
+        return 256;
+    }
+    16 * h + l
 }

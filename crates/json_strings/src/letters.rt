@@ -7,7 +7,7 @@ ghost use Rattle.json_strings.specs.Text.{longAt, wideAt};
 use super::Unit;
 use json_tokens::byte;
 
-fn least_second(b: u8) -> u8
+pub fn least_second(b: u8) -> u8
     ensures { λ r. ⌜ r ≡ leastSecond b ⌝ }
 {
     if b == 0xE0 {
@@ -16,7 +16,7 @@ fn least_second(b: u8) -> u8
     if b == 0xF0 { 0x90 } else { 0x80 }
 }
 
-fn most_second(b: u8) -> u8
+pub fn most_second(b: u8) -> u8
     ensures { λ r. ⌜ r ≡ mostSecond b ⌝ }
 {
     if b == 0xED {

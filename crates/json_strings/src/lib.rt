@@ -4,11 +4,15 @@ mod escapes;
 mod letters;
 mod strings;
 mod unescaped;
+mod wides;
 
+pub use escapes::latin;
 pub use strings::holds;
 pub use strings::string;
 pub use strings::unit_of;
 pub use unescaped::is_unescaped;
+pub use unescaped::unescaped_run;
+pub use wides::hex_code;
 
 // What stands at a place within a string: a character by its number, with the place past it; the closing quote; or what
 // no string may hold.

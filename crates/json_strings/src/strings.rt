@@ -1,14 +1,15 @@
 // Strings (RFC 8259, section 7).
 ghost use mathlib.Core.Path.{_≡_};
-ghost use Prim.Native.Nat.{_+_, _-_, _≤_, _<_};
+ghost use Prim.Native.Nat.{_≤_, _<_};
 ghost use lib.ListN.{length, drop};
 ghost use Rattle.json_tokens.specs.Walk.{walked};
-ghost use Rattle.json_strings.specs.Text.{unitAt, unitStep, stringAt, contentAt, sameList};
+ghost use Rattle.json_strings.specs.Text.{unitAt, unitStep, stringAt, contentAt, sameList, Alike};
 use super::Unit;
 use super::escapes::escape;
 use super::letters::wide;
 use super::unescaped::is_unescaped;
 use super::unescaped::unescaped_run;
+use super::wides::wide_run;
 use json_tokens::Skip;
 use json_tokens::Step;
 use json_tokens::byte;
@@ -45,8 +46,7 @@ fn unit_step(s: &[u8], at: usize) -> Step
     }
 }
 
-// Where to go on after the character from k to n: past the run that it begins, if it is one byte. Others come in rows
-// of their own, and after them no run is looked for.
+// Where to go on after the character from k to n: past the run that it begins, of characters of one byte or of others.
 fn onward(s: &[u8], k: usize, n: usize) -> usize
     requires { ⌜ k < n ⌝ }
     ensures { λ r. ⌜
@@ -55,7 +55,11 @@ fn onward(s: &[u8], k: usize, n: usize) -> usize
         × (n ≤ r)
         ⌝ }
 {
-    if n - k == 1 { unescaped_run(s, n) } else { n }
+    if n - k == 1 {
+        unescaped_run(s, n)
+    } else {
+        wide_run(s, n)
+    }
 }
 
 // A string, at its opening quote.
@@ -67,6 +71,9 @@ pub fn string(s: &[u8], at: usize) -> Skip
         return Skip::Bad;
     }
     let mut k = unescaped_run(s, at + 1);
+    if byte(s, k) == b'"' {
+        return Skip::Past(k + 1);
+    }
     loop {
         match unit_step(s, k) {
             Step::More(n) => {
@@ -82,13 +89,9 @@ pub fn string(s: &[u8], at: usize) -> Skip
     }
 }
 
-// Past the bytes at a place that stand for themselves and are those of the word.
+// Past the bytes at a place that stand for themselves and are those of the word. One that stands there is another.
 fn alike(s: &[u8], at: usize, w: &[u8]) -> usize
-    ensures { λ r. ⌜
-        (sameList (contentAt (now (s .entry)) r) (drop (r - at) (now (w .entry)))
-        ≡ sameList (contentAt (now (s .entry)) at) (now (w .entry)))
-        × (at ≤ r)
-        ⌝ }
+    ensures { λ r. ⌜ Alike (now (s .entry)) at (now (w .entry)) r ⌝ }
 {
     let mut k = at;
     let mut i = 0;
@@ -106,12 +109,12 @@ fn alike(s: &[u8], at: usize, w: &[u8]) -> usize
     k
 }
 
-// The string whose characters start at a place holds the word, unescaped.
-pub fn holds(s: &[u8], at: usize, w: &[u8]) -> bool
-    ensures { λ r. ⌜ r ≡ sameList (contentAt (now (s .entry)) at) (now (w .entry)) ⌝ }
+// The string whose characters start at a place holds the word from an index on, unescaped.
+fn holds_rest(s: &[u8], at: usize, w: &[u8], from: usize) -> bool
+    ensures { λ r. ⌜ r ≡ sameList (contentAt (now (s .entry)) at) (drop from (now (w .entry))) ⌝ }
 {
-    let mut k = alike(s, at, w);
-    let mut i = k - at;
+    let mut k = at;
+    let mut i = from;
     loop {
         match unit_of(s, k) {
             Unit::Code(c, j) => {
@@ -132,6 +135,22 @@ pub fn holds(s: &[u8], at: usize, w: &[u8]) -> bool
             }
         }
     }
+}
+
+// The string whose characters start at a place holds the word, unescaped. That it ends, or goes on otherwise, is mostly
+// seen by one byte.
+pub fn holds(s: &[u8], at: usize, w: &[u8]) -> bool
+    ensures { λ r. ⌜ r ≡ sameList (contentAt (now (s .entry)) at) (now (w .entry)) ⌝ }
+{
+    let k = alike(s, at, w);
+    let b = byte(s, k);
+    if b == b'"' {
+        return w.len() <= k - at;
+    }
+    if is_unescaped(b) {
+        return false;
+    }
+    holds_rest(s, k, w, k - at)
 }
 
 fn word(b: u8) -> u32

@@ -4,7 +4,7 @@ use mathlib.Core.Path.{_≡_, refl, _∙_, ap}
 use mathlib.Core.Bool.{Bool, true, false}
 use mathlib.Core.List.{List, [], _∷_}
 use native.Mathlib.Omega.{arith, by-contra}
-use borrow.Author.Tests.{eqb-true, ltb-true, ltb-false, ne-eqb, lt-ltb, le-ltb, le-leb}
+use borrow.Author.Tests.{eqb-true, ltb-true, ltb-false, lt-ltb, le-ltb, le-leb}
 use lib.Dec.{eqb, ltb}
 use lib.ListN.{length, getD}
 use Rattle.laws.specs.Pick.{pick, both}
@@ -13,23 +13,13 @@ use Rattle.json_tokens.proofs.Stands.{Stands, stands-at, stands-next}
 use Rattle.json_strings.specs.declared.Unit.the-variants.{Code}
 use Rattle.json_strings.specs.Text.{leastSecond, mostSecond, secondAt, tailAt, moreBits, twoAt, threeAt, fourAt, longAt}
 use Rattle.json_strings.specs.Text.{wideAt, unitAt}
+use Rattle.json_strings.proofs.Sizes.{wide-unit}
 use Rattle.json_text.specs.Octets.{trailing, utf8}
 use Rattle.json_text.proofs.Sizes.{utf8-two, utf8-three, utf8-four}
 
--- a byte of 80 or more is no quote, no backslash and no control
 two : {p q : Bool} → p ≡ true → q ≡ true → both p q ≡ true
 unfolding both
 two e f = rw (e, f) refl
-
-wide : (s : List ℕ) (k : ℕ) → 0x80 ≤ getD s k 0 → unitAt s k ≡ wideAt s k
-unfolding unitAt pick
-wide s k h =
-    simp (
-      ne-eqb (getD s k 0) 34 (λ e. omega arith),
-      ne-eqb (getD s k 0) 92 (λ e. omega arith),
-      le-ltb (getD s k 0) 32 (omega arith),
-      le-ltb (getD s k 0) 128 h,
-    )
 
 -- six bits behind the others
 six : {m : ℕ} (n : ℕ) → m ≡ n / 64 → moreBits m (trailing n) ≡ n
@@ -74,7 +64,7 @@ module _ {s : List ℕ} {k : ℕ} (c : ℕ) where
       let m =
       second-good s k e f (omega arith) (omega arith) (λ x. omega arith) (λ x. omega arith) (λ x. omega arith)
       (λ x. omega arith) in
-      wide s k (omega arith)
+      wide-unit s k (omega arith)
       ∙ rw (e, f) (simp (
         le-ltb (0xC0 + c / 64 % 32) 0xC2 (omega arith),
         m,
@@ -93,7 +83,7 @@ module _ {s : List ℕ} {k : ℕ} (c : ℕ) where
       let m =
       second-good s k e f (omega arith) (omega arith) (λ x. omega arith) (λ x. omega arith)
       (λ x. by-surrogate x) (λ x. omega arith) in
-      wide s k (omega arith)
+      wide-unit s k (omega arith)
       ∙ rw (e, f, l) (simp (
         le-ltb (0xE0 + c / 4096 % 16) 0xC2 (omega arith),
         m,
@@ -121,7 +111,7 @@ module _ {s : List ℕ} {k : ℕ} (c : ℕ) where
       let m =
       second-good s k e f (omega arith) (omega arith) (λ x. omega arith) (λ x. omega arith) (λ x. omega arith)
       (λ x. omega arith) in
-      wide s k (omega arith)
+      wide-unit s k (omega arith)
       ∙ rw (e, f, l, o) (simp (
         le-ltb (0xF0 + c / 262144 % 8) 0xC2 (omega arith),
         m,

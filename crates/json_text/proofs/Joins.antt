@@ -79,3 +79,20 @@ text-other c d l h g = rw (h, g) (rw h refl)
 pub text-end : textOf [] ≡ octets []
 unfolding textOf joined encoded
 text-end = refl
+
+-- numbers that are no surrogates
+pub no-high : (c : ℕ) → (0xD800 ≤ c → 0xE000 ≤ c) → isHigh c ≡ false
+unfolding isHigh both
+no-high c h = by (leb 0xD800 c) refl
+  where
+    by : (t : Bool) → leb 0xD800 c ≡ t → both t (leb c 0xDBFF) ≡ false
+    by true e = lt-leb c 0xDBFF (omega (arith, h (leb-true 0xD800 c e)))
+    by false e = refl
+
+pub no-low : (c : ℕ) → (0xD800 ≤ c → 0xE000 ≤ c) → isLow c ≡ false
+unfolding isLow both
+no-low c h = by (leb 0xDC00 c) refl
+  where
+    by : (t : Bool) → leb 0xDC00 c ≡ t → both t (leb c 0xDFFF) ≡ false
+    by true e = let k = leb-true 0xDC00 c e in lt-leb c 0xDFFF (omega (arith, h (omega arith)))
+    by false e = refl

@@ -5,5 +5,7 @@ pub mod Letters
 pub mod Fills
 pub mod Ascii
 pub mod Again
+pub mod Wide
+pub mod NoEscapes
 pub mod Once
 pub mod Examples

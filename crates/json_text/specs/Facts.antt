@@ -1,8 +1,10 @@
 -- For the private functions: a character of a string, with what follows.
+use Prim.Native.Char.{code}
 use Prim.Native.Nat.{ℕ, _+_, _-_, _≤_, _<_}
 use mathlib.Core.Path.{_≡_}
-use mathlib.Core.Bool.{Bool, true, false}
+use mathlib.Core.Bool.{Bool, true, false, not, _&&_}
 use mathlib.Core.List.{List, [], _∷_}
+use lib.Dec.{eqb}
 use lib.ListN.{length}
 use Rattle.json_strings.specs.Text.{contentAt}
 use Rattle.json_text.specs.declared.Letter.{Letter}
@@ -34,3 +36,7 @@ abbrev pub LetterOf : List ℕ → ℕ → Letter → Type 0
 LetterOf s k (Is c j) = Reads s k c j
 LetterOf s k Stop = textOf (contentAt s k) ≡ octets []
 LetterOf s k Lone = textOf (contentAt s k) ≡ none
+
+-- neither a quote nor a backslash
+unfoldable pub bare : ℕ → Bool
+bare b = not (eqb b (code "\"")) && not (eqb b (code "\\"))

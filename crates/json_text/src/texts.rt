@@ -36,7 +36,7 @@ pub fn text_size(s: &[u8], at: usize) -> TextSize
 }
 
 // The octets of the string's text at the front of out: it is a text.
-fn fill(s: &[u8], at: usize, out: &mut [u8])
+pub fn fill(s: &[u8], at: usize, out: &mut [u8])
     requires { ⌜
         (good (textOf (contentAt (now s) at)) ≡ true)
         × (length (plain (textOf (contentAt (now s) at))) ≤ length (now out))

@@ -4,5 +4,6 @@ pub mod While
 pub mod Turns
 pub mod Ahead
 pub mod Counted
+pub mod Lone
 pub mod Stands
 pub mod Once

@@ -1,6 +1,7 @@
 -- number = [ minus ] int [ frac ] [ exp ] (RFC 8259, section 6). A reader takes as many digits as there are.
 use Prim.Native.Char.{code}
 use Prim.Native.Nat.{ℕ, _+_}
+use mathlib.Core.Bool.{Bool, false, _||_}
 use mathlib.Core.List.{List}
 use lib.Dec.{eqb}
 use lib.ListN.{getD}
@@ -43,3 +44,10 @@ integerAt s at = wholeAt s (pastMinus s at)
 
 unfoldable pub numberAt : List ℕ → ℕ → Skip
 numberAt s at = then (integerAt s at) (λ e. then (fractionAt s e) (exponentAt s))
+
+-- one digit, and then what may follow a value in a list: a comma or a closing bracket
+unfoldable pub loneDigit : List ℕ → ℕ → Bool
+loneDigit s at =
+    pick (digit (getD s at 0))
+    ((eqb (getD s (at + 1) 0) (code ",") || eqb (getD s (at + 1) 0) (code "]")) || eqb (getD s (at + 1) 0) (code "}"))
+    false

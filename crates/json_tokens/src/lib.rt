@@ -4,6 +4,7 @@
 mod numbers;
 mod scan;
 
+pub use numbers::lone_digit;
 pub use numbers::number;
 pub use scan::after_item;
 pub use scan::blanks;

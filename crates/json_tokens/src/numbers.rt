@@ -2,10 +2,11 @@
 ghost use mathlib.Core.Path.{_≡_};
 ghost use Prim.Native.Nat.{_+_};
 ghost use Rattle.json_tokens.specs.Number.{someDigits, pastMinus, pastSign, wholeAt, fractionAt, signedAt, exponentAt};
-ghost use Rattle.json_tokens.specs.Number.{integerAt, numberAt};
+ghost use Rattle.json_tokens.specs.Number.{integerAt, numberAt, loneDigit};
 use super::Skip;
 use super::scan::byte;
 use super::scan::digits;
+use super::scan::is_digit;
 
 fn some_digits(s: &[u8], at: usize) -> Skip
     ensures { λ r. ⌜ r ≡ someDigits (now (s .entry)) at ⌝ }
@@ -89,4 +90,17 @@ pub fn number(s: &[u8], at: usize) -> Skip
         return Skip::Bad;
     };
     exponent(s, f)
+}
+
+// Whether one digit is the whole number, with a comma or a closing bracket right behind it: a short way for the shortest
+// of values.
+pub fn lone_digit(s: &[u8], at: usize) -> bool
+    ensures { λ r. ⌜ r ≡ loneDigit (now (s .entry)) at ⌝ }
+{
+    let b = byte(s, at);
+    if !is_digit(b) {
+        return false;
+    }
+    let c = byte(s, at + 1);
+    (c == b',') | (c == b']') | (c == b'}')
 }

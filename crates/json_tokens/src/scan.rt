@@ -28,7 +28,7 @@ fn is_blank(b: u8) -> bool
     b == b'\r'
 }
 
-fn is_digit(b: u8) -> bool
+pub fn is_digit(b: u8) -> bool
     ensures { λ r. ⌜ r ≡ digit b ⌝ }
 {
     if b < b'0' {

@@ -1,77 +1,93 @@
 -- Laws about integers in a text: where a number ends, and which bytes it has.
-use Prim.Native.Nat.{ℕ, _+_, _-_, _≤_, _<_}
+use Prim.Native.Nat.{ℕ, zero, suc, _+_, _-_, _≤_, _<_}
 use mathlib.Core.Path.{_≡_, refl, sym, _∙_}
 use mathlib.Core.Bool.{Bool, true, false, true≢false}
 use mathlib.Core.List.{List, [], _∷_}
 use native.Mathlib.Numerals.{add-one}
 use native.Mathlib.Omega.{arith}
 use lib.Dec.{eqb}
-use lib.ListN.{length, getD, take, drop, drop-of-length-le}
-use lib.Seq.{drop-cons}
-use borrow.Author.Tests.{eq-eqb, eqb-true}
+use lib.ListN.{length, getD, take, drop, drop-of-length-le, length-drop, List·getD-eq-default}
+use lib.Seq.{drop-cons, length-take-le}
+use borrow.Author.Tests.{eq-eqb, ne-eqb, eqb-true}
 use Rattle.laws.specs.Ascii.{ascii}
 use Rattle.laws.specs.Pick.{pick, either, both}
 use Rattle.laws.proofs.Split.{split}
 use Rattle.json_tokens.specs.declared.Skip.{Skip}
 use Rattle.json_tokens.specs.declared.Skip.the-variants.{Past, Bad}
 use Rattle.json_tokens.specs.Scan.{then, digit, pastWhile}
-use Rattle.json_tokens.specs.Number.{someDigits, pastMinus, wholeAt, integerAt, fractionAt, signedAt, exponentAt, numberAt}
+use Rattle.json_tokens.specs.Number.{someDigits, pastMinus, wholeAt, integerAt, fractionAt, signedAt, exponentAt, numberAt, pastSign}
 use Rattle.json_tokens.proofs.Picks.{inside}
 use Rattle.json_tokens.proofs.Ahead.{of-pick, of-pick-if, ahead-number}
 use Rattle.json_tokens.proofs.Turns.{Ahead}
-use Rattle.json_tokens.proofs.While.{while-within, while-end}
+use Rattle.json_tokens.proofs.While.{while-more, while-ahead, while-within, while-end}
 use Rattle.json_strings.specs.Text.{sameList}
 use Rattle.json_text.specs.Octets.{octets, none, plain}
 use Rattle.json.specs.declared.Found.{Found}
 use Rattle.json.specs.declared.Found.the-variants.{At, Nothing, Twice}
 use Rattle.list_read.specs.Server.{isMark, unmarked, wholeOf, upTo, versionBy, isSome}
 
--- ---- No number ends past the text.
-abbrev Within : ℕ → Skip → Type 0
-Within n (Past e) = e ≤ n
-Within n Bad = Unit {0}
+-- ---- Where a number ends: what holds of the end of its integer, and of the end of any digits further on, holds of its
+-- own end.
+abbrev Ends : (ℕ → Type 0) → Skip → Type 0
+Ends P (Past e) = P e
+Ends P Bad = Unit {0}
 
-within-then : (n : ℕ) (r : Skip) (f : ℕ → Skip) → Within n r → ((e : ℕ) → e ≤ n → Within n (f e)) → Within n (then r f)
+ends-then : (P : ℕ → Type 0) (r : Skip) (f : ℕ → Skip) → Ends P r → ((e : ℕ) → P e → Ends P (f e)) → Ends P (then r f)
 unfolding then
-within-then n (Past e) f h g = g e h
-within-then n Bad f h g = tt
+ends-then P (Past e) f h g = g e h
+ends-then P Bad f h g = tt
 
 module _ (s : List ℕ) where
-  within-digits : (k : ℕ) → Within (length s) (someDigits s k)
+  module _ (P : ℕ → Type 0) (on : (j k : ℕ) → P j → j ≤ k → Ends P (someDigits s k)) where
+    ends-fraction : (k : ℕ) → P k → Ends P (fractionAt s k)
+    unfolding fractionAt
+    ends-fraction k h = of-pick (Ends P) _ (on k (k + 1) h (omega arith)) h
+
+    ends-signed : (j k : ℕ) → P j → j ≤ k → Ends P (signedAt s k)
+    unfolding signedAt pastSign
+    ends-signed j k h i = of-pick (λ n. Ends P (someDigits s n)) _ (on j (k + 1) h (omega arith)) (on j k h i)
+
+    ends-exponent : (k : ℕ) → P k → Ends P (exponentAt s k)
+    unfolding exponentAt
+    ends-exponent k h = of-pick (Ends P) _ (ends-signed k (k + 1) h (omega arith)) h
+
+    ends-number : (k : ℕ) → Ends P (integerAt s k) → Ends P (numberAt s k)
+    unfolding numberAt
+    ends-number k i =
+        ends-then P _ _ i (λ e h. ends-then P _ _ (ends-fraction e h) (λ f g. ends-exponent f g))
+
+  -- ---- No number ends past the text.
+  abbrev Within : ℕ → Type 0
+  Within e = e ≤ length s
+
+  within-digits : (k : ℕ) → Ends Within (someDigits s k)
   unfolding someDigits pick
   within-digits k = by (eqb (pastWhile digit s k) k) refl
     where
-      by : (b : Bool) → eqb (pastWhile digit s k) k ≡ b → Within (length s) (pick b Bad (Past (pastWhile digit s k)))
+      by : (b : Bool) → eqb (pastWhile digit s k) k ≡ b → Ends Within (pick b Bad (Past (pastWhile digit s k)))
       by true e = tt
       by false e =
           split k (length s) (λ h. while-within digit s k h)
           (λ h. absurd (true≢false (sym (eq-eqb _ _ (sym (while-end digit s k (omega arith)))) ∙ e)))
 
-  within-whole : (k : ℕ) → Within (length s) (wholeAt s k)
+  within-whole : (k : ℕ) → Ends Within (wholeAt s k)
   unfolding wholeAt
   within-whole k =
-      of-pick-if (Within (length s)) _ (λ t. omega (arith, inside {n = 48} s refl (eqb-true _ _ t) tt)) (within-digits k)
+      of-pick-if (Ends Within) _ (λ t. omega (arith, inside {n = 48} s refl (eqb-true _ _ t) tt)) (within-digits k)
 
-  within-fraction : (k : ℕ) → k ≤ length s → Within (length s) (fractionAt s k)
-  unfolding fractionAt
-  within-fraction k h = of-pick (Within (length s)) _ (within-digits (k + 1)) h
+  within-integer : (k : ℕ) → Ends Within (integerAt s k)
+  unfolding integerAt
+  within-integer k = within-whole (pastMinus s k)
 
-  within-exponent : (k : ℕ) → k ≤ length s → Within (length s) (exponentAt s k)
-  unfolding exponentAt signedAt
-  within-exponent k h = of-pick (Within (length s)) _ (within-digits _) h
-
-  within-number : (k : ℕ) → Within (length s) (numberAt s k)
-  unfolding numberAt integerAt
-  within-number k =
-      within-then (length s) _ _ (within-whole (pastMinus s k))
-      (λ e h. within-then (length s) _ _ (within-fraction e h) (λ f g. within-exponent f g))
+  within-number : (k : ℕ) → Ends Within (numberAt s k)
+  within-number k = ends-number Within (λ i j h g. within-digits j) k (within-integer k)
 
   module _ {x : Skip} (v : ℕ) {e : ℕ} (p : x ≡ numberAt s v) (q : x ≡ Past e) where
     pub number-start : v ≤ e
     number-start = let h : Ahead v (Past e) = rw (sym p ∙ q) at (ahead-number s v) in h
 
     pub number-end : e ≤ length s
-    number-end = let h : Within (length s) (Past e) = rw (sym p ∙ q) at (within-number v) in h
+    number-end = let h : Ends Within (Past e) = rw (sym p ∙ q) at (within-number v) in h
 
 -- ---- The bytes from k on have no mark.
 module _ (x : List ℕ) (k : ℕ) where
@@ -134,6 +150,80 @@ whole-one x = by (unmarked x) refl
     by : (b : Bool) → unmarked x ≡ b → sameList x (ascii "1") ≡ sameList (plain (pick b (octets x) none)) (ascii "1")
     by true e = refl
     by false e = sym (mark-one x e) ∙ one-not [] (λ h. omega arith)
+
+-- ---- What the first two bytes tell from 1.
+first-none : (n : ℕ) → false ≡ sameList (take n []) (ascii "1")
+unfolding sameList
+first-none zero = refl
+first-none (suc n) = refl
+
+first-cons : (n x : ℕ) (l : List ℕ) → (x ≡ 49 → ⊥) → false ≡ sameList (take n (x ∷ l)) (ascii "1")
+unfolding sameList both
+first-cons zero x l h = refl
+first-cons (suc n) x l h = rw (ne-eqb x 49 h) refl
+
+module _ (s : List ℕ) (v : ℕ) where
+  first-other : (n : ℕ) → (getD s v 0 ≡ 49 → ⊥) → false ≡ sameList (take n (drop v s)) (ascii "1")
+  first-other n h =
+      split (suc v) (length s) (λ i. rw (drop-cons s v 0 i) (first-cons n _ _ h))
+      (λ o. let z : length s ≤ v = omega arith in rw (drop-of-length-le s z) (first-none n))
+
+  pub ours-other : {b : ℕ} → b ≡ getD s v 0 → (b ≡ 49 → ⊥) → false ≡ sameList (plain (upTo s v (numberAt s v))) (ascii "1")
+  unfolding upTo
+  ours-other e h = by (numberAt s v)
+    where
+      by : (r : Skip) → false ≡ sameList (plain (upTo s v r)) (ascii "1")
+      by (Past f) = first-other (f - v) (λ z. h (e ∙ z)) ∙ whole-one _
+      by Bad = one-not [] (λ q. omega arith)
+
+  module _ (one : getD s v 0 ≡ 49) (d : digit (getD s (v + 1) 0) ≡ true) where
+    second-inside : v + 1 < length s
+    unfolding both
+    second-inside =
+        split (suc (v + 1)) (length s) (λ h. h)
+        (λ o. absurd (true≢false (sym (rw (List·getD-eq-default s 0 {n = v + 1} (omega arith)) at d))))
+
+    one-digit : digit (getD s v 0) ≡ true
+    unfolding both
+    one-digit = rw one refl
+
+    two-digits : v + 2 ≤ pastWhile digit s v
+    two-digits =
+        omega (arith, while-more digit s v (inside {n = 49} s refl one tt) one-digit,
+          while-more digit s (v + 1) second-inside d, while-ahead digit s (v + 1 + 1))
+
+    abbrev Far : ℕ → Type 0
+    Far e = v + 2 ≤ e
+
+    far-digits : (j k : ℕ) → Far j → j ≤ k → Ends Far (someDigits s k)
+    unfolding someDigits
+    far-digits j k h i = of-pick (Ends Far) _ tt (omega (arith, while-ahead digit s k))
+
+    far-whole : Ends Far (wholeAt s v)
+    unfolding wholeAt someDigits
+    far-whole =
+        of-pick-if (Ends Far) _ (λ t. let z : getD s v 0 ≡ 48 = eqb-true _ _ t in absurd (omega arith))
+        (of-pick (Ends Far) _ tt two-digits)
+
+    far-integer : Ends Far (integerAt s v)
+    unfolding integerAt pastMinus
+    far-integer =
+        of-pick-if (λ n. Ends Far (wholeAt s n)) _
+        (λ t. let z : getD s v 0 ≡ 45 = eqb-true _ _ t in absurd (omega arith)) far-whole
+
+    longer-not : false ≡ sameList (plain (upTo s v (numberAt s v))) (ascii "1")
+    unfolding upTo
+    longer-not = by (numberAt s v) (ends-number s Far far-digits v far-integer) (within-number s v)
+      where
+        by : (r : Skip) → Ends Far r → Ends (Within s) r → false ≡ sameList (plain (upTo s v r)) (ascii "1")
+        by (Past f) h g =
+            let n = length-take-le (f - v) (drop v s) (omega (arith, length-drop v s)) in
+            one-not (take (f - v) (drop v s)) (λ q. omega (arith, n)) ∙ whole-one _
+        by Bad h g = one-not [] (λ q. omega arith)
+
+  pub ours-longer : {b c : ℕ} {r : Bool} → b ≡ getD s v 0 → b ≡ 49 → c ≡ getD s (v + 1) 0 → r ≡ digit c → r ≡ true
+      → false ≡ sameList (plain (upTo s v (numberAt s v))) (ascii "1")
+  ours-longer e h f d y = longer-not (sym e ∙ h) (rw (sym f) (sym d ∙ y))
 
 module _ (s : List ℕ) (v : ℕ) {x : Skip} (p : x ≡ numberAt s v) where
   pub integer-none : x ≡ Bad → false ≡ isSome (upTo s v (numberAt s v))

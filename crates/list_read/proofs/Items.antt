@@ -21,12 +21,15 @@ use Rattle.json_tokens.proofs.While.{while-ahead}
 use Rattle.report_read.specs.Entry.{elementsOf}
 use Rattle.list_read.specs.declared.Element.{Element}
 use Rattle.list_read.specs.declared.Element.the-variants.{At, Done}
+use Rattle.list_read.specs.declared.SeenAddress.{SeenAddress}
+use Rattle.list_read.specs.declared.SeenAddress.the-variants.{Wrong as WrongAddress}
+use Rattle.list_read.specs.declared.SeenAddress.the-variants.{Right as RightAddress}
 use Rattle.list_read.specs.declared.Count.{Count}
 use Rattle.list_read.specs.declared.Count.the-variants.{Of}
 use Rattle.list_read.specs.declared.Count.the-variants.{Bad as NoCount}
 use Rattle.list_read.specs.Server.{inAddresses, inServers, addressGood, allAddresses}
 use Rattle.list_read.specs.Listed.{isUrl, urlAt, allUrls}
-use Rattle.list_read.specs.Facts.{elementOf, pastItem, from, left, Behind, Opens, Turns, countedOf}
+use Rattle.list_read.specs.Facts.{elementOf, pastItem, from, left, Behind, Opens, Turns, addressSeen, countedOf}
 
 -- ---- Turns.
 module _ (s : List ℕ) (d v : ℕ) {start b : ℕ} (e : start ≡ pastWhile blank s (v + 1)) (h : b ≡ getD s start 0) where
@@ -204,6 +207,27 @@ pub addressed-first : {s : List ℕ} {v : ℕ} {x : Element} → Opens s inAddre
     → Addressed s (countedOf s (elementsOf s inAddresses v)) x 0
 addressed-first {s} o = record { low = below-first o; all = added-none _ ∙ ap (countedOf s) (o .all) }
 
+-- what is seen of an address object
+wrong-pick : (b : Bool) (x : Skip) → WrongAddress ≡ pick b (RightAddress x) WrongAddress → b ≡ false
+unfolding pick
+wrong-pick true x q = let z : _≡_ {A = ℕ} 0 1 = cc in absurd (omega arith)
+wrong-pick false x q = refl
+
+right-pick : (b : Bool) (x : Skip) {y : Skip} → RightAddress y ≡ pick b (RightAddress x) WrongAddress
+    → (b ≡ true) × (y ≡ x)
+unfolding pick
+right-pick true x q = (refl, cc)
+right-pick false x q = let z : _≡_ {A = ℕ} 0 1 = cc in absurd (omega arith)
+
+seen-wrong : (s : List ℕ) (k : ℕ) → WrongAddress ≡ addressSeen s k → addressGood s k ≡ false
+unfolding addressSeen
+seen-wrong s k e = wrong-pick (addressGood s k) (valueAt s inAddresses k) e
+
+seen-right : (s : List ℕ) (k : ℕ) {y : Skip} → RightAddress y ≡ addressSeen s k
+    → (addressGood s k ≡ true) × (y ≡ valueAt s inAddresses k)
+unfolding addressSeen
+seen-right s k e = right-pick (addressGood s k) (valueAt s inAddresses k) e
+
 -- one more, and the rest
 added-on : (s : List ℕ) (n k : ℕ) (ks : List ℕ) → addressGood s k ≡ true
     → added n (countedOf s (k ∷ ks)) ≡ added (n + 1) (countedOf s ks)
@@ -225,15 +249,24 @@ module _ {s : List ℕ} {r : Count} {at : Element} {n : ℕ} (c : Addressed s r 
     pub addressed-less : n < k
     addressed-less = below-here (c .low) a
 
-    module _ {t : Bool} (e : t ≡ addressGood s k) where
-      pub addressed-stop : not t ≡ true → NoCount ≡ r
+    module _ {y : SeenAddress} (e : y ≡ addressSeen s k) where
+      pub addressed-stop : y ≡ WrongAddress → NoCount ≡ r
       unfolding countedOf allAddresses both pick added
-      addressed-stop h = rw (left-here s inAddresses a, sym e ∙ not-true t h) at (c .all)
+      addressed-stop h = rw (left-here s inAddresses a, seen-wrong s k (sym h ∙ e)) at (c .all)
 
-      pub addressed-turn : {x : Element} → not t ≡ false → Turns s inAddresses k x → Addressed s r x (n + 1)
-      addressed-turn {x} h g = record {
-        low = below-on n (c .low) a g;
-        all = sym (added-on s n k (left s inAddresses x) (sym e ∙ not-false t h)) ∙ (rw (left-on s inAddresses a g) at (c .all));
-      }
+      module _ {end : Skip} (h : y ≡ RightAddress end) {x : Element} (l : x ≡ pastItem s end) where
+        turned : Turns s inAddresses k x
+        turned = turns-past s inAddresses k l (seen-right s k (sym h ∙ e) .1)
 
-pub ruleset addressed = (addressed-first, addressed-done, addressed-stop, addressed-turn, turn-less)
+        pub addressed-fuel : fuel s x < fuel s at
+        addressed-fuel = turn-less a turned
+
+        pub addressed-turn : Addressed s r x (n + 1)
+        addressed-turn = record {
+          low = below-on n (c .low) a turned;
+          all =
+              sym (added-on s n k (left s inAddresses x) (seen-right s k (sym h ∙ e) .0))
+              ∙ (rw (left-on s inAddresses a turned) at (c .all));
+        }
+
+pub ruleset addressed = (addressed-first, addressed-done, addressed-stop, addressed-fuel, addressed-turn)

@@ -5,16 +5,20 @@ use mathlib.Core.Bool.{Bool, true, false, not}
 use mathlib.Core.List.{List, [], _∷_}
 use native.Mathlib.Omega.{arith}
 use lib.Dec.{eqb, ltb}
-use lib.ListN.{length, getD, take, drop}
-use lib.Seq.{take-append-seam}
+use lib.ListN.{length, getD, take, drop, length-drop}
+use lib.Seq.{take-append-seam, length-take-le}
 use borrow.Author.Tests.{eqb-true, eq-eqb, ne-eqb, le-leb, lt-leb}
 use Rattle.laws.specs.Pick.{pick, both}
 use Rattle.laws.specs.Pasted.{fronted}
 use Rattle.json_tokens.specs.declared.Skip.{Skip}
 use Rattle.json_tokens.specs.declared.Skip.the-variants.{Past, Bad}
+use Rattle.json_tokens.specs.Scan.{pastWhile}
 use Rattle.json_tokens.proofs.Picks.{inside}
-use Rattle.json_strings.specs.Text.{contentAt, sameList}
+use Rattle.json_tokens.proofs.While.{while-ahead}
+use Rattle.json_strings.specs.Text.{unescaped, contentAt, sameList}
 use Rattle.json_text.specs.Octets.{Text, octets, none, textOf, plain, sizeOf}
+use Rattle.json_text.specs.Facts.{good}
+use Rattle.json_text.proofs.NoEscapes.{plain-text}
 use Rattle.json_text.specs.declared.TextSize.{TextSize}
 use Rattle.json_text.specs.declared.TextSize.the-variants.{Of}
 use Rattle.json_text.specs.declared.TextSize.the-variants.{Bad as NoText}
@@ -30,9 +34,15 @@ use Rattle.json_base64.specs.declared.Size.the-variants.{Bad as NoSize}
 use Rattle.report_read.specs.Entry.{stringOf, elementsOf, sizeIn, held}
 use Rattle.report_read.specs.Entry.{listOf as arrayOf}
 use Rattle.list_read.proofs.Small.{both-no, both-on, both-no-eq, both-on-eq, size-good, size-no-good, size-length}
+use Rattle.list_address.specs.Address.{isAddress}
+use Rattle.list_address.specs.Https.{isHttps}
+use Rattle.list_read.specs.declared.Sort.{Sort}
+use Rattle.list_read.specs.declared.Sort.the-variants.{Place, Url}
 use Rattle.list_read.specs.declared.Count.{Count}
 use Rattle.list_read.specs.declared.Count.the-variants.{Of as Counted}
 use Rattle.list_read.specs.declared.Count.the-variants.{Bad as NoCount}
+use Rattle.list_read.specs.declared.SeenAddress.the-variants.{Wrong as WrongAddress}
+use Rattle.list_read.specs.declared.SeenAddress.the-variants.{Right as RightAddress}
 use Rattle.list_read.specs.declared.Seen.{Seen}
 use Rattle.list_read.specs.declared.Seen.the-variants.{Wrong, Right}
 use Rattle.list_read.specs.Server.{isSome, textIn, textBy, versionBy, contentIn, isThere, keyBy, passes, isWord}
@@ -41,7 +51,7 @@ use Rattle.list_read.specs.Server.{addressesGood, ofServer, addressPlace
 use Rattle.list_read.specs.Server.{inAddress, inAddresses, inServer, inServers, protocolName, addressName, nameName}
 use Rattle.list_read.specs.Server.{versionName, schemeName, keyName, addressesName}
 use Rattle.list_read.specs.Read.{isCrowded}
-use Rattle.list_read.specs.Facts.{countedOf, countedIn, partsGood, mayAsk, seenBy, seenOf}
+use Rattle.list_read.specs.Facts.{ofSort, addressSeen, countedOf, countedIn, partsGood, mayAsk, seenBy, seenOf}
 
 -- ---- Words.
 same-none : (w : List ℕ) → eqb (length w) 0 ≡ sameList [] w
@@ -90,6 +100,21 @@ passes-on : (p : List ℕ → Bool) (x : List ℕ) → length x ≤ 2048 → p x
 unfolding passes both
 passes-on p x h = rw (le-leb (length x) 2048 h) refl
 
+some-good : (t : Text) → good t ≡ isSome t
+unfolding isSome
+some-good (octets x) = refl
+some-good none = refl
+
+-- what a text is looked at for
+pub of-place : {y : Sort} {r : Bool} (x : List ℕ) → y ≡ Place → r ≡ isAddress x → r ≡ ofSort y x
+unfolding ofSort
+of-place x h g = rw h g
+
+pub of-url : {y : Sort} {r : Bool} (x : List ℕ) → y ≡ Url → r ≡ isHttps x → r ≡ ofSort y x
+unfolding ofSort
+of-url x h g = rw h g
+
+-- a member that is a string
 module _ (s : List ℕ) (f : Found) {x : Skip} (e : x ≡ stringOf s f) where
   text-none : x ≡ Bad → textBy s f ≡ none
   unfolding textBy textIn
@@ -103,48 +128,84 @@ module _ (s : List ℕ) (f : Found) {x : Skip} (e : x ≡ stringOf s f) where
   unfolding isSome
   has-none h = rw (text-none h) refl
 
+  pub has-some : {p : ℕ} {r : Bool} → x ≡ Past p → r ≡ good (textOf (contentAt s p)) → r ≡ isSome (textBy s f)
+  has-some h g = g ∙ some-good _ ∙ ap isSome (sym (text-some h))
+
   pub pass-none : (q : List ℕ → Bool) → x ≡ Bad → false ≡ passes q (textBy s f)
   unfolding passes
   pass-none q h = rw (text-none h) refl
 
-  module _ {p : ℕ} {y : TextSize} (h : x ≡ Past p) (g : y ≡ sizeOf 0 (textOf (contentAt s p))) where
-    pub has-bad : y ≡ NoText → false ≡ isSome (textBy s f)
-    unfolding isSome
-    has-bad i = rw (text-some h ∙ of-none _ (sym i ∙ g)) refl
+  pub pass-some : (q : List ℕ → Bool) {p : ℕ} {r : Bool} → x ≡ Past p → r ≡ passes q (textOf (contentAt s p))
+      → r ≡ passes q (textBy s f)
+  pass-some q h g = g ∙ ap (passes q) (sym (text-some h))
 
-    pub pass-bad : (q : List ℕ → Bool) → y ≡ NoText → false ≡ passes q (textBy s f)
-    unfolding passes
-    pass-bad q i = rw (text-some h ∙ of-none _ (sym i ∙ g)) refl
+pub ruleset texts = (has-none, has-some, pass-none, pass-some)
 
-    module _ {n : ℕ} (i : y ≡ Of n) where
-      is-octets : textBy s f ≡ octets (plain (textOf (contentAt s p)))
-      is-octets = text-some h ∙ of-octets (textOf (contentAt s p)) (sym i ∙ g) .0
+-- a text that is written out
+module _ (t : Text) {y : TextSize} (g : y ≡ sizeOf 0 t) where
+  pub pass-bad : (q : List ℕ → Bool) → y ≡ NoText → false ≡ passes q t
+  unfolding passes
+  pass-bad q i = rw (of-none t (sym i ∙ g)) refl
 
-      is-long : n ≡ length (plain (textOf (contentAt s p)))
-      is-long = of-octets (textOf (contentAt s p)) (sym i ∙ g) .1
+  module _ {n : ℕ} (i : y ≡ Of n) where
+    is-octets : t ≡ octets (plain t)
+    is-octets = of-octets t (sym i ∙ g) .0
 
-      pub has-some : true ≡ isSome (textBy s f)
-      unfolding isSome
-      has-some = rw is-octets refl
+    is-long : n ≡ length (plain t)
+    is-long = of-octets t (sym i ∙ g) .1
 
-      pub pass-long : (q : List ℕ → Bool) → 2048 < n → false ≡ passes q (textBy s f)
-      pass-long q l = rw is-octets (passes-long q _ (omega (arith, is-long)))
+    pub pass-long : (q : List ℕ → Bool) → 2048 < n → false ≡ passes q t
+    pass-long q l = passes-long q (plain t) (omega (arith, is-long)) ∙ ap (passes q) (sym is-octets)
 
-      pub text-fits : n ≤ 2048 → length (plain (textOf (contentAt s p))) ≤ 2048
-      text-fits l = omega (arith, is-long)
+    pub text-good : good t ≡ true
+    text-good = ap good is-octets
 
-      pub pass-done : (q : List ℕ → Bool) (b o : List ℕ) {r : Bool} → n ≤ 2048
-          → b ≡ fronted (plain (textOf (contentAt s p))) o → r ≡ q (take (n - 0) (drop 0 b)) → r ≡ passes q (textBy s f)
-      pass-done q b o l j k =
-          rw is-octets (k ∙ ap q (front-part b _ o n j is-long) ∙ passes-on q _ (text-fits l))
+    pub text-fits : n ≤ 2048 → length (plain t) ≤ 2048
+    text-fits l = omega (arith, is-long)
 
-pub ruleset texts = (has-none, has-bad, has-some)
+    pub pass-done : (q : List ℕ → Bool) (b o : List ℕ) {r : Bool} → n ≤ 2048 → b ≡ fronted (plain t) o
+        → r ≡ q (take (n - 0) (drop 0 b)) → r ≡ passes q t
+    pass-done q b o l j k =
+        k ∙ ap q (front-part b (plain t) o n j is-long) ∙ passes-on q (plain t) (omega (arith, is-long))
+        ∙ ap (passes q) (sym is-octets)
+
+-- a text that stands there
+module _ (s : List ℕ) {e b : ℕ} (p : ℕ) (h : e ≡ pastWhile unescaped s p) (g : b ≡ getD s e 0) (i : b ≡ 34) where
+  pub there-ahead : p ≤ e
+  there-ahead = omega (arith, while-ahead unescaped s p)
+
+  pub there-inside : e ≤ length s
+  there-inside = omega (arith, inside s g i tt)
+
+  there-length : length (take (e - p) (drop p s)) ≡ e - p
+  there-length = length-take-le (e - p) (drop p s) (omega (arith, length-drop p s, there-inside, there-ahead))
+
+  pub there-long : (q : List ℕ → Bool) → 2048 < e - p → false ≡ passes q (textOf (contentAt s p))
+  there-long q l =
+      passes-long q (take (e - p) (drop p s)) (omega (arith, there-length))
+      ∙ ap (passes q) (sym (plain-text s p h g i))
+
+  pub there-done : (q : List ℕ → Bool) {r : Bool} → e - p ≤ 2048 → r ≡ q (take (e - p) (drop p s))
+      → r ≡ passes q (textOf (contentAt s p))
+  there-done q l j =
+      j ∙ passes-on q (take (e - p) (drop p s)) (omega (arith, there-length))
+      ∙ ap (passes q) (sym (plain-text s p h g i))
+
+-- ---- A value that is an object.
+pub ends-at : (s : List ℕ) (d k : ℕ) → (d ≡ 0 → ⊥) → eqb (getD s k 0) 123 ≡ true
+    → valueAt s d k ≡ objectOf s (valueAt s (d - 1)) k
+unfolding pick
+ends-at s d k h e = value-is s d k ∙ rw e (object-is s d k h)
 
 -- ---- An address object.
+seen-no : (s : List ℕ) (k : ℕ) → false ≡ addressGood s k → WrongAddress ≡ addressSeen s k
+unfolding addressSeen pick
+seen-no s k h = rw (sym h) refl
+
 module _ (s : List ℕ) (k : ℕ) {b : ℕ} (e : b ≡ getD s k 0) where
-  pub address-brace : (b ≡ 123 → ⊥) → false ≡ addressGood s k
+  pub address-brace : (b ≡ 123 → ⊥) → WrongAddress ≡ addressSeen s k
   unfolding addressGood
-  address-brace h = both-no-eq _ e h
+  address-brace h = seen-no s k (both-no-eq _ e h)
 
   module _ (h : b ≡ 123) {f : Found} (i : f ≡ foundOf s protocolName inAddress k) {x : Skip} (j : x ≡ stringOf s f)
       {t : Bool} (g : t ≡ isProtocol s x) where
@@ -152,16 +213,28 @@ module _ (s : List ℕ) (k : ℕ) {b : ℕ} (e : b ≡ getD s k 0) where
     unfolding ofAddress
     of-protocol = g ∙ ap (isProtocol s) (j ∙ ap (stringOf s) i)
 
-    pub address-protocol : not t ≡ true → false ≡ addressGood s k
+    pub address-protocol : not t ≡ true → WrongAddress ≡ addressSeen s k
     unfolding addressGood
-    address-protocol l = both-on-eq e h (both-no _ of-protocol l)
+    address-protocol l = seen-no s k (both-on-eq e h (both-no _ of-protocol l))
 
-    pub address-place : not t ≡ false → {u : Found} {r : Bool} → u ≡ foundOf s addressName inAddress k
-        → r ≡ isPlace (textBy s u) → r ≡ addressGood s k
-    unfolding addressGood ofAddress
-    address-place l {u} m n = both-on-eq e h (both-on of-protocol l (n ∙ ap (λ q. isPlace (textBy s q)) m))
+    module _ (l : not t ≡ false) {u : Found} (m : u ≡ foundOf s addressName inAddress k) {w : Bool}
+        (n : w ≡ isPlace (textBy s u)) where
+      good-is : w ≡ addressGood s k
+      unfolding addressGood ofAddress
+      good-is = both-on-eq e h (both-on of-protocol l (n ∙ ap (λ q. isPlace (textBy s q)) m))
 
-pub ruleset address = (address-brace, address-protocol, address-place)
+      pub address-wrong : w ≡ false → WrongAddress ≡ addressSeen s k
+      address-wrong o = seen-no s k (sym o ∙ good-is)
+
+      pub address-right : {end : Skip} → end ≡ objectOf s (valueAt s inAddress) k → w ≡ true
+          → RightAddress end ≡ addressSeen s k
+      unfolding addressSeen pick
+      address-right q o =
+          let z : valueAt s inAddresses k ≡ objectOf s (valueAt s inAddress) k =
+          ends-at s inAddresses k (λ y. omega arith) (eq-eqb (getD s k 0) 123 (sym e ∙ h)) in
+          rw (sym good-is ∙ o) (ap RightAddress (q ∙ sym z))
+
+pub ruleset address = (address-brace, address-protocol, address-wrong, address-right)
 
 -- ---- Lists of addresses.
 array-at : (s : List ℕ) (u v : ℕ) (b : Bool) → eqb (getD s u 0) 91 ≡ b → pick b (Past u) Bad ≡ Past v → v < length s
@@ -281,15 +354,11 @@ unfolding addressesAt
 length-addresses s [] = refl
 length-addresses s (k ∷ ks) = ap suc (length-addresses s ks)
 
-ends-at : (s : List ℕ) (k : ℕ) → eqb (getD s k 0) 123 ≡ true → valueAt s inServers k ≡ objectOf s (valueAt s inServer) k
-unfolding pick
-ends-at s k e = value-is s inServers k ∙ rw e (object-is s inServers k (λ z. omega arith))
-
 by-parts : (s : List ℕ) (k : ℕ) → eqb (getD s k 0) 123 ≡ true
     → seenBy s (ofServer s k nameName) (ofServer s k versionName) (ofServer s k schemeName) (ofServer s k keyName)
     (ofServer s k addressesName) (objectOf s (valueAt s inServer) k) ≡ seenOf s k
 unfolding seenBy seenOf serverGood partsGood both mayAsk isWord askable serverAt isCrowded addressPlaces
-by-parts s k e = rw (ends-at s k e) (rw e (rw (length-addresses s (placesIn s inAddresses (arrayOf s (ofServer s k addressesName)))) refl))
+by-parts s k e = rw (ends-at s inServers k (λ z. omega arith) e) (rw e (rw (length-addresses s (placesIn s inAddresses (arrayOf s (ofServer s k addressesName)))) refl))
 
 module _ (s : List ℕ) (k : ℕ) {b : ℕ} (e : b ≡ getD s k 0) where
   pub see-brace : (b ≡ 123 → ⊥) → Wrong ≡ seenOf s k

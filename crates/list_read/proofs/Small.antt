@@ -13,8 +13,7 @@ use Rattle.json_tokens.specs.declared.Skip.{Skip}
 use Rattle.json_tokens.specs.declared.Skip.the-variants.{Past, Bad}
 use Rattle.json.specs.declared.Found.{Found}
 use Rattle.json.specs.declared.Found.the-variants.{At, Nothing, Twice}
-use Rattle.json_strings.specs.Text.{contentAt}
-use Rattle.base64.specs.Decode.{Decoded, bytes, none, decode64}
+use Rattle.base64.specs.Decode.{Decoded, bytes, none}
 use Rattle.json_base64.specs.declared.Size.{Size}
 use Rattle.json_base64.specs.declared.Size.the-variants.{Of}
 use Rattle.json_base64.specs.declared.Size.the-variants.{Bad as NoSize}

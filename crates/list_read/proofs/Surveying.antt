@@ -1,18 +1,17 @@
 -- Laws for the survey of a list: its members, its servers, and what is said of it.
-use Prim.Native.Nat.{ℕ, suc, _+_, _-_, _≤_, _<_}
+use Prim.Native.Nat.{ℕ, suc, _+_, _-_, _≤_}
 use mathlib.Core.Path.{_≡_, refl, sym, _∙_, ap}
 use mathlib.Core.Bool.{Bool, true, false, not}
 use mathlib.Core.List.{List, [], _∷_}
 use native.Mathlib.Omega.{arith}
 use lib.Dec.{eqb, ltb}
 use lib.ListN.{length, getD}
-use borrow.Author.Tests.{eqb-true, eq-eqb, ne-eqb, not-true, not-false, ltb-false}
+use borrow.Author.Tests.{eq-eqb, ne-eqb, not-true, not-false, ltb-false}
 use Rattle.laws.specs.Pick.{pick, both}
 use Rattle.json_tokens.specs.declared.Skip.{Skip}
 use Rattle.json_tokens.specs.declared.Skip.the-variants.{Past, Bad}
-use Rattle.json_tokens.specs.Scan.{pastBlanks}
-use Rattle.json_tokens.proofs.Picks.{inside}
-use Rattle.json.specs.Value.{isText}
+use Rattle.json_tokens.specs.Scan.{blank, pastWhile, pastBlanks}
+use Rattle.json.specs.Value.{objectOf, valueAt, endsAt, deepest, isText}
 use Rattle.json.specs.declared.Found.{Found}
 use Rattle.json.specs.declared.Found.the-variants.{At, Nothing, Twice}
 use Rattle.json.specs.Members.{foundOf}
@@ -26,7 +25,8 @@ use Rattle.list_read.specs.Listed.{serversAt, rootPlace, ofRoot, servers
 use Rattle.list_read.specs.Listed.{serverPlaces, isList, listed, this, unread, listOf, serversName}
 use Rattle.list_read.specs.Listed.{sourcesName, reportsName}
 use Rattle.list_read.specs.Read.{passedOver, sizeCode, listCode}
-use Rattle.list_read.specs.Facts.{askPlaces, Tallied, Tells, codeOf, Finds, Surveys}
+use Rattle.list_read.specs.Facts.{askPlaces, Tallied, Tells, codeOf, Finds, membersGood, SurveysBy, Surveys}
+use Rattle.list_read.proofs.Parts.{ends-at}
 use Rattle.list_read.proofs.Tallying.{asks-few}
 
 -- ---- Sources, and where reports go.
@@ -134,81 +134,124 @@ both-no-left : (p q : Bool) → p ≡ false → both p q ≡ false
 unfolding both
 both-no-left p q e = rw e refl
 
-unlisted : (s : List ℕ) {r : Survey} → isList s ≡ false → r .code ≡ 24 → Surveys s r
-unfolding listOf pick listCode
-unlisted s {r} h c = record { code = c ∙ rw h refl; known = λ z. absurd (omega (arith, c)) }
+-- by the members of the outermost object
+module _ (s : List ℕ) (a f g : Found) where
+  unlisted-by : {r : Survey} → membersGood s a f g ≡ false → r .code ≡ 24 → SurveysBy s a f g r
+  unfolding pick
+  unlisted-by {r} h c = record { code = c ∙ rw h refl; known = λ z. absurd (omega (arith, c)) }
 
-root-pick : (s : List ℕ) (b : Bool) (k v : ℕ) (c : Bool) → eqb (getD s k 0) 123 ≡ c
-    → pick b (pick c (Past k) Bad) Bad ≡ Past v → v < length s
+  module _ {t : Bool} (i : t ≡ sourcesGood s f) where
+    pub by-sources : {r : Survey} → not t ≡ true → r .code ≡ 24 → SurveysBy s a f g r
+    unfolding membersGood
+    by-sources j c = unlisted-by (both-no-right _ _ (both-no-left _ _ (sym i ∙ not-true t j))) c
+
+    module _ (j : not t ≡ false) {u : Bool} (k : u ≡ reportsGood s g) where
+      pub by-reports : {r : Survey} → not u ≡ true → r .code ≡ 24 → SurveysBy s a f g r
+      unfolding membersGood
+      by-reports l c =
+          unlisted-by (both-no-right _ _ (both-no-right _ _ (both-no-left _ _ (sym k ∙ not-true u l)))) c
+
+      module _ (l : not u ≡ false) {y : Skip} (m : y ≡ arrayOf s a) where
+        pub by-servers : {r : Survey} → y ≡ Bad → r .code ≡ 24 → SurveysBy s a f g r
+        unfolding membersGood isThere
+        by-servers n c = unlisted-by (both-no-left _ _ (rw (sym m ∙ n) refl)) c
+
+        module _ {v : ℕ} (n : y ≡ Past v) where
+          places-are : placesIn s inServers (arrayOf s a) ≡ elementsOf s inServers v
+          unfolding placesIn
+          places-are = rw (sym m ∙ n) refl
+
+          good-is : membersGood s a f g ≡ allServers s (elementsOf s inServers v)
+          unfolding membersGood isThere placesIn both
+          good-is = rw (sym m ∙ n, sym i ∙ not-false t j, sym k ∙ not-false u l) refl
+
+          pub by-done : {r : Survey} → Finds s (elementsOf s inServers v) f g r → SurveysBy s a f g r
+          by-done {r} w = record {
+            code = w .code ∙ rw (good-is, places-are) refl;
+            known = λ z. rw places-are (w .known z);
+          }
+
+pub ruleset members = (by-sources, by-reports, by-servers, by-done)
+
+-- where the outermost object ends
+pub whole-none : {x : Skip} (s : List ℕ) → x ≡ Bad → false ≡ endsAt s x
+unfolding endsAt
+whole-none s h = rw h refl
+
+pub whole-at : {x : Skip} {e k : ℕ} (s : List ℕ) → x ≡ Past e → k ≡ pastWhile blank s e → eqb k (length s) ≡ endsAt s x
+unfolding endsAt
+whole-at s h g = rw (h, g) refl
+
+-- of a text
+unlisted : (s : List ℕ) {r : Survey} → rootPlace s ≡ Bad → r .code ≡ 24 → Surveys s r
+unfolding isList serversMember ofRoot arrayOf isThere listOf pick listCode
+unlisted s {r} h c =
+    let z : isList s ≡ false = rw h (both-no-left _ _ refl) in
+    record { code = c ∙ rw z refl; known = λ z. absurd (omega (arith, c)) }
+
+no-root : (t u : Bool) (k : ℕ) → u ≡ false → pick t (pick u (Past k) Bad) Bad ≡ Bad
 unfolding pick
-root-pick s true k v true e q = let z : k ≡ v = cc in omega (arith, inside {k = getD s k 0} s refl (eqb-true _ _ e) tt)
-root-pick s true k v false e q = let z : _≡_ {A = ℕ} 0 1 = cc in absurd (omega arith)
-root-pick s false k v c e q = let z : _≡_ {A = ℕ} 0 1 = cc in absurd (omega arith)
+no-root true u k g = rw g refl
+no-root false u k g = refl
 
-module _ (s : List ℕ) {x : Skip} (e : x ≡ rootPlace s) where
-  pub root-inside : {k : ℕ} → x ≡ Past k → k < length s
+module _ (s : List ℕ) {root : ℕ} (e : root ≡ pastWhile blank s 0) {b : ℕ} (h : b ≡ getD s root 0) where
+  pub survey-brace : {r : Survey} → (b ≡ 123 → ⊥) → r .code ≡ 24 → Surveys s r
   unfolding rootPlace
-  root-inside h = root-pick s (isText s) (pastBlanks s 0) _ _ refl (sym e ∙ h)
+  survey-brace n c =
+      unlisted s (no-root (isText s) _ _ (ne-eqb (getD s (pastBlanks s 0) 0) 123 (λ z. n (h ∙ ap (λ k. getD s k 0) e ∙ z)))) c
 
-  pub survey-none : {r : Survey} → x ≡ Bad → r .code ≡ 24 → Surveys s r
-  unfolding isList serversMember ofRoot arrayOf isThere
-  survey-none h c = unlisted s (rw (sym e ∙ h) (both-no-left _ _ refl)) c
+  module _ (g : b ≡ 123) {end : Skip} (i : end ≡ objectOf s (valueAt s inRoot) root) {t : Bool} (j : t ≡ endsAt s end) where
+    brace : eqb (getD s (pastBlanks s 0) 0) 123 ≡ true
+    brace = eq-eqb _ 123 (ap (λ k. getD s k 0) (sym e) ∙ sym h ∙ g)
 
-  module _ {root : ℕ} (h : x ≡ Past root) {a b d : Found} (ia : a ≡ foundOf s serversName inRoot root)
-      (ib : b ≡ foundOf s sourcesName inRoot root) (id : d ≡ foundOf s reportsName inRoot root) where
-    is-a : serversMember s ≡ a
-    unfolding serversMember ofRoot
-    is-a = rw (sym e ∙ h) (sym ia)
+    is-json : t ≡ isText s
+    unfolding isText
+    is-json =
+        j ∙ ap (endsAt s) (i ∙ ap (objectOf s (valueAt s inRoot)) e
+        ∙ sym (ends-at s deepest (pastBlanks s 0) (λ z. omega arith) brace))
 
-    is-b : sourcesMember s ≡ b
-    unfolding sourcesMember ofRoot
-    is-b = rw (sym e ∙ h) (sym ib)
+    pub survey-open : {r : Survey} → not t ≡ true → r .code ≡ 24 → Surveys s r
+    unfolding rootPlace pick
+    survey-open n c = unlisted s (rw (sym is-json ∙ not-true t n) refl) c
 
-    is-d : reportsMember s ≡ d
-    unfolding reportsMember ofRoot
-    is-d = rw (sym e ∙ h) (sym id)
+    module _ (n : not t ≡ false) {a f d : Found} (ia : a ≡ foundOf s serversName inRoot root)
+        (ib : f ≡ foundOf s sourcesName inRoot root) (id : d ≡ foundOf s reportsName inRoot root) where
+      root-is : rootPlace s ≡ Past root
+      unfolding rootPlace pick
+      root-is = rw (sym is-json ∙ not-false t n) (rw brace (ap Past (sym e)))
 
-    module _ {t : Bool} (i : t ≡ sourcesGood s b) where
-      pub survey-sources : {r : Survey} → not t ≡ true → r .code ≡ 24 → Surveys s r
-      unfolding isList
-      survey-sources j c =
-          unlisted s (both-no-right _ _ (both-no-left _ _ (rw is-b (sym i ∙ not-true t j)))) c
+      is-a : serversMember s ≡ a
+      unfolding serversMember ofRoot
+      is-a = rw root-is (sym ia)
 
-      module _ (j : not t ≡ false) {u : Bool} (k : u ≡ reportsGood s d) where
-        pub survey-reports : {r : Survey} → not u ≡ true → r .code ≡ 24 → Surveys s r
-        unfolding isList
-        survey-reports l c =
-            unlisted s
-            (both-no-right _ _ (both-no-right _ _ (both-no-left _ _ (rw is-d (sym k ∙ not-true u l))))) c
+      is-b : sourcesMember s ≡ f
+      unfolding sourcesMember ofRoot
+      is-b = rw root-is (sym ib)
 
-        module _ (l : not u ≡ false) {y : Skip} (m : y ≡ arrayOf s a) where
-          pub survey-servers : {r : Survey} → y ≡ Bad → r .code ≡ 24 → Surveys s r
-          unfolding isList isThere
-          survey-servers n c = unlisted s (rw (is-a, sym m ∙ n) (both-no-left _ _ refl)) c
+      is-d : reportsMember s ≡ d
+      unfolding reportsMember ofRoot
+      is-d = rw root-is (sym id)
 
-          module _ {v : ℕ} (n : y ≡ Past v) where
-            places-are : serverPlaces s ≡ elementsOf s inServers v
-            unfolding serverPlaces placesIn
-            places-are = rw (is-a, sym m ∙ n) refl
+      places-at : serverPlaces s ≡ placesIn s inServers (arrayOf s a)
+      unfolding serverPlaces
+      places-at = rw is-a refl
 
-            list-is : isList s ≡ allServers s (elementsOf s inServers v)
-            unfolding isList isThere both
-            list-is =
-                rw (is-a, is-b, is-d, places-are)
-                (rw (sym m ∙ n, sym i ∙ not-false t j, sym k ∙ not-false u l) refl)
+      list-is : isList s ≡ membersGood s a f d
+      unfolding isList membersGood
+      list-is = rw (is-a, is-b, is-d, places-at) refl
 
-            code-is : (q : Bool)
-                → pick q (sizeCode (serversAt s (elementsOf s inServers v))) 24
-                ≡ listCode (pick q (this (listed s)) unread)
-            unfolding pick listCode listed
-            code-is true = rw places-are refl
-            code-is false = refl
+      code-is : (q : Bool)
+          → pick q (sizeCode (serversAt s (placesIn s inServers (arrayOf s a)))) 24
+          ≡ listCode (pick q (this (listed s)) unread)
+      unfolding pick listCode listed
+      code-is true = rw places-at refl
+      code-is false = refl
 
-            pub survey-done : {r : Survey} → Finds s (elementsOf s inServers v) b d r → Surveys s r
-            unfolding listOf
-            survey-done {r} f = record {
-              code = f .code ∙ code-is (allServers s (elementsOf s inServers v)) ∙ rw list-is refl;
-              known = λ z. rw (places-are, is-b, is-d) (f .known z);
-            }
+      pub survey-done : {r : Survey} → SurveysBy s a f d r → Surveys s r
+      unfolding listOf
+      survey-done {r} w = record {
+        code = w .code ∙ code-is (membersGood s a f d) ∙ rw list-is refl;
+        known = λ z. rw (places-at, is-b, is-d) (w .known z);
+      }
 
-pub ruleset surveying = (survey-none, survey-sources, survey-reports, survey-servers, survey-done)
+pub ruleset surveying = (survey-brace, survey-open, survey-done)

@@ -23,8 +23,15 @@ use Rattle.json_strings.specs.Text.{sameList}
 use Rattle.json_text.specs.Octets.{plain}
 use Rattle.report_read.specs.Entry.{stringOf, elementsOf, is64, held}
 use Rattle.report_read.specs.Entry.{listOf as arrayOf}
+use Rattle.list_address.specs.Address.{isAddress}
+use Rattle.list_address.specs.Https.{isHttps}
 use Rattle.list_read.specs.declared.Element.{Element}
 use Rattle.list_read.specs.declared.Element.the-variants.{At, Done}
+use Rattle.list_read.specs.declared.Sort.{Sort}
+use Rattle.list_read.specs.declared.Sort.the-variants.{Place, Url}
+use Rattle.list_read.specs.declared.SeenAddress.{SeenAddress}
+use Rattle.list_read.specs.declared.SeenAddress.the-variants.{Wrong as WrongAddress}
+use Rattle.list_read.specs.declared.SeenAddress.the-variants.{Right as RightAddress}
 use Rattle.list_read.specs.declared.Count.{Count}
 use Rattle.list_read.specs.declared.Count.the-variants.{Of, Bad}
 use Rattle.list_read.specs.declared.Seen.{Seen}
@@ -32,8 +39,8 @@ use Rattle.list_read.specs.declared.Seen.the-variants.{Wrong, Right}
 use Rattle.list_read.specs.declared.Tally.{Tally}
 use Rattle.list_read.specs.declared.Survey.{Survey}
 use Rattle.list_read.specs.Server.{inServers, inAddresses, isSome, textBy, versionBy, keyBy, isThere, isWord, placesIn}
-use Rattle.list_read.specs.Server.{allAddresses, addressesGood, askable, serverGood, serverAt}
-use Rattle.list_read.specs.Listed.{allServers, serversAt, sourcesMember, reportsMember, serverPlaces, listOf}
+use Rattle.list_read.specs.Server.{addressGood, allAddresses, addressesGood, askable, serverGood, serverAt}
+use Rattle.list_read.specs.Listed.{sourcesGood, reportsGood, allServers, serversAt, sourcesMember, reportsMember, serverPlaces, listOf}
 use Rattle.list_read.specs.Read.{isCrowded, anyCrowded, recordOf, passedOver, sizeCode, listCode}
 
 -- ---- Elements.
@@ -71,7 +78,18 @@ pub record Turns (s : List ℕ) (d k : ℕ) (x : Element) : Type 0 where
   pub others : from s d k ≡ k ∷ left s d x
   pub behind : Behind s k x
 
+-- ---- Texts.
+
+-- what a text is looked at for
+unfoldable pub ofSort : Sort → List ℕ → Bool
+ofSort Place = isAddress
+ofSort Url = isHttps
+
 -- ---- Servers.
+
+-- what is seen of an address object at a place
+unfoldable pub addressSeen : List ℕ → ℕ → SeenAddress
+addressSeen s k = pick (addressGood s k) (RightAddress (valueAt s inAddresses k)) WrongAddress
 
 -- how many addresses there are, if all are good,
 unfoldable pub countedOf : List ℕ → List ℕ → Count
@@ -165,6 +183,16 @@ pub record Known (s ks : List ℕ) (f g : Found) (r : Survey) : Type 0 where
 pub record Finds (s ks : List ℕ) (f g : Found) (r : Survey) : Type 0 where
   pub code : r .code ≡ pick (allServers s ks) (sizeCode (serversAt s ks)) 24
   pub known : r .code ≡ 0 → Known s ks f g r
+
+-- by those members of the outermost object,
+unfoldable pub membersGood : List ℕ → Found → Found → Found → Bool
+membersGood s a f g =
+    both (isThere (arrayOf s a)) (both (sourcesGood s f) (both (reportsGood s g)
+    (allServers s (placesIn s inServers (arrayOf s a)))))
+
+pub record SurveysBy (s : List ℕ) (a f g : Found) (r : Survey) : Type 0 where
+  pub code : r .code ≡ pick (membersGood s a f g) (sizeCode (serversAt s (placesIn s inServers (arrayOf s a)))) 24
+  pub known : r .code ≡ 0 → Known s (placesIn s inServers (arrayOf s a)) f g r
 
 -- and of a text
 pub record Surveys (s : List ℕ) (r : Survey) : Type 0 where

@@ -3,18 +3,19 @@ ghost use mathlib.Core.Path.{_≡_};
 ghost use Prim.Native.Nat.{_<_};
 ghost use lib.ListN.{length};
 ghost use Rattle.report_read.specs.Entry.{elementsOf};
-ghost use Rattle.list_read.specs.Server.{isProtocol, addressGood, inAddresses};
-ghost use Rattle.list_read.specs.Facts.{countedOf};
+ghost use Rattle.list_read.specs.Server.{isProtocol, inAddresses};
+ghost use Rattle.list_read.specs.Facts.{countedOf, addressSeen};
 use super::Count;
 use super::Element;
 use super::IN_ADDRESS;
 use super::IN_ADDRESSES;
+use super::SeenAddress;
 use super::elements::first_item;
-use super::elements::next_item;
+use super::elements::next_past;
 use super::texts::is_place;
 use super::values::is_word;
 use super::values::string_place;
-use json::find;
+use json::members;
 use json_tokens::Skip;
 use json_tokens::byte;
 
@@ -28,19 +29,26 @@ fn is_protocol(s: &[u8], x: Skip) -> bool
     is_word(s, x, b"tcp")
 }
 
-// An object that has what an address object needs.
-fn address_good(s: &[u8], k: usize) -> bool
-    ensures { λ r. ⌜ r ≡ addressGood (now (s .entry)) k ⌝ }
+// An address object at its place, in one walk over it.
+fn see_address(s: &[u8], k: usize) -> SeenAddress
+    ensures { λ r. ⌜ r ≡ addressSeen (now (s .entry)) k ⌝ }
 {
     let b = byte(s, k);
     if b != b'{' {
-        return false;
+        return SeenAddress::Wrong;
     }
-    let protocol = find(s, k, IN_ADDRESS, b"protocol");
+    let m = members(s, k, IN_ADDRESS, b"protocol", b"address", b"", b"", b"");
+    let protocol = m.a;
+    let address = m.b;
+    let end = m.end;
     if !is_protocol(s, string_place(s, protocol)) {
-        return false;
+        return SeenAddress::Wrong;
     }
-    is_place(s, find(s, k, IN_ADDRESS, b"address"))
+    if is_place(s, address) {
+        SeenAddress::Right(end)
+    } else {
+        SeenAddress::Wrong
+    }
 }
 
 // How many addresses the list at a place has, if each is an address object.
@@ -54,10 +62,10 @@ pub fn addresses_in(s: &[u8], v: usize) -> Count
         let Element::At(k) = at else {
             return Count::Of(n);
         };
-        if !address_good(s, k) {
+        let SeenAddress::Right(end) = see_address(s, k) else {
             return Count::Bad;
-        }
+        };
         n += 1;
-        at = next_item(s, k, IN_ADDRESSES);
+        at = next_past(s, end);
     }
 }

@@ -46,6 +46,18 @@ pub enum Element {
     Done,
 }
 
+// What a text is looked at for.
+enum Sort {
+    Place,
+    Url,
+}
+
+// What is seen of an address object: where it ends, if it is good.
+enum SeenAddress {
+    Wrong,
+    Right(Skip),
+}
+
 // How many elements a list has, or that one is wrong.
 enum Count {
     Of(usize),

@@ -2,10 +2,11 @@
 ghost use mathlib.Core.Path.{_≡_};
 ghost use Prim.Native.Nat.{_<_};
 ghost use lib.ListN.{length};
+ghost use Rattle.json.specs.Value.{endsAt};
 ghost use Rattle.report_read.specs.Entry.{elementsOf};
 ghost use Rattle.list_read.specs.Server.{inServers};
-ghost use Rattle.list_read.specs.Listed.{allUrls, sourcesGood, reportsGood, rootPlace};
-ghost use Rattle.list_read.specs.Facts.{codeOf, Finds, Surveys};
+ghost use Rattle.list_read.specs.Listed.{allUrls, sourcesGood, reportsGood};
+ghost use Rattle.list_read.specs.Facts.{codeOf, Finds, Surveys, SurveysBy};
 use super::Element;
 use super::IN_ROOT;
 use super::IN_SERVERS;
@@ -16,7 +17,6 @@ use super::tallies::tally;
 use super::texts::is_url;
 use super::values::array_place;
 use json::Found;
-use json::is_text;
 use json::members;
 use json_tokens::Skip;
 use json_tokens::blanks;
@@ -63,20 +63,14 @@ fn reports_good(s: &[u8], f: Found) -> bool
     }
 }
 
-// The place of the outermost object.
-fn root_place(s: &[u8]) -> Skip
-    ensures { λ r. ⌜ r ≡ rootPlace (now (s .entry)) ⌝ }
+// An object ends there, and nothing but blanks stands behind it.
+fn is_whole(s: &[u8], end: Skip) -> bool
+    ensures { λ r. ⌜ r ≡ endsAt (now (s .entry)) end ⌝ }
 {
-    if !is_text(s) {
-        return Skip::Bad;
-    }
-    let root = blanks(s, 0);
-    let b = byte(s, root);
-    if b == b'{' {
-        Skip::Past(root)
-    } else {
-        Skip::Bad
-    }
+    let Skip::Past(e) = end else {
+        return false;
+    };
+    blanks(s, e) == s.len()
 }
 
 // 25 by what was counted.
@@ -127,13 +121,31 @@ fn survey_servers(s: &[u8], v: usize, sources: Found, reports: Found) -> Survey
     }
 }
 
-// What a list says: 24 of any part of it, then 25.
+// The same by the members of the outermost object: 24 of any of them, then 25.
+fn survey_by(s: &[u8], servers: Found, sources: Found, reports: Found) -> Survey
+    ensures { λ r. ⌜ SurveysBy (now (s .entry)) servers sources reports r ⌝ }
+{
+    if !sources_good(s, sources) {
+        return unlisted();
+    }
+    if !reports_good(s, reports) {
+        return unlisted();
+    }
+    let Skip::Past(v) = array_place(s, servers) else {
+        return unlisted();
+    };
+    survey_servers(s, v, sources, reports)
+}
+
+// What a list says. One walk over the outermost object finds its members, and tells whether the text is JSON.
 pub fn survey_of(text: &[u8]) -> Survey
     ensures { λ r. ⌜ Surveys (now (text .entry)) r ⌝ }
 {
-    let Skip::Past(root) = root_place(text) else {
+    let root = blanks(text, 0);
+    let b = byte(text, root);
+    if b != b'{' {
         return unlisted();
-    };
+    }
     let m = members(
         text,
         root,
@@ -147,14 +159,9 @@ pub fn survey_of(text: &[u8]) -> Survey
     let servers = m.a;
     let sources = m.b;
     let reports = m.c;
-    if !sources_good(text, sources) {
+    let end = m.end;
+    if !is_whole(text, end) {
         return unlisted();
     }
-    if !reports_good(text, reports) {
-        return unlisted();
-    }
-    let Skip::Past(v) = array_place(text, servers) else {
-        return unlisted();
-    };
-    survey_servers(text, v, sources, reports)
+    survey_by(text, servers, sources, reports)
 }

@@ -3,11 +3,13 @@ ghost use mathlib.Core.Path.{_≡_};
 ghost use mathlib.Core.Bool.{true};
 ghost use Rattle.laws.specs.Ascii.{ascii};
 ghost use Rattle.json_tokens.specs.Number.{numberAt};
+ghost use Rattle.json_tokens.specs.Scan.{digit};
 ghost use Rattle.json_strings.specs.Text.{sameList};
 ghost use Rattle.json_text.specs.Octets.{plain};
 ghost use Rattle.list_read.specs.Server.{isMark, unmarked, isSome, upTo, versionBy};
 use json::Found;
 use json_tokens::Skip;
+use json_tokens::byte;
 use json_tokens::number;
 
 // The first byte of a fraction or of an exponent.
@@ -58,6 +60,15 @@ pub fn is_integer(s: &[u8], f: Found) -> bool
     }
 }
 
+fn is_digit(b: u8) -> bool
+    ensures { λ r. ⌜ r ≡ digit b ⌝ }
+{
+    if b < b'0' {
+        return false;
+    }
+    b <= b'9'
+}
+
 // The bytes are the digit 1.
 fn is_one(x: &[u8]) -> bool
     ensures { λ r. ⌜ r ≡ sameList (now (x .entry)) (ascii "1") ⌝ }
@@ -68,10 +79,19 @@ fn is_one(x: &[u8]) -> bool
     x[0] == b'1'
 }
 
-// The value at a place is the version that this library speaks.
+// The value at a place is the version that this library speaks. Most others are told by their first two bytes, lest a
+// long one be read to its end.
 fn ours_at(s: &[u8], v: usize) -> bool
     ensures { λ r. ⌜ r ≡ sameList (plain (upTo (now (s .entry)) v (numberAt (now (s .entry)) v))) (ascii "1") ⌝ }
 {
+    let b = byte(s, v);
+    if b != b'1' {
+        return false;
+    }
+    let c = byte(s, v + 1);
+    if is_digit(c) {
+        return false;
+    }
     let Skip::Past(e) = number(s, v) else {
         return false;
     };

@@ -104,11 +104,11 @@ list-ready {k} l sources reports e z = by (fitted l) (goodList l sources reports
     by false b p q g = let z : _≡_ {A = ℕ} 21 0 = g in absurd (omega arith)
 
 -- ---- The codes of a list, one after the other.
-sizes-none : (l : Lent) → length (l .versions) ≡ 0 → 25 ≡ sizeCode (givens l)
+pub sizes-none : (l : Lent) → length (l .versions) ≡ 0 → 25 ≡ sizeCode (givens l)
 unfolding sizeCode pick
 sizes-none l n = rw (eq-eqb (length (givens l)) 0 (givens-length l ∙ n)) refl
 
-sizes-many : (l : Lent) → (length (l .versions) ≡ 0 → ⊥) → 64 < length (l .versions) → 25 ≡ sizeCode (givens l)
+pub sizes-many : (l : Lent) → (length (l .versions) ≡ 0 → ⊥) → 64 < length (l .versions) → 25 ≡ sizeCode (givens l)
 unfolding sizeCode pick
 sizes-many l n m =
     rw (
@@ -116,7 +116,7 @@ sizes-many l n m =
       lt-ltb 64 (length (givens l)) (omega (arith, givens-length l)),
     ) refl
 
-sizes-crowd : (l : Lent) {v : Bool} {r : ℕ} → (length (l .versions) ≡ 0 → ⊥) → length (l .versions) ≤ 64
+pub sizes-crowd : (l : Lent) {v : Bool} {r : ℕ} → (length (l .versions) ≡ 0 → ⊥) → length (l .versions) ≤ 64
     → v ≡ anyCrowded (givens l) → r ≡ pick v 25 0 → r ≡ sizeCode (givens l)
 unfolding sizeCode pick
 sizes-crowd l n m a b =
@@ -137,19 +137,9 @@ module _ (l : Lent) (sources reports : List ℕ) {t : Bool} (e : t ≡ fitted l)
     code-bad h = rw (sym e ∙ not-false t f, sym g ∙ not-true u h) refl
 
     module _ (h : not u ≡ false) where
-      code-size : {r : ℕ} → r ≡ sizeCode (givens l) → r ≡ listCode l sources reports
+      pub code-size : {r : ℕ} → r ≡ sizeCode (givens l) → r ≡ listCode l sources reports
       unfolding listCode pick
       code-size q = rw (sym e ∙ not-false t f, sym g ∙ not-false u h) q
-
-      pub code-none : length (l .versions) ≡ 0 → 25 ≡ listCode l sources reports
-      code-none n = code-size (sizes-none l n)
-
-      pub code-many : (length (l .versions) ≡ 0 → ⊥) → 64 < length (l .versions) → 25 ≡ listCode l sources reports
-      code-many n m = code-size (sizes-many l n m)
-
-      pub code-crowd : {v : Bool} {r : ℕ} → (length (l .versions) ≡ 0 → ⊥) → length (l .versions) ≤ 64
-          → v ≡ anyCrowded (givens l) → r ≡ pick v 25 0 → r ≡ listCode l sources reports
-      code-crowd n m a b = code-size (sizes-crowd l n m a b)
 
 -- ---- The text of a list: at its beginning, and the room that it takes.
 pub list-first : (gs : List Given) (sources reports o : List ℕ) → 0 + length (listText gs sources reports) ≤ length o

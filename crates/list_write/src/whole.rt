@@ -7,7 +7,7 @@ ghost use Rattle.laws.specs.Written.{Puts};
 ghost use Rattle.json_quote.specs.Room.{spent};
 ghost use Rattle.list_write.specs.Lent.{lent, fitted, givens};
 ghost use Rattle.list_write.specs.Texts.{listText};
-ghost use Rattle.list_write.specs.Answers.{goodList, listCode, Ready};
+ghost use Rattle.list_write.specs.Answers.{goodList, sizeCode, listCode, Ready};
 use super::SERVERS;
 use super::checking::reports_good;
 use super::lending::any_crowded;
@@ -65,6 +65,48 @@ fn list_good(
     reports_good(reports)
 }
 
+// 25 by how many servers there are, and by how many addresses one has; else 0.
+fn size_code(
+    keys: &[u8],
+    versions: &[u32],
+    names: &[u8],
+    name_lengths: &[u32],
+    addresses: &[u8],
+    address_lengths: &[u32],
+) -> u8
+    requires { ⌜
+        fitted
+        (lent (now keys) (now versions) (now names) (now «name_lengths») (now addresses) (now «address_lengths»))
+        ≡ true
+        ⌝ }
+    ensures { λ r. ⌜
+        r
+        ≡ sizeCode
+        (givens
+        (lent (now (keys .entry)) (now (versions .entry)) (now (names .entry)) (now («name_lengths» .entry))
+        (now (addresses .entry)) (now («address_lengths» .entry))))
+        ⌝ }
+{
+    if versions.len() == 0 {
+        return codes::ENTRIES;
+    }
+    if SERVERS < versions.len() {
+        return codes::ENTRIES;
+    }
+    if any_crowded(
+        keys,
+        versions,
+        names,
+        name_lengths,
+        addresses,
+        address_lengths,
+    ) {
+        codes::ENTRIES
+    } else {
+        0
+    }
+}
+
 // The code of the list, 0 where nothing is refused of it.
 pub fn list_code(
     keys: &[u8],
@@ -106,24 +148,14 @@ pub fn list_code(
     ) {
         return codes::REPORT_TEXT;
     }
-    if versions.len() == 0 {
-        return codes::ENTRIES;
-    }
-    if SERVERS < versions.len() {
-        return codes::ENTRIES;
-    }
-    if any_crowded(
+    size_code(
         keys,
         versions,
         names,
         name_lengths,
         addresses,
         address_lengths,
-    ) {
-        codes::ENTRIES
-    } else {
-        0
-    }
+    )
 }
 
 // What is left behind the text.

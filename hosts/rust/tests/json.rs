@@ -9,13 +9,12 @@ mod support;
 use independent::lengthy;
 use independent::pile::RECORD;
 use independent::report_text::{self, Cause};
-use std::collections::BTreeMap;
 use std::time::{Duration, Instant};
 use support::answers::{Answer, Bad, Both, Written};
 use support::json_values::Style;
+use support::met::Met;
 use support::no_json::{self, NO_JSON};
 use support::python::Python;
-use support::tally::Tally;
 use support::text_answers::{self as asking, Records};
 use support::texts::{self, Due, Text, Tree, WRONG_SIZE, WRONG_TEXT};
 use support::{counted, Xorshift};
@@ -26,30 +25,9 @@ const READ: &str = "read";
 /// Each cause of a refusal must be met so often.
 const LEAST: usize = 200;
 
-struct Comparison {
-    tally: Tally,
-    causes: BTreeMap<Cause, usize>,
-    random: Xorshift,
-    group: &'static str,
-    texts: usize,
-    bytes: usize,
-    /// How many records the texts had that were read.
-    records: BTreeMap<usize, usize>,
-}
+type Comparison = Met<Cause>;
 
 impl Comparison {
-    fn new() -> Self {
-        Comparison {
-            tally: Tally::new(&[READ]),
-            causes: BTreeMap::new(),
-            random: Xorshift::new(0x5eed_0701),
-            group: "",
-            texts: 0,
-            bytes: 0,
-            records: BTreeMap::new(),
-        }
-    }
-
     fn ask(&mut self, Text { bytes, due }: Text) -> Vec<u8> {
         // The text starts anywhere.
         let start = self.random.below(16);
@@ -58,13 +36,13 @@ impl Comparison {
         let read = report_text::read(text);
         let needed = read.as_ref().map_or(100, |entries| entries.len() * RECORD);
         if let Err(cause) = &read {
-            *self.causes.entry(*cause).or_insert(0) += 1;
+            self.refused(*cause);
         }
         let before = asking::buffer(&mut self.random, needed);
         let both = asking::read(text, &read, &before);
         self.same(text, &both, &due, &before);
         if let Ok(Records(count)) = both.ours.answer {
-            *self.records.entry(count).or_insert(0) += 1;
+            self.read(count);
         }
         self.texts += 1;
         self.bytes += text.len();
@@ -185,7 +163,7 @@ const GROUPS: [Group; 10] = [
 
 #[test]
 fn both_sides_read_the_same() {
-    let mut seen = Comparison::new();
+    let mut seen = Comparison::new(&[READ], 0x5eed_0701);
     let mut python = Python::start();
     for (name, count, group) in GROUPS {
         seen.group = name;
@@ -198,22 +176,14 @@ fn both_sides_read_the_same() {
         }
         println!("{count:>8} texts {name}");
     }
-    println!(
-        "{} texts in all, {} bytes, ours compared with independent; how often each code was given:",
-        seen.texts, seen.bytes
-    );
-    println!("{}", seen.tally.table("code"));
-    println!("records of those that were read, and how many there were: {:?}", seen.records);
-    println!("how often each cause of a refusal was met:");
-    for (cause, count) in &seen.causes {
-        println!("{count:>8} {cause:?}");
-    }
+    seen.tell();
     match python {
         Some(python) => told_by(python),
         None => println!("LEFT OUT: the comparison with Python, since there is no python3 here"),
     }
     seen.tally.no_difference();
-    enough(&seen);
+    seen.tally.at_least(2_000, READ, [0, 19, 24, 25]);
+    seen.often(LEAST, &Cause::all(), 1..=MOST_RECORDS);
     counted(seen.texts, "texts to be read as reports");
 }
 
@@ -225,19 +195,6 @@ fn told_by(mut python: Python) {
         println!("{count:>8} {letter}  {said}");
     }
     assert!(python.differing.is_empty(), "{}", python.differing.join("\n"));
-}
-
-/// A comparison that met a cause too seldom says little of it.
-fn enough(seen: &Comparison) {
-    assert!(seen.texts >= 100_000, "there were {} texts", seen.texts);
-    seen.tally.at_least(2_000, READ, [0, 19, 24, 25]);
-    for cause in Cause::all() {
-        let count = seen.causes.get(&cause).copied().unwrap_or(0);
-        assert!(count >= LEAST, "{cause:?} was met {count} times, and {LEAST} are needed");
-    }
-    for count in 1..=MOST_RECORDS {
-        assert!(seen.records.get(&count) >= Some(&LEAST), "{count} records were read too seldom");
-    }
 }
 
 /// A reader that looks back, or starts over, would take hours for some of these.

@@ -7,14 +7,13 @@
 mod support;
 
 use independent::list_text::{self, Cause, Listed};
-use std::collections::BTreeMap;
 use std::time::{Duration, Instant};
 use support::answers::{Answer, Both, Written};
 use support::list_answers::{buffer, Addressed, Asked, Records};
 use support::list_groups::GROUPS;
 use support::list_trees::{Due, Text};
-use support::tally::Tally;
-use support::{counted, vectors, Xorshift};
+use support::met::Met;
+use support::{counted, vectors};
 use trawlbeacon::{Refusal, ServerList, LISTED_SERVERS, SERVER_LENGTH};
 
 const RECORDS: &str = "records";
@@ -26,30 +25,9 @@ const REPORTS: &str = "reports";
 /// Each cause of a refusal must be met so often.
 const LEAST: usize = 100;
 
-struct Comparison {
-    tally: Tally,
-    causes: BTreeMap<Cause, usize>,
-    random: Xorshift,
-    group: &'static str,
-    texts: usize,
-    bytes: usize,
-    /// How many records the texts had that were read.
-    records: BTreeMap<usize, usize>,
-}
+type Comparison = Met<Cause>;
 
 impl Comparison {
-    fn new() -> Self {
-        Comparison {
-            tally: Tally::new(&[RECORDS, NAMES, ADDRESSES, SOURCES, REPORTS]),
-            causes: BTreeMap::new(),
-            random: Xorshift::new(0x5eed_0802),
-            group: "",
-            texts: 0,
-            bytes: 0,
-            records: BTreeMap::new(),
-        }
-    }
-
     fn ask(&mut self, Text { bytes, due }: Text) {
         // The text starts anywhere.
         let start = self.random.below(16);
@@ -57,8 +35,8 @@ impl Comparison {
         let text = &shifted[start..];
         let read = list_text::read(text);
         match &read {
-            Ok(listed) => *self.records.entry(listed.askable().len()).or_insert(0) += 1,
-            Err(cause) => *self.causes.entry(*cause).or_insert(0) += 1,
+            Ok(listed) => self.read(listed.askable().len()),
+            Err(cause) => self.refused(*cause),
         }
         let asked = Asked { text, read: &read };
         self.whole(asked, &due);
@@ -205,7 +183,7 @@ fn is_written(list: &ServerList) -> bool {
 
 #[test]
 fn both_sides_read_the_same() {
-    let mut seen = Comparison::new();
+    let mut seen = Comparison::new(&[RECORDS, NAMES, ADDRESSES, SOURCES, REPORTS], 0x5eed_0802);
     for (name, count, group) in GROUPS {
         seen.group = name;
         for _ in 0..count {
@@ -214,35 +192,14 @@ fn both_sides_read_the_same() {
         }
         println!("{count:>8} texts {name}");
     }
-    println!(
-        "{} texts in all, {} bytes, ours compared with independent; how often each code was given:",
-        seen.texts, seen.bytes
-    );
-    println!("{}", seen.tally.table("code"));
-    println!("records of those that were read, and how many there were: {:?}", seen.records);
-    println!("how often each cause of a refusal was met:");
-    for (cause, count) in &seen.causes {
-        println!("{count:>8} {cause:?}");
-    }
+    seen.tell();
     seen.tally.no_difference();
-    enough(&seen);
-    counted(seen.texts, "texts to be read as lists of servers");
-}
-
-/// A comparison that met a cause too seldom says little of it.
-fn enough(seen: &Comparison) {
-    assert!(seen.texts >= 100_000, "there were {} texts", seen.texts);
     seen.tally.at_least(2_000, RECORDS, [0, 19, 24, 25]);
     for column in [NAMES, ADDRESSES, SOURCES, REPORTS] {
         seen.tally.at_least(500, column, [0, 19, 24, 25, 36]);
     }
-    for cause in Cause::all() {
-        let count = seen.causes.get(&cause).copied().unwrap_or(0);
-        assert!(count >= LEAST, "{cause:?} was met {count} times, and {LEAST} are needed");
-    }
-    for count in [0, 1, 2, 3] {
-        assert!(seen.records.get(&count) >= Some(&LEAST), "{count} records were read too seldom");
-    }
+    seen.often(LEAST, &Cause::all(), 0..=3);
+    counted(seen.texts, "texts to be read as lists of servers");
 }
 
 /// Appendix A, as the draft has it.

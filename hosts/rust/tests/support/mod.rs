@@ -18,6 +18,7 @@ pub mod list_parts;
 pub mod list_python;
 pub mod list_trees;
 pub mod list_words;
+pub mod met;
 pub mod no_json;
 pub mod packets;
 pub mod pairs;

@@ -1,7 +1,8 @@
 use borrow.Author.Needs.{needs}
-use Rattle.laws.proofs.Holds.{both}
-use Rattle.json_tokens.proofs.Picks.{inside}
-use Rattle.json.proofs.Finds.{noted-not, unnamed-other}
+use borrow.Author.Tests.{not-false}
+use mathlib.Core.Path.{sym, _∙_}
+use Rattle.json_tokens.proofs.Picks.{inside, picks}
+use Rattle.json.proofs.Finds.{noted-not, unnamed-other, unnamed-first}
 use Rattle.json.proofs.objects.look.Statement.{statement}
 use Rattle.json.proofs.objects.look.Tie as tie
 
@@ -11,44 +12,37 @@ returns c =
     let h = c .if1 .taken in
     (noted-not _ _ _ (unnamed-other _ _ _ b h), (noted-not _ _ _ (unnamed-other _ _ _ b h), (noted-not _ _ _ (unnamed-other _ _ _ b h), (noted-not _ _ _ (unnamed-other _ _ _ b h), noted-not _ _ _ (unnamed-other _ _ _ b h)))))
 
-returns-2 : tie.Need-returns-2
-returns-2 c =
-    let p = both _ _ (c .if2 .taken) in
-    let q = both _ _ (p .0) in
-    let r = both _ _ (q .0) in
-    let t = both _ _ (r .0) in (
-      noted-not _ _ _ (c .before .before .before .before .before .differs .ensures (t .0)),
+add-byte : tie.Need-add-byte
+add-byte c = search (picks, needs)
+
+returns-3 : tie.Need-returns-3
+returns-3 c =
+    let b = c .before .before .before .before .byte2 .ensures in
+    let u = sym (c .before .before .before .is-unescaped .ensures) ∙ not-false _ (c .before .before .if2 .left) in
+    let n = c .before .begins-none .ensures (c .if3 .taken) in (
+      noted-not _ _ _ (unnamed-first _ _ _ b u (n .0)),
       (
-        noted-not _ _ _ (c .before .before .before .before .differs2 .ensures (t .1)),
+        noted-not _ _ _ (unnamed-first _ _ _ b u (n .1)),
         (
-          noted-not _ _ _ (c .before .before .before .differs3 .ensures (r .1)),
-          (
-            noted-not _ _ _ (c .before .before .differs4 .ensures (q .1)),
-            noted-not _ _ _ (c .before .differs5 .ensures (p .1)),
-          ),
+          noted-not _ _ _ (unnamed-first _ _ _ b u (n .2)),
+          (noted-not _ _ _ (unnamed-first _ _ _ b u (n .3)), noted-not _ _ _ (unnamed-first _ _ _ b u (n .4))),
         ),
       ),
     )
 
-differs-requires : tie.Need-differs-requires
-differs-requires c κs =
-    inside (c .before .before .before .before .before .before .before .before .args .s .now) (c .before .byte .ensures) (c .if1 .left) tt
+add-byte-2 : tie.Need-add-byte-2
+add-byte-2 c =
+    let i =
+    inside (c .before .before .before .before .before .before .before .before .before .before .before .before .before .args .s .now)
+    (c .before .before .before .before .before .before .byte .ensures) (c .before .before .before .before .before .if1 .left) tt in
+    search needs
 
-differs-requires-2 : tie.Need-differs-requires-2
-differs-requires-2 c κs =
-    inside (c .before .before .before .before .before .before .before .before .before .args .s .now) (c .before .before .byte .ensures) (c .before .if1 .left) tt
-
-differs-requires-3 : tie.Need-differs-requires-3
-differs-requires-3 c κs =
-    inside (c .before .before .before .before .before .before .before .before .before .before .args .s .now) (c .before .before .before .byte .ensures) (c .before .before .if1 .left) tt
-
-differs-requires-4 : tie.Need-differs-requires-4
-differs-requires-4 c κs =
-    inside (c .before .before .before .before .before .before .before .before .before .before .before .args .s .now) (c .before .before .before .before .byte .ensures) (c .before .before .before .if1 .left) tt
-
-differs-requires-5 : tie.Need-differs-requires-5
-differs-requires-5 c κs =
-    inside (c .before .before .before .before .before .before .before .before .before .before .before .before .args .s .now) (c .before .before .before .before .before .byte .ensures) (c .before .before .before .before .if1 .left) tt
+look-by-requires : tie.Need-look-by-requires
+look-by-requires c κs = record {
+  first = c .before .before .before .before .before .byte2 .ensures;
+  then = c .byte3 .ensures;
+  itself = sym (c .before .before .before .before .is-unescaped .ensures) ∙ not-false _ (c .before .before .before .if2 .left);
+}
 
 pub look-spec : {M : Type 1} → statement M
 look-spec =
@@ -56,11 +50,14 @@ look-spec =
     (tie.spec
     (λ c κs. search needs)
     returns
-    differs-requires
-    differs-requires-2
-    differs-requires-3
-    differs-requires-4
-    differs-requires-5
-    returns-2
+    add-byte
     (λ c κs. search needs)
-    (λ c. c .look-at-all .ensures))
+    (λ c κs. search needs)
+    (λ c κs. search needs)
+    (λ c. c .look-at-all .ensures)
+    (λ c κs. search needs)
+    returns-3
+    add-byte-2
+    (λ c κs. search needs)
+    look-by-requires
+    (λ c. c .look-by .ensures))

@@ -1,9 +1,11 @@
 use borrow.Author.Needs.{needs}
-use mathlib.Core.Path.{_∙_}
+use mathlib.Core.Path.{sym, _∙_}
 use native.Mathlib.Omega.{arith}
 use denote.Ref.{now}
 use Rattle.json.specs.Value.{plainAt}
+use Rattle.json_tokens.proofs.Lone.{lone-number}
 use Rattle.json_tokens.proofs.Picks.{inside, picks}
+use Rattle.json.proofs.Words.{lone-next}
 use Rattle.json.proofs.values.plain.Statement.{statement}
 use Rattle.json.proofs.values.plain.Tie as tie
 
@@ -44,9 +46,21 @@ returns-4 : tie.Need-returns-4
 unfolding plainAt
 returns-4 c = search (picks, needs) depth 7
 
+add-t17 : tie.Need-add-t17
+add-t17 c =
+    lone-next (now (c .before .before .before .before .before .before .before .before .args .s))
+    (c .before .before .before .before .before .before .before .before .args .at) (c .before .lone-digit .ensures)
+    (c .if5 .taken) (search needs)
+
 returns-5 : tie.Need-returns-5
 unfolding plainAt
-returns-5 c = search (picks, needs) depth 7
+returns-5 c =
+    let n = sym (lone-number (now (c .before .before .before .before .before .before .before .before .args .s)) _
+    (c .before .lone-digit .ensures) (c .if5 .taken)) in search (picks, needs) depth 8
+
+returns-6 : tie.Need-returns-6
+unfolding plainAt
+returns-6 c = search (picks, needs) depth 8
 
 pub plain-spec : {M : Type 1} → statement M
 plain-spec =
@@ -64,6 +78,9 @@ plain-spec =
     returns-3
     (λ c. search needs)
     literal-requires-3
-    (λ c κs. search needs)
     returns-4
-    returns-5)
+    (λ c κs. search needs)
+    add-t17
+    (λ c κs. search needs)
+    returns-5
+    returns-6)

@@ -1,6 +1,5 @@
 use borrow.Author.Needs.{needs}
 use native.Mathlib.Omega.{arith}
-use mathlib.Core.Path.{refl}
 use Rattle.json_strings.specs.Text.{unescaped}
 use Rattle.json_tokens.proofs.While.{while-ahead}
 use Rattle.json_strings.proofs.Runs.{walked-run}
@@ -14,8 +13,12 @@ returns c =
       omega (arith, c .unescaped-run .ensures, while-ahead unescaped (a .s .now) (a .n)),
     )
 
-returns-2 : tie.Need-returns-2
-returns-2 c = (refl, omega arith)
-
 pub onward-spec : {M : Type 1} → statement M
-onward-spec = tie.close (tie.spec (λ c. search needs) (λ c κs. search needs) returns returns-2)
+onward-spec =
+    tie.close
+    (tie.spec
+    (λ c. search needs)
+    (λ c κs. search needs)
+    (λ c κs. search needs)
+    returns
+    (λ c. search needs))

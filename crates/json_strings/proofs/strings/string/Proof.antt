@@ -1,12 +1,13 @@
 use borrow.Author.Needs.{needs}
 use native.Mathlib.Omega.{arith}
 use Prim.Native.Nat.{_-_}
-use mathlib.Core.Path.{_≡_, _∙_}
+use mathlib.Core.Path.{_≡_, refl, sym, _∙_, ap}
 use lib.ListN.{length}
-use Rattle.json_strings.specs.Text.{unitStep, stringAt}
+use Rattle.laws.specs.Pick.{pick}
+use Rattle.json_strings.specs.Text.{stepOf, unitStep, stringAt}
 use Rattle.json_tokens.specs.Walk.{walked}
 use Rattle.json_strings.proofs.Ahead.{forth-unit}
-use Rattle.json_strings.proofs.Runs.{walked-run}
+use Rattle.json_strings.proofs.Runs.{walked-run, unit-quoted}
 use Rattle.json_strings.proofs.Units.{units}
 use Rattle.json_tokens.proofs.Turns.{walked-more, turn-ahead, turn-falls, walked-end, walked-wrong}
 use Rattle.json_strings.proofs.strings.string.Statement.{statement}
@@ -25,9 +26,20 @@ returns c = search (units, needs)
 add-unescaped-run : tie.Need-add-unescaped-run Inv-loop μ-loop
 add-unescaped-run c = search (units, needs)
 
+returns-2 : tie.Need-returns-2 Inv-loop μ-loop
+unfolding stringAt unitStep
+returns-2 c =
+    let s = c .before .before .before .before .before .before .args .s .now in
+    let k = c .before .before .unescaped-run .result in
+    walked-end (length s) (unitStep s) k refl
+    (ap stepOf (unit-quoted s k (c .before .byte2 .ensures) (c .if2 .taken)))
+    ∙ walked-run _ _ (c .before .before .unescaped-run .ensures) ∙ search (units, needs)
+
 loop-holds : tie.Need-loop-holds Inv-loop μ-loop
-unfolding stringAt
-loop-holds c = walked-run _ _ (c .unescaped-run .ensures) ∙ search (units, needs)
+unfolding stringAt pick
+loop-holds c =
+    let b = c .before .before .before .before .byte .ensures in
+    walked-run _ _ (c .before .before .unescaped-run .ensures) ∙ rw (sym b ∙ c .before .before .before .if1 .left) refl
 
 onward-requires : tie.Need-onward-requires Inv-loop μ-loop
 onward-requires c κs =
@@ -35,7 +47,7 @@ onward-requires c κs =
 
 loop-less : tie.Need-loop-less Inv-loop μ-loop
 loop-less c =
-    let s = c .before .before .before .before .before .before .before .before .before .before .args .s .now in
+    let s = c .before .before .before .before .before .before .before .before .before .before .before .before .args .s .now in
     let f =
     turn-falls (length s) (unitStep s) (forth-unit s) (c .before .before .before .before .before .loop .k)
     (c .before .before .before .before .unit-step .ensures) (c .before .before .n .given .1) in
@@ -48,12 +60,12 @@ loop-again c =
     (c .before .before .n .given .1)
     ∙ c .before .before .before .before .before .loop .inv
 
-returns-2 : tie.Need-returns-2 Inv-loop μ-loop
-returns-2 c = walked-end _ _ _ (c .before .before .before .unit-step .ensures) (c .before .e .given .1)
+returns-3 : tie.Need-returns-3 Inv-loop μ-loop
+returns-3 c = walked-end _ _ _ (c .before .before .before .unit-step .ensures) (c .before .e .given .1)
     ∙ c .before .before .before .before .loop .inv
 
-returns-3 : tie.Need-returns-3 Inv-loop μ-loop
-returns-3 c = walked-wrong _ _ _ (c .before .before .unit-step .ensures) (c .enum-told .given .1)
+returns-4 : tie.Need-returns-4 Inv-loop μ-loop
+returns-4 c = walked-wrong _ _ _ (c .before .before .unit-step .ensures) (c .enum-told .given .1)
     ∙ c .before .before .before .loop .inv
 
 pub string-spec : {M : Type 1} → statement M
@@ -66,6 +78,9 @@ string-spec =
     returns
     add-unescaped-run
     (λ c κs. search needs)
+    (λ c κs. search needs)
+    (λ c. search (units, needs))
+    returns-2
     loop-holds
     (λ c κs. search needs)
     (λ c. search needs)
@@ -73,6 +88,6 @@ string-spec =
     loop-less
     loop-again
     (λ c. search needs)
-    returns-2
+    returns-3
     (λ c. search needs)
-    returns-3)
+    returns-4)

@@ -4,14 +4,14 @@ use Rattle.json_text.proofs.characters.letter_at.Statement.{statement}
 use Rattle.json_text.proofs.characters.letter_at.Tie as tie
 
 returns : tie.Need-returns
-returns c = letter-begun _ _ (c .before .before .before .before .unit-of .ensures) (c .begun .result)
+returns c = letter-begun _ _ (c .before .before .before .before .unit-at .ensures) (c .begun .result)
     (c .before .before .c .given .1) (c .begun .ensures)
 
 returns-2 : tie.Need-returns-2
-returns-2 c = letter-close _ _ (c .before .before .unit-of .ensures) (c .enum-told .given .1)
+returns-2 c = letter-close _ _ (c .before .before .unit-at .ensures) (c .enum-told .given .1)
 
 returns-3 : tie.Need-returns-3
-returns-3 c = letter-ill _ _ (c .before .before .unit-of .ensures) (c .enum-told2 .given .1)
+returns-3 c = letter-ill _ _ (c .before .before .unit-at .ensures) (c .enum-told2 .given .1)
 
 pub letter-at-spec : {M : Type 1} → statement M
 letter-at-spec =

@@ -13,23 +13,23 @@ pair-requires c κs = (
 
 returns : tie.Need-returns
 returns c =
-    begins-pair _ _ _ (c .before .before .before .before .before .before .unit-of .ensures)
+    begins-pair _ _ _ (c .before .before .before .before .before .before .unit-at .ensures)
     (c .before .before .before .before .before .before .before .before .pre)
     (c .before .before .before .before .d .given .1) (sym (c .before .before .is-low .ensures) ∙ c .before .if1 .taken)
     (c .pair .ensures)
 
 returns-2 : tie.Need-returns-2
 returns-2 c =
-    lone-other _ _ _ (c .before .before .before .before .before .unit-of .ensures)
+    lone-other _ _ _ (c .before .before .before .before .before .unit-at .ensures)
     (c .before .before .before .before .before .before .before .pre)
     (c .before .before .before .d .given .1) (sym (c .before .is-low .ensures) ∙ c .if1 .left)
 
 returns-3 : tie.Need-returns-3
-returns-3 c = lone-close _ _ _ (c .before .before .unit-of .ensures) (c .before .before .before .before .pre)
+returns-3 c = lone-close _ _ _ (c .before .before .unit-at .ensures) (c .before .before .before .before .pre)
     (c .enum-told .given .1)
 
 returns-4 : tie.Need-returns-4
-returns-4 c = lone-ill _ _ _ (c .before .before .unit-of .ensures) (c .before .before .before .before .pre)
+returns-4 c = lone-ill _ _ _ (c .before .before .unit-at .ensures) (c .before .before .before .before .pre)
     (c .enum-told2 .given .1)
 
 pub second-spec : {M : Type 1} → statement M

@@ -22,7 +22,10 @@ returns-2 : tie.Need-returns-2 Inv-loop μ-loop
 returns-2 c = search (addressed, needs)
 
 add-n : tie.Need-add-n Inv-loop μ-loop
-add-n c = let h = addressed-less (c .before .before .before .before .before .loop .inv) (c .before .before .before .at .given .1) in search needs
+add-n c =
+    let h = addressed-less (c .before .before .before .before .before .before .before .loop .inv)
+    (c .before .before .before .before .before .at .given .1) in
+    search needs
 
 loop-less : tie.Need-loop-less Inv-loop μ-loop
 loop-less c = search (addressed, needs)
@@ -42,6 +45,8 @@ addresses-in-spec =
     (λ c. search needs)
     returns
     (λ c κs. search needs)
+    (λ c. search needs)
+    (λ c. search needs)
     returns-2
     add-n
     (λ c κs. search needs)

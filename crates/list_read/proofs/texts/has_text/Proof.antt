@@ -1,5 +1,5 @@
-use borrow.Author.Needs.{needs}
 use Rattle.list_read.proofs.Parts.{texts}
+use borrow.Author.Needs.{needs}
 use Rattle.list_read.proofs.texts.has_text.Statement.{statement}
 use Rattle.list_read.proofs.texts.has_text.Tie as tie
 
@@ -9,19 +9,7 @@ returns c = search (texts, needs)
 returns-2 : tie.Need-returns-2
 returns-2 c = search (texts, needs)
 
-returns-3 : tie.Need-returns-3
-returns-3 c = search (texts, needs)
-
 pub has-text-spec : {M : Type 1} → statement M
 has-text-spec =
     tie.close
-    (tie.spec
-    (λ c κs. search needs)
-    (λ c. search needs)
-    (λ c. search needs)
-    returns
-    (λ c κs. search needs)
-    (λ c. search needs)
-    (λ c. search needs)
-    returns-2
-    returns-3)
+    (tie.spec (λ c κs. search needs) (λ c. search needs) (λ c. search needs) returns (λ c κs. search needs) returns-2)

@@ -1,10 +1,9 @@
 -- `list_write::whole::list_code` meets its contract.
 use borrow.Author.Needs.{needs}
-use mathlib.Core.Path.{refl, sym, _∙_}
+use mathlib.Core.Path.{sym, _∙_}
 use borrow.Author.Tests.{not-false}
-use Rattle.laws.specs.Pick.{pick}
 use Rattle.list_write.specs.Lent.{lent}
-use Rattle.list_write.proofs.Answering.{code-lent, code-bad, code-none, code-many, code-crowd}
+use Rattle.list_write.proofs.Answering.{code-lent, code-bad, code-size}
 use Rattle.list_write.proofs.whole.list_code.Statement.{statement}
 use Rattle.list_write.proofs.whole.list_code.Tie as tie
 
@@ -13,11 +12,10 @@ list-good-requires c κs =
     let at-fits2 = c .before in
     sym (at-fits2 .fits2 .ensures) ∙ not-false _ (c .if1 .left)
 
-any-crowded-requires : tie.Need-any-crowded-requires
-any-crowded-requires c κs =
-    let at-if1 = c .before .before .before .before in
-    let at-fits2 = at-if1 .before in
-    sym (at-fits2 .fits2 .ensures) ∙ not-false _ (at-if1 .if1 .left)
+size-code-requires : tie.Need-size-code-requires
+size-code-requires c κs =
+    let at-if1 = c .before .before in
+    sym (at-if1 .before .fits2 .ensures) ∙ not-false _ (at-if1 .if1 .left)
 
 returns : tie.Need-returns
 returns c =
@@ -46,62 +44,8 @@ returns-3 c =
     let at-list-good = at-if2 .before in
     let at-if1 = at-list-good .before in
     let at-fits2 = at-if1 .before in
-    let start = at-fits2 .before .before .before .before .before .before .before .before .before in
-    let a = start .args in
-    let l = lent (a .keys .now) (a .versions .now) (a .names .now) (a .name-lengths .now) (a .addresses .now)
-    (a .address-lengths .now) in
-    code-none l (a .sources .now) (a .reports .now) (at-fits2 .fits2 .ensures) (at-if1 .if1 .left) (at-list-good
-    .list-good .ensures) (at-if2 .if2 .left) (c .if3 .taken)
-
-returns-4 : tie.Need-returns-4
-returns-4 c =
-    let at-if3 = c .before in
-    let at-if2 = at-if3 .before in
-    let at-list-good = at-if2 .before in
-    let at-if1 = at-list-good .before in
-    let at-fits2 = at-if1 .before in
-    let start = at-fits2 .before .before .before .before .before .before .before .before .before in
-    let a = start .args in
-    let l = lent (a .keys .now) (a .versions .now) (a .names .now) (a .name-lengths .now) (a .addresses .now)
-    (a .address-lengths .now) in
-    code-many l (a .sources .now) (a .reports .now) (at-fits2 .fits2 .ensures) (at-if1 .if1 .left) (at-list-good
-    .list-good .ensures) (at-if2 .if2 .left) (at-if3 .if3 .left) (c .if4 .taken)
-
-returns-5 : tie.Need-returns-5
-unfolding pick
-returns-5 c =
-    let at-any-crowded = c .before in
-    let at-if4 = at-any-crowded .before in
-    let at-if3 = at-if4 .before in
-    let at-if2 = at-if3 .before in
-    let at-list-good = at-if2 .before in
-    let at-if1 = at-list-good .before in
-    let at-fits2 = at-if1 .before in
-    let start = at-fits2 .before .before .before .before .before .before .before .before .before in
-    let a = start .args in
-    let l = lent (a .keys .now) (a .versions .now) (a .names .now) (a .name-lengths .now) (a .addresses .now)
-    (a .address-lengths .now) in
-    code-crowd l (a .sources .now) (a .reports .now) (at-fits2 .fits2 .ensures) (at-if1 .if1 .left) (at-list-good
-    .list-good .ensures) (at-if2 .if2 .left) (at-if3 .if3 .left) (at-if4 .if4 .left) (at-any-crowded .any-crowded
-    .ensures) (rw (c .if5 .taken) refl)
-
-returns-6 : tie.Need-returns-6
-unfolding pick
-returns-6 c =
-    let at-any-crowded = c .before in
-    let at-if4 = at-any-crowded .before in
-    let at-if3 = at-if4 .before in
-    let at-if2 = at-if3 .before in
-    let at-list-good = at-if2 .before in
-    let at-if1 = at-list-good .before in
-    let at-fits2 = at-if1 .before in
-    let start = at-fits2 .before .before .before .before .before .before .before .before .before in
-    let a = start .args in
-    let l = lent (a .keys .now) (a .versions .now) (a .names .now) (a .name-lengths .now) (a .addresses .now)
-    (a .address-lengths .now) in
-    code-crowd l (a .sources .now) (a .reports .now) (at-fits2 .fits2 .ensures) (at-if1 .if1 .left) (at-list-good
-    .list-good .ensures) (at-if2 .if2 .left) (at-if3 .if3 .left) (at-if4 .if4 .left) (at-any-crowded .any-crowded
-    .ensures) (rw (c .if5 .left) refl)
+    code-size _ _ _ (at-fits2 .fits2 .ensures) (at-if1 .if1 .left) (at-list-good .list-good .ensures)
+    (at-if2 .if2 .left) (c .size-code .ensures)
 
 pub list-code-spec : {M : Type 1} → statement M
 list-code-spec =
@@ -111,8 +55,5 @@ list-code-spec =
     returns
     list-good-requires
     returns-2
-    returns-3
-    returns-4
-    any-crowded-requires
-    returns-5
-    returns-6)
+    size-code-requires
+    returns-3)

@@ -11,9 +11,9 @@ use std::sync::mpsc::{channel, Receiver, RecvTimeoutError, Sender};
 use std::thread;
 use trawlbeacon::{Clock, ListedServer, Refusal, Time, Window, REQUEST_LENGTH};
 
-/// How far the machine's own clock may go wrong, in parts of a million: as far as a cheap crystal
-/// does.
-const DRIFT: u32 = 100;
+/// How far the machine's own clock may go wrong, in parts of a million: 100 by a cheap crystal, and
+/// 500 by which the system may slew it.
+const DRIFT: u32 = 600;
 
 pub struct Server {
     pub name: String,

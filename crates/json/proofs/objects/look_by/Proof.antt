@@ -1,0 +1,23 @@
+use borrow.Author.Needs.{needs}
+use Rattle.json.proofs.objects.look_by.Statement.{statement}
+use Rattle.json.proofs.objects.look_by.Tie as tie
+
+returns : tie.Need-returns
+returns c = (
+  c .before .before .before .before .looked-by .ensures,
+  (
+    c .before .before .before .looked-by2 .ensures,
+    (c .before .before .looked-by3 .ensures, (c .before .looked-by4 .ensures, c .looked-by5 .ensures)),
+  ),
+)
+
+pub look-by-spec : {M : Type 1} → statement M
+look-by-spec =
+    tie.close
+    (tie.spec
+    (λ c κs. c .before .before .before .before .before .before .before .before .before .before .before .pre)
+    (λ c κs. c .before .before .before .before .before .before .before .before .before .before .before .before .pre)
+    (λ c κs. c .before .before .before .before .before .before .before .before .before .before .before .before .before .pre)
+    (λ c κs. c .before .before .before .before .before .before .before .before .before .before .before .before .before .before .pre)
+    (λ c κs. c .before .before .before .before .before .before .before .before .before .before .before .before .before .before .before .pre)
+    returns)
