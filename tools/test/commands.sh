@@ -39,8 +39,8 @@ command_trawl() {
 }
 
 # What the story must have in it, whichever packets are lost: what the network does, that there is a
-# time beside the lie, that the lie is shown, written and judged, and that there is a time again with
-# a server less.
+# time beside the lie, that the lie is shown, written and judged, and that there is a time again
+# with a server less.
 story=(
     "network  loses " "network  damages " "network  delays "
     "console  time     20" "console  suspect  cedar" "by its own clock, between the two"

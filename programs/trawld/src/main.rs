@@ -1,7 +1,8 @@
 //! The command `trawld`: a Roughtime server on the proved library.
 //!
-//! Every byte of an answer is the library's, and so is every judgement of a request. Here stands
-//! what is around it: sockets, threads, clocks, files and words. Nothing here is proved.
+//! Every byte of an answer is the library's, but for those that `--grease` spoils, and so is every
+//! judgement of a request. Here stands what is around it: sockets, threads, clocks, files and words.
+//! Nothing here is proved.
 
 mod answering;
 mod clock;
