@@ -13,7 +13,7 @@ const LONGEST_LIST = 1 << 20;
 /** The longest text that is looked through for what is wrong, which takes memory for its values. */
 const LONGEST_LOOKED = 4 << 20;
 
-const TOO_LONG = "where it is wrong is only looked for in texts of up to 4 MiB";
+const TOO_LONG = "the text is above 4 MiB, so the place of the error was not looked for";
 
 /** What is no text is a pile: every record has bytes that must be zero, and JSON has none. */
 const isText = (bytes) => bytes.length > 0 && !bytes.includes(0);

@@ -58,8 +58,8 @@ function heard({ step, place, count, said, failed }) {
         say(`Judging record ${place} of ${count}.`);
     } else if (failed !== undefined) {
         stop();
-        show(made("h2", "", `This can not be judged: ${failed}.`));
-        say(`This can not be judged: ${failed}.`);
+        show(made("h2", "", `This cannot be judged: ${failed}.`));
+        say(`This cannot be judged: ${failed}.`);
     } else if (said) {
         stop();
         tell(said);
@@ -71,12 +71,12 @@ function tell({ lists, left, file, verdict, refused }) {
     kept.lists.push(...lists);
     showLists();
     if (!file) {
-        say(`${lists.length === 1 ? "A server list is" : "Server lists are"} kept.`);
+        say(`${lists.length === 1 ? "Server list" : "Server lists"} added.`);
         if (kept.file) judge([kept.file]);
         return;
     }
     kept.file = file;
-    const others = `Of ${left + 1} files this is the first: give the others one by one.`;
+    const others = `This is the first of ${left + 1} files. Give the others one at a time.`;
     const more = left > 0 ? [made("p", "warning", others)] : [];
     if (refused) {
         show(...more, ...refusedView(refused, file));
@@ -92,7 +92,7 @@ function showLists() {
         kept.lists.splice(index, 1);
         showLists();
         if (kept.file) judge([kept.file]);
-        else say("The list is forgotten.");
+        else say("List removed.");
     });
     byId("lists").replaceChildren(...items);
     byId("kept").hidden = items.length === 0;
@@ -114,12 +114,12 @@ const asFile = (text, name) => new File([text], name, { type: "application/json"
 function given(data) {
     if (data.files.length) return [...data.files];
     const text = data.getData("text/plain");
-    return text ? [asFile(text, "what was pasted")] : [];
+    return text ? [asFile(text, "the pasted text")] : [];
 }
 
 function take(files) {
     if (files.length) judge(files);
-    else say("There was nothing to judge in it.");
+    else say("There was no report in it.");
 }
 
 function listen() {
@@ -141,7 +141,7 @@ function listen() {
     });
     byId("judge").addEventListener("click", () => {
         const text = byId("pasted").value;
-        take(text ? [asFile(text, "what was pasted")] : []);
+        take(text ? [asFile(text, "the pasted text")] : []);
     });
     byId("example").addEventListener("click", () =>
         take([asFile(textOf("report"), "draft 19's own report")]),

@@ -113,19 +113,20 @@ function figureOf(verdict) {
 }
 
 /** The name of a file, as it may be shown. */
-const nameOf = (file) => plain(file?.name ?? "") || "what was pasted";
+const nameOf = (file) => plain(file?.name ?? "") || "the pasted text";
 
 export function verdictView(verdict, file, save) {
     const warning = keyWords(verdict);
     const heading = made("h2", verdict.run ? "guilty" : "", finding(verdict));
     const records = counted(verdict.records.length, "record");
-    const of = `${records} of ${nameOf(file)}, judged by their own signatures.`;
+    const from = `${records} from ${nameOf(file)}.`;
+    const how = "Every signature was checked under the key in its record.";
     return [
         heading,
         ...paragraphs(verdictWords(verdict), "lead"),
         ...paragraphs([wholeWords(verdict)], ""),
         ...paragraphs([warning], "warning"),
-        made("p", "faint", `${of} Dates and times are UTC.`),
+        made("p", "faint", `${from} ${how} Dates and times are UTC.`),
         figureOf(verdict),
         ...(verdict.run ? [saving(verdict, save)] : []),
         headed("h3", "Records", recordTable(verdict)),
@@ -144,10 +145,10 @@ export function refusedView({ refusal, why, of }, file) {
 export function listsView(lists, forget) {
     return lists.map(({ name, list }, index) => {
         const over = list.passedOver ? `, and ${list.passedOver} that cannot be asked` : "";
-        const button = made("button", "quiet", "Forget it");
+        const button = made("button", "quiet", "Remove");
         button.type = "button";
         button.addEventListener("click", () => forget(index));
-        button.setAttribute("aria-label", `Forget the list ${plain(name)}`);
+        button.setAttribute("aria-label", `Remove the list ${plain(name)}`);
         const servers = counted(list.servers.length, "server");
         return made("li", "", `${plain(name)}: ${servers}${over} `, button);
     });

@@ -1,5 +1,5 @@
-// What the page says in words. They are those of the program's own picture
-// (hosts/rust/src/picture/words.rs).
+// What the page says in words. The program's own picture says the same
+// (hosts/rust/src/picture/words.rs), but it answers no question.
 
 import { dateOf, datesOf, span } from "./dates.js";
 
@@ -45,10 +45,10 @@ export function toldOf({ window, refusal }) {
 export const linkOf = ({ place, linked }) =>
     place === 0 ? "first" : linked ? "linked" : "not linked";
 
-/** What follows from the records, in a sentence. */
+/** What follows from the records: the answer to the page's question, whether a server lied. */
 export function finding({ run }) {
-    if (!run) return "No run of records convicts.";
-    return `Records ${run.first} and ${run.last} contradict each other.`;
+    if (!run) return "No: nothing here proves a lie.";
+    return `Yes: records ${run.first} and ${run.last} contradict each other.`;
 }
 
 /** A number of seconds, and how long that is where it is not seen at a glance. */
@@ -57,7 +57,7 @@ const long = (seconds) =>
 
 /** The finding at length. */
 export function verdictWords({ run, records, servers }) {
-    if (!run) return ["Nothing in it shows that a server told a wrong time."];
+    if (!run) return ["No run of records convicts. That does not prove any server's time right."];
     const [earlier, later] = [records[run.first], records[run.last]];
     const whose = ({ place, server }) => {
         const { name } = servers[server];
@@ -65,36 +65,37 @@ export function verdictWords({ run, records, servers }) {
     };
     const apart = earlier.window.low - later.window.high;
     return [
-        `By record ${whose(earlier)} it was ${dateOf(earlier.window.low)} at the least. ` +
-            `By record ${whose(later)}, asked for after that, it was ` +
-            `${dateOf(later.window.high)} at the most.`,
+        `Record ${whose(earlier)} says that it was ${dateOf(earlier.window.low)} or later. ` +
+            `Record ${whose(later)}, asked for after that, says that it was ` +
+            `${dateOf(later.window.high)} or earlier.`,
         `The two are ${long(apart)} apart: honest servers never say both. ` +
-            `The run of records ${run.first} to ${run.last} convicts by itself.`,
+            `Records ${run.first} to ${run.last} alone prove this.`,
     ];
 }
 
 /** Whether the whole of it is a report, too. */
 export function wholeWords({ whole, run, records }) {
-    if (!whole) return "All of it is a report by itself.";
+    if (!whole) return "The whole input is a valid report.";
     if (!run || records.length === run.last - run.first + 1) return null;
     const where = whole.place === undefined ? "" : `record ${whole.place}: `;
-    return `All of it is no report: ${where}${whole.words}. The run alone is.`;
+    const alone = `Records ${run.first} to ${run.last} alone are one.`;
+    return `The whole input is not a valid report: ${where}${whole.words}. ${alone}`;
 }
 
 /** The warning about keys that nobody knows; null, where there is nothing to warn of. */
 export function keyWords({ listed, servers }) {
-    const end = "anybody can sign with keys of his own.";
+    const end = "and anybody can make keys.";
     const add = "Add a server list that you trust.";
-    if (!listed) return `Nobody has looked up whose keys these are: ${end} ${add}`;
+    if (!listed) return `These keys were not compared with any list, ${end} ${add}`;
     const unknown = ({ name }, server) => (name === null ? [letterOf(server)] : []);
     const letters = servers.flatMap(unknown);
     if (!letters.length) return null;
     const [keys, are] = letters.length === 1 ? ["key", "is"] : ["keys", "are"];
-    return `The ${keys} ${letters.join(", ")} ${are} in no list that you gave: ${end}`;
+    return `The ${keys} ${letters.join(", ")} ${are} in no list that you gave, ${end}`;
 }
 
 /** What is said of what is neither a report nor a pile. */
 export function refusedWords({ refusal, of }) {
-    const what = of === "list" ? "This is no server list" : "This can not be judged";
+    const what = of === "list" ? "This is not a server list" : "This cannot be judged";
     return `${what}: ${refusal.words} (code ${refusal.code}).`;
 }

@@ -108,5 +108,5 @@ class Places(unittest.TestCase):
         )
         self.assertEqual(ended.returncode, 1)
         self.assertIn(
-            "ImportError: there is no libtrawlbeacon.so.1: it was sought as /no/such;", ended.stderr
+            "ImportError: there is no libtrawlbeacon.so.1: looked for /no/such;", ended.stderr
         )

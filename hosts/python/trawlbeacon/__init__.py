@@ -1,11 +1,17 @@
 """The proved Roughtime library, for Python.
 
-The functions and classes here call the shared library libtrawlbeacon by ctypes, and hold what it
-answers. The proofs speak of the library's own code; that these lines pass on what they are given is
-tested. include/trawlbeacon.h says what each call does.
+The functions and classes here call the shared library libtrawlbeacon by ctypes. The library is
+proved. This package is tested. To ask one server, whose long-term key is known:
 
-Bytes are taken in any form. What the library refuses is raised as Refused, with its code. A number
-that is too large is an OverflowError, and a key, nonce or rand of another length a ValueError.
+    request = write_request(key, new_nonce())
+    # send it by UDP, and receive the response
+    window = check_signed(key, request, response)
+    # this server says that the time is from window.low to window.high
+
+The example ask_several.py is a whole program, which asks several servers.
+
+Bytes are taken in any form. What the library refuses raises Refused, with its code. A number that
+is too large raises OverflowError, and a key, nonce or rand of another length ValueError.
 """
 
 from .clocks import CLOCK_SERVERS, Clock, Time

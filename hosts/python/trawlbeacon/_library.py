@@ -17,7 +17,7 @@ INSTALLED = ("share", "trawlbeacon", "python", "trawlbeacon")
 
 
 def places() -> List[Path]:
-    """Where the library is sought: what the variable names and nothing else, where it is set; else
+    """Where the library is looked for: only what the variable names, if it is set; else
     beside this file, as in a wheel, and in the lib folder of the installation that this file is a
     part of."""
     named = os.environ.get(VARIABLE)
@@ -34,5 +34,5 @@ def load() -> ctypes.CDLL:
     for place in places():
         if place.is_file():
             return ctypes.CDLL(str(place.resolve()))
-    sought = ", ".join(str(place) for place in places())
-    raise ImportError(f"there is no {NAME}: it was sought as {sought}; {VARIABLE} can name it")
+    looked = ", ".join(str(place) for place in places())
+    raise ImportError(f"there is no {NAME}: looked for {looked}; set {VARIABLE} to its path")

@@ -22,7 +22,8 @@ _WINDOWS = ("low", "high", "maxt", "sent", "received")
 class Time:
     """The time at a moment: from low to high, in microseconds since 1970. stopped says that high is
     2^64 - 1 and the time may be later. counted is how many servers were counted; each of them is
-    among those that agree or among the suspects, who lie if no more lie than was said."""
+    among those that agree or among the suspects. Every suspect lies, if no more than `liars` of
+    the counted servers lie."""
 
     low: int
     high: int
@@ -38,12 +39,12 @@ class Clock:
     Its moments are microseconds of the host's own clock: one that only goes forward, and goes on
     while the machine sleeps (time.clock_gettime_ns(time.CLOCK_BOOTTIME) // 1000 on Linux). sent is
     when the first copy of a request was sent, rounded down, and received is rounded up. Threads may
-    use one clock, one after the other.
+    share a clock: calls wait for each other.
     """
 
     def __init__(self, drift: int = 100) -> None:
         """A clock with no window. drift is the most that the host's own clock goes wrong, in parts
-        per million. The code is 32."""
+        per million. Raises Refused with 32, where drift is a million or more."""
         self._state = tb_clock()
         self._lock = threading.Lock()
         told = field(self._state, "drift")
@@ -54,7 +55,7 @@ class Clock:
 
     @classmethod
     def resume(cls, state: Octets) -> Clock:
-        """Goes on with a state that was kept, since the machine was started."""
+        """Continues with a saved state. It must be from the same boot of the machine."""
         clock = cls()
         kept = exactly(sizeof(tb_clock), state, "a state")
         clock._state = tb_clock.from_buffer_copy(kept)
@@ -62,12 +63,14 @@ class Clock:
 
     @property
     def state(self) -> bytes:
-        """The state as it is, to be kept and gone on with."""
+        """The state as it is, to save for resume()."""
         with self._lock:
             return bytes(self._state)
 
     def take(self, server: int, window: Window, sent: int, received: int) -> None:
-        """Takes the window of a valid response of a server, 0 to 7. The codes are 32 and 26."""
+        """Takes the window of a valid response of a server, 0 to 7. Raises Refused with 32, where
+        server is above 7; or 26, where received is before sent, or before the last window that was
+        taken of that server."""
         told = [window.low, window.high, window.maxt, sent, received]
         numbers = [number(one) for one in (server, *told)]
         with self._lock:
@@ -90,8 +93,9 @@ class Clock:
 
     def now(self, moment: int, liars: int) -> Time:
         """The time at a moment of the host's own clock, where at most `liars` of the servers that
-        are counted lie: of n that are asked, (n - 1) // 2 at the most. The codes are 26, 33 and
-        34."""
+        are counted lie. If n are asked, pass at most (n - 1) // 2. Raises Refused with 26, where
+        the moment is before the receipt of some window; 33, where no more servers are counted than
+        may lie; or 34, where no time fits enough servers: more lie."""
         asked = number(moment), number(liars)
         with self._lock:
             told = library.tb_clock_now_fields(self._state.drift, *self._windows(), *asked)

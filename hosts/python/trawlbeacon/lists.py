@@ -48,8 +48,8 @@ class Server:
 
 @dataclass(frozen=True)
 class ServerList:
-    """The servers of a list that can be asked, in its order. sources are where newer lists may be
-    had, reports is where reports may be sent to, and passed_over counts the other servers."""
+    """The servers of a list that can be asked, in its order. sources are URLs of newer lists,
+    reports is the URL for reports, and passed_over counts the servers that cannot be asked."""
 
     servers: Tuple[Server, ...]
     sources: Tuple[str, ...]
@@ -101,8 +101,8 @@ def _all(at: Callable[[int], _T]) -> List[_T]:
 
 
 def read_servers(text: Text) -> ServerList:
-    """The list that a text is. The codes are 24 and 25. Its time grows with the length times the
-    number of sources: bound what you read of others before."""
+    """Reads a list of servers in JSON. Raises Refused with 24 or 25. Its time grows with the length
+    times the number of sources: limit the size of a text from others before."""
     reader = _Reader(text)
     room = LISTED_SERVERS * SERVER_LENGTH
     records = create_string_buffer(room)

@@ -1,4 +1,4 @@
-"""Requests and responses: what a client writes, and what it is told."""
+"""Requests and responses: what a client sends and receives."""
 
 from __future__ import annotations
 
@@ -28,7 +28,7 @@ class Request:
 
 @dataclass(frozen=True)
 class Response:
-    """What a good response says. It is not valid by that: check_signed tells."""
+    """What a well-formed response says. Reading does not make it valid: use check_signed."""
 
     nonce: bytes
     root: bytes
@@ -42,7 +42,7 @@ class Window:
     """What a valid response tells, in seconds since 1970: the time is from low to high.
 
     midp is the server's own time and radi its radius. pubk is the delegated key that signed the
-    response, which is trusted from mint to maxt. It is None where a walk tells the window.
+    response, which is trusted from mint to maxt. It is None in a window from a walk.
     """
 
     midp: int
@@ -58,16 +58,16 @@ class Window:
         return bool(library.tb_may_use_fields(0, self.maxt, number(time)))
 
     def same_delegation(self, other: Window) -> bool:
-        """Whether both come from one delegation: pubk, mint and maxt are equal. That both were
-        checked under one long-term key is the caller's to compare."""
+        """Whether both come from one delegation: pubk, mint and maxt are equal. You must
+        also compare the long-term keys."""
         if self.pubk is None or other.pubk is None:
-            raise ValueError("a window that a walk told has no key")
+            raise ValueError("a window from a walk has no delegated key")
         first = (0, self.pubk, self.mint, self.maxt)
         second = (0, other.pubk, other.mint, other.maxt)
         return bool(library.tb_same_delegation_fields(*first, *second))
 
     def contradicts(self, later: Window) -> bool:
-        """Whether this one, which was told first, contradicts one that was told later."""
+        """Whether this window contradicts a later one."""
         earlier = (self.midp, self.radi)
         return bool(library.tb_contradicts(*earlier, later.midp, later.radi))
 
@@ -112,7 +112,7 @@ def write_request(key: Octets, nonce: Octets) -> bytes:
 
 
 def read_request(packet: Octets) -> Request:
-    """Reads a request. The codes are 1 to 8."""
+    """Reads a request. Raises Refused with 1 to 8."""
     lent = octets(packet)
     read = library.tb_read_request(lent, len(lent))
     passed(read.code, at=read.at)
@@ -120,7 +120,7 @@ def read_request(packet: Octets) -> Request:
 
 
 def read_response(packet: Octets) -> Response:
-    """Reads a response. The codes are 1 to 8."""
+    """Reads a response. Raises Refused with 1 to 8."""
     lent = octets(packet)
     read = library.tb_read_response(lent, len(lent))
     passed(read.code, at=read.at)
@@ -136,7 +136,7 @@ def verify(key: Octets, text: Octets, signature: Octets) -> bool:
 
 def check_signed(key: Octets, request: Octets, response: Octets) -> Window:
     """Checks a response against the request that it answers, and both of its signatures under the
-    server's long-term key. The codes are 14 and 1 to 13."""
+    server's long-term key. Raises Refused with 14, where the request is bad, or 1 to 13."""
     asked, told = octets(request), octets(response)
     lent = (asked, len(asked), told, len(told))
     verdict = library.tb_check_signed(exactly(32, key, "a key"), *lent)

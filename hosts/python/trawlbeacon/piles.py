@@ -74,7 +74,7 @@ class Pile:
         return cls(b"".join(bytes(record) for record in records))
 
     def append(self, record: Record) -> None:
-        """Puts a record behind the others. The code is 15, where the pile is full."""
+        """Adds a record at the end. Raises Refused with 15, where the pile is full."""
         if len(self) >= MOST_RECORDS:
             raise Refused(Refusal.PILE)
         self._bytes += bytes(record)
@@ -107,8 +107,8 @@ class Pile:
         return f"<Pile of {len(self)} records>"
 
     def judge(self, place: int) -> Window:
-        """What the record at a place tells. Links and rands play no part. The codes are 15, 16, 14
-        and 1 to 13."""
+        """What the record at a place tells. Links and rands are not checked. Raises Refused with
+        15, 16, 14 or 1 to 13."""
         judged = library.tb_judge_signed(self._bytes, len(self._bytes), number(place))
         passed(judged.code, judged.place, judged.at)
         return window_of(judged, bytes(judged.pubk))
@@ -118,16 +118,16 @@ class Pile:
         return bool(library.tb_linked(self._bytes, len(self._bytes), number(place)))
 
     def check(self) -> Pair:
-        """Checks whether the pile is a report: which two records contradict each other. The codes
-        are 15, then 16, 14 or 1 to 13 of a record, then 17 of a record, then 18. Whose keys stand
-        in the records is for the caller to look at."""
+        """Checks whether the pile is a report: which two records contradict each other. Raises
+        Refused with 15; with 16, 14 or 1 to 13 of a record; with 17 of a record; or with 18, where
+        none contradict each other. You must look whose keys are in the records."""
         told = library.tb_check_signed_report(self._bytes, len(self._bytes))
         _report_passed(told.code, told.place, told.at)
         return Pair(told.first, told.second)
 
     def cut(self) -> Cut:
         """Cuts out the shortest run of records that convicts by itself, with the rand of its first
-        one set to zero: a report. The codes are 15 and 18."""
+        one set to zero: a report. Raises Refused with 15, or with 18 where no run convicts."""
         out = create_string_buffer(len(self._bytes) or 1)
         cut = library.tb_cut_signed_run(self._bytes, len(self._bytes), out, len(self._bytes))
         passed(cut.code)
@@ -135,8 +135,8 @@ class Pile:
         return Cut(cut.first, cut.last, Pile(out.raw[: records * RECORD_LENGTH]))
 
     def report(self) -> str:
-        """The text of the report that the pile is, in the public format (draft 19, 8.4.1). The
-        codes are those of check."""
+        """The text of the report that the pile is, in the public format (draft 19, 8.4.1). Raises
+        Refused with the codes of check."""
         out = create_string_buffer(LONGEST_REPORT)
         told = library.tb_write_signed_report(self._bytes, len(self._bytes), out, LONGEST_REPORT)
         _report_passed(told.code, told.place, told.at)

@@ -22,7 +22,9 @@ class CutText:
 
 
 def read_report(text: Text) -> Pile:
-    """The pile of records that a text holds. Nothing is judged of it. The codes are 24 and 25."""
+    """Reads the pile of records in a report. It checks no signature and no link. Raises Refused
+    with 24, where the text is no report, or 25, where it has too many entries or too few, or a
+    packet is too long."""
     lent = encoded(text)
     room = MOST_RECORDS * RECORD_LENGTH
     out = create_string_buffer(room)
@@ -33,7 +35,7 @@ def read_report(text: Text) -> Pile:
 
 def cut_report(text: Text) -> CutText:
     """Cuts out of a report the shortest run of records that convicts by itself, and writes its own
-    report. The codes are 24, 25 and 18."""
+    report. Raises Refused with 24, 25 or 18."""
     lent = encoded(text)
     out = create_string_buffer(LONGEST_REPORT)
     cut = library.tb_cut_signed_text(lent, len(lent), out, LONGEST_REPORT)

@@ -55,12 +55,13 @@ class Walk:
             send asked.request to asked.server, and receive the response
             taken = walk.take(response, sent, received, new_nonce())
 
-    Threads may use one walk, one after the other.
+    Threads may share a walk: calls wait for each other.
     """
 
     def __init__(self, servers: Sequence[Octets], nonce: Octets, longest: int) -> None:
         """Starts a walk over the servers with these long-term keys, whose first request has this
-        nonce. A response may take `longest` seconds. The code is 31."""
+        nonce. A response may take `longest` seconds. Raises Refused with 31, where the servers are
+        not 3 to 8, or one is there twice."""
         keys = b"".join(exactly(32, key, "a key") for key in servers)
         pile = 2 * min(len(servers), MOST_SERVERS) * RECORD_LENGTH
         self._begun(tb_walk(), b"", pile)
@@ -77,8 +78,8 @@ class Walk:
 
     @classmethod
     def resume(cls, state: Octets, pile: Octets) -> Walk:
-        """Goes on with a state and a pile that were kept. A state that no start led to does no
-        harm, and what is then said means nothing."""
+        """Continues with a saved state and pile. A state that no walk made does no harm, but what
+        it then says means nothing."""
         walk = cls.__new__(cls)
         kept = tb_walk.from_buffer_copy(exactly(sizeof(tb_walk), state, "a state"))
         records = octets(pile)
@@ -88,7 +89,7 @@ class Walk:
 
     @property
     def state(self) -> bytes:
-        """The state as it is, to be kept and gone on with, beside the pile."""
+        """The state as it is, to save for resume(), with the pile."""
         with self._lock:
             return bytes(self._state)
 
@@ -111,10 +112,11 @@ class Walk:
         return Asked(asked.server, bytes(asked.nonce), out.raw)
 
     def take(self, response: Octets, sent: int, received: int, rand: Octets) -> Taken:
-        """Takes the response to the request that is asked, and puts its record behind the others.
+        """Takes the response to the request that ask() gave, and adds its record to the pile.
         sent and received are when, in seconds by the host's own clock, the request was sent and the
-        response received; rand is 32 random bytes for the next request. The codes are 28, 26, 27
-        and 1 to 13. What is refused changes nothing."""
+        response received; rand is 32 random bytes for the next request. Raises Refused with 28,
+        where the walk has ended; 26, where received is before sent, or sent before the last
+        receipt; 27, where it took longer than `longest`; or 1 to 13. Then nothing changes."""
         told = octets(response)
         when = number(sent), number(received)
         lent = (exactly(32, rand, "a rand"), told, len(told))

@@ -14,7 +14,7 @@ import { Browser } from "./chromium.mjs";
 
 const PAGE = process.env.TRAWLBEACON_PAGE ?? new URL("build/judge.html", ROOT).pathname;
 const WITHIN = "The records";
-const SENTENCE = "Records 0 and 1 contradict each other.";
+const SENTENCE = "Yes: records 0 and 1 contradict each other.";
 
 let browser;
 let tb;
@@ -86,11 +86,11 @@ test("draft 19's report: the verdict, each record, the pair and the run", async 
     assert.equal(await page.text("#verdict h2"), SENTENCE);
     const said = await page.text("#verdict");
     for (const due of [
-        "By record 0 it was 2026-03-16 18:26:08 at the least.",
-        "By record 1, asked for after that, it was 2026-03-15 18:26:14 at the most.",
+        "Record 0 says that it was 2026-03-16 18:26:08 or later.",
+        "Record 1, asked for after that, says that it was 2026-03-15 18:26:14 or earlier.",
         "The two are 86394 seconds (about 24 hours) apart",
-        "All of it is a report by itself.",
-        "3 records of report.json, judged by their own signatures.",
+        "The whole input is a valid report.",
+        "3 records from report.json. Every signature was checked under the key in its record.",
         hex(PILE.subarray(0, 32)),
     ]) {
         assert.ok(said.includes(due), due);
@@ -100,7 +100,7 @@ test("draft 19's report: the verdict, each record, the pair and the run", async 
         "contradicts record 0",
         "valid",
     ]);
-    assert.match((await warnings(page))[0], /anybody can sign with keys of his own/);
+    assert.match((await warnings(page))[0], /anybody can make keys/);
     await ended(page);
 });
 
@@ -126,7 +126,7 @@ test("a damaged report: the record, the byte, and the words of the refusal", asy
     response[68] ^= 1;
     damaged.responses[1].response = response.toString("base64");
     const page = await judged(put("damaged.json", JSON.stringify(damaged)));
-    assert.equal(await page.text("#verdict h2"), "No run of records convicts.");
+    assert.equal(await page.text("#verdict h2"), "No: nothing here proves a lie.");
     assert.equal(
         (await rows(page))[1][2],
         "refused with code 13: the response's signature does not verify",
@@ -144,7 +144,7 @@ test("what is no report: the words, and where it is wrong", async () => {
         ["[1, 2", /code 24\)\.[\s\S]*no JSON at byte 5: the text ends within its value/],
         ['{"responses": [7]}', /code 24\)\.[\s\S]*entry 0 is no object/],
         ['{"responses": []}', /code 25\)\.[\s\S]*it has 0 entries, and a report has 1 to 16/],
-        ['{"servers": [{}]}', /This is no server list[\s\S]*"name" of server 0 is missing/],
+        ['{"servers": [{}]}', /This is not a server list[\s\S]*"name" of server 0 is missing/],
         [new Uint8Array(5000), /code 15\)\.[\s\S]*it has 5000 bytes, and a record has 4096/],
         ["", /code 15\)\.[\s\S]*it is empty/],
     ];
@@ -158,9 +158,9 @@ test("what is no report: the words, and where it is wrong", async () => {
 test("a server list beside it names the keys, and whose key is in none is said", async () => {
     const list = put("list.json", listOf("alder", "birch"));
     const page = await judged(put("report.json", REPORT), list);
-    assert.match(await page.text("#verdict"), /By record 0 \(alder\) it was[^]*record 1 \(birch\)/);
+    assert.match(await page.text("#verdict"), /Record 0 \(alder\) says[^]*Record 1 \(birch\)/);
     assert.deepEqual(await warnings(page), [
-        "The key C is in no list that you gave: anybody can sign with keys of his own.",
+        "The key C is in no list that you gave, and anybody can make keys.",
     ]);
     assert.match(await page.text("#lists"), /list.json: 2 servers/);
     // A list that comes later counts, too.
@@ -168,7 +168,7 @@ test("a server list beside it names the keys, and whose key is in none is said",
     await page.until(`document.querySelectorAll(".warning").length === 0`);
     await shown(page);
     assert.match(await page.text(".servers"), /C cedar/);
-    // One that is forgotten does not.
+    // One that is removed does not.
     await page.click("#lists li:nth-child(2) button");
     await page.until(`document.querySelectorAll(".warning").length === 1`);
     await ended(page);
@@ -180,7 +180,7 @@ test("dropped, a pile as well as a report", async () => {
     await shown(page);
     assert.equal(await page.text("#verdict h2"), SENTENCE);
     await page.drop("#drop", put("report.json", REPORT), put("list.json", listOf("a", "b", "c")));
-    await page.until(`document.querySelector("#verdict").innerText.includes("of report.json")`);
+    await page.until(`document.querySelector("#verdict").innerText.includes("from report.json")`);
     assert.deepEqual(await warnings(page), []);
     await ended(page);
 });
@@ -193,7 +193,7 @@ test("pasted into the field, and anywhere", async () => {
     await page.click("#judge");
     await shown(page);
     assert.equal(await page.text("#verdict h2"), SENTENCE);
-    assert.match(await page.text("#verdict"), /3 records of what was pasted/);
+    assert.match(await page.text("#verdict"), /3 records from the pasted text/);
     await page.value(`{
         const data = new DataTransfer();
         data.setData("text/plain", "no report");
@@ -332,7 +332,7 @@ test("for a screen reader: everything has a role and a name", async () => {
     }
     assert.equal(of("status").length, 1);
     assert.ok(names("table")[0].startsWith(WITHIN));
-    assert.match(names("image")[0], /^Records 0 and 1 contradict each other\. The table below/);
+    assert.match(names("image")[0], /^Yes: records 0 and 1 contradict each other\. The table below/);
     assert.ok(names("heading").includes(SENTENCE));
     assert.equal(of("columnheader").length, 6);
     assert.equal(of("rowheader").length, 3);

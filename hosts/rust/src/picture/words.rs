@@ -88,7 +88,7 @@ pub(super) fn link(place: usize, shown: &Shown) -> &'static str {
 pub(super) fn finding(picture: &Picture) -> String {
     match picture.run {
         Some(run) => format!("Records {} and {} contradict each other.", run.first, run.last),
-        None => "No run of records convicts.".to_string(),
+        None => "No run of records convicts: nothing here proves a lie.".to_string(),
     }
 }
 
@@ -102,10 +102,10 @@ fn verdict(picture: &Picture) -> Vec<String> {
         None => place.to_string(),
     };
     vec![
-        format!("The run of records {} to {} convicts by itself:", run.first, run.last),
-        format!("By record {} it was {} at the least.", whose(run.first), Date::of(earlier.low)),
+        format!("Records {} to {} alone prove a lie:", run.first, run.last),
+        format!("Record {} says that it was {} or later.", whose(run.first), Date::of(earlier.low)),
         format!(
-            "By record {}, asked for after that, it was {} at the most.",
+            "Record {}, asked for after that, says that it was {} or earlier.",
             whose(run.last),
             Date::of(later.high)
         ),

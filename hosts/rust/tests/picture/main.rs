@@ -143,7 +143,7 @@ fn a_refused_record_has_its_code_and_words_and_no_bar() {
          not",
         "refused with code 4: a message's length, number of tags, header or offset is wrong, at \
          byte 12",
-        "No run of records convicts.",
+        "No run of records convicts: nothing here proves a lie.",
     ];
     let (texts, told) = (texts(&elements), picture(&made).text());
     for due in due {
@@ -214,7 +214,7 @@ fn servers_have_names() {
     }
     let whole = format!("B {} a name as long as nobody has one, in any list", "54".repeat(32));
     assert!(texts.contains(&&whole[..]), "{texts:?}");
-    let sentence = "By record 2 (<b?[1m>) it was 1970-01-01 00:24:54 at the least.";
+    let sentence = "Record 2 (<b?[1m>) says that it was 1970-01-01 00:24:54 or later.";
     let stranger = "In no list, so that anybody may have made it: the key D.";
     assert!(texts.contains(&sentence) && texts.contains(&stranger), "{texts:?}");
     assert!(told.contains(sentence) && told.contains(stranger), "{told}");
