@@ -58,7 +58,7 @@ fn each_key_is_named_by_its_place_in_a_list() {
         assert!(!told.said.contains("list"), "{}", told.said);
     }
     let drawn = room.run(&[&["--draw", &report[..]], &lists[..]].concat()).out;
-    for due in ["> 0 A shipped 2 ", "> 1 B owner 1 ", "By record 0 (shipped 2) it was "] {
+    for due in ["> 0 A shipped 2 ", "> 1 B owner 1 ", "Record 0 (shipped 2) says that it was "] {
         assert!(drawn.contains(due), "{drawn}");
     }
     assert_eq!(drawn.lines().find(|line| line.chars().count() > 80), None);

@@ -111,7 +111,7 @@ impl Picture {
     /// let mut picture = Picture::of_pile(&pile)?;
     /// let first = pile[..32].to_vec();
     /// picture.name_servers(|key| (key[..] == first[..]).then(|| "alder".to_string()));
-    /// assert!(picture.text().contains("By record 0 (alder) it was "));
+    /// assert!(picture.text().contains("Record 0 (alder) says that it was "));
     /// assert!(picture.text().contains(" in no list\n"));
     /// # Ok::<(), trawlbeacon::Refusal>(())
     /// ```
