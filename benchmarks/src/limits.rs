@@ -96,7 +96,7 @@ pub const LIMITS: &[Limit] = &[
     limit("worst_text", 1.5, 1.45, "a text that takes long, read by the independent reader",
           "the goal"),
     limit("worst_usual", 2.0, UNMET, "a byte of the same by a byte of a usual text",
-          "the goal; of 28 texts one is above it, a report of escapes"),
+          "the goal; of 28 texts two are above it, a member of an entry many times and good entries"),
     limit("lists_read", 1.5, 0.97, "the longest list of servers as JSON, read by the independent reader",
           "asked"),
     limit("worst_list", 1.5, 1.32, "a list that takes long, read by the same",
