@@ -189,8 +189,12 @@ module _ (s : List ℕ) (v : ℕ) where
 
     two-digits : v + 2 ≤ pastWhile digit s v
     two-digits =
-        omega (arith, while-more digit s v (inside {n = 49} s refl one tt) one-digit,
-          while-more digit s (v + 1) second-inside d, while-ahead digit s (v + 1 + 1))
+        omega (
+          arith,
+          while-more digit s v (inside {n = 49} s refl one tt) one-digit,
+          while-more digit s (v + 1) second-inside d,
+          while-ahead digit s (v + 1 + 1),
+        )
 
     abbrev Far : ℕ → Type 0
     Far e = v + 2 ≤ e
