@@ -106,7 +106,7 @@ pub const LIMITS: &[Limit] = &[
     limit("texts_written", 0.33 + RUNS, 0.33, "JSON written by the independent writer",
           "as runs"),
     limit("daemon", 2.0, 1.94, "an answer of trawld by an echo, each with its client, by the processor's time",
-          "asked: half as many answers as echoes at the least"),
+          "asked: half as many answers as echoes; the server's time alone is 2.6 to 3.0 of the echo's"),
     limit("doubled", 2.5, 2.4, "twice the bytes by once the bytes",
           "nothing grows faster than the bytes; 0.5 is for caches and the clock"),
 ];
