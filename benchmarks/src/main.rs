@@ -28,6 +28,9 @@ mod page;
 mod parts;
 mod picture;
 mod piles;
+#[allow(dead_code)] // nobody waits here until something can be written
+#[path = "../../hosts/rust/shared/poll.rs"]
+mod poll;
 mod programs;
 mod refused;
 mod run;

@@ -15,13 +15,16 @@ pub fn check(tree: &Tree, words: &[&str]) -> Verdict {
     unless(problems, format!("{} wrong programs fit the files that they change", edits.len()))
 }
 
-/// What is wrong with the replacements of one wrong program.
+/// What is wrong with the replacements of one wrong program. One that is tried together with others
+/// names the files that it changes itself.
 fn misfits(tree: &Tree, edit: &Edit) -> Vec<String> {
-    let text = tree.read(&edit.file).unwrap_or_default();
+    let whole = tree.read(&edit.file).unwrap_or_default();
+    let before = whole.find(&edit.text).map_or(0, |start| whole[..start].lines().count());
     let mut file = String::new();
     let mut problems = Vec::new();
     let mut replaced = 0;
-    for (number, line) in numbered(&text) {
+    for (number, line) in numbered(&edit.text) {
+        let number = before + number;
         if let Some(name) = line.strip_prefix("file: ") {
             file = format!("crates/{}/{name}", edit.krate);
         } else if let Some(old) = line.strip_prefix("old: ") {
@@ -34,7 +37,7 @@ fn misfits(tree: &Tree, edit: &Edit) -> Vec<String> {
         }
     }
     if replaced == 0 {
-        problems.push(at(&edit.file, 1, "has no line 'old: ' and so replaces nothing"));
+        problems.push(at(&edit.file, before + 1, "has no line 'old: ' and so replaces nothing"));
     }
     problems
 }
@@ -85,6 +88,15 @@ mod tests {
         assert_eq!(found(check(&tree.tree(), &[])).len(), 2);
         tree.alter(EDIT, "file: src/gone.rt", "");
         assert_eq!(found(check(&tree.tree(), &[])).len(), 2);
+    }
+
+    #[test]
+    fn one_of_several_is_found_by_its_own_line() {
+        let tree = right();
+        let other = "program: a\nfile: src/lib.rt\nold: y\nnew: z\nprogram: b\nold: x + 1\n";
+        tree.put(EDIT, other);
+        let due = [format!("{EDIT}:6: stands 0 times in , and not once: x + 1")];
+        assert_eq!(found(check(&tree.tree(), &[])), due);
     }
 
     #[test]

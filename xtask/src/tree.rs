@@ -8,17 +8,51 @@ pub struct Tree {
     root: PathBuf,
 }
 
-/// A wrong program: its crate, its name, and its file.
+/// A wrong program: its crate and its name; the file that has it, as the repository and as rt name
+/// it; and its lines. A file has one wrong program, which has the file's name. Or it has several that
+/// are tried together, each behind a line that names it.
 pub struct Edit {
     pub krate: String,
     pub name: String,
     pub file: String,
+    pub tried: String,
+    pub text: String,
 }
 
+/// What stands before the name of a wrong program that is tried together with others.
+const PROGRAM: &str = "program: ";
+
 impl Edit {
-    /// As rt names it.
     pub fn full(&self) -> String {
         format!("{}/{}", self.krate, self.name)
+    }
+
+    /// Whether it is tried by itself.
+    pub fn is_alone(&self) -> bool {
+        self.full() == self.tried
+    }
+
+    /// Those of a file.
+    fn of_file(krate: &str, stem: &str, file: &str, text: &str) -> Vec<Edit> {
+        let edit = |name: &str, text: &str| Edit {
+            krate: krate.into(),
+            name: name.into(),
+            file: file.into(),
+            tried: format!("{krate}/{stem}"),
+            text: text.into(),
+        };
+        let mut parts: Vec<(&str, String)> = Vec::new();
+        for line in text.lines() {
+            match (line.strip_prefix(PROGRAM), parts.last_mut()) {
+                (Some(name), _) => parts.push((name, String::new())),
+                (None, Some((_, part))) => part.push_str(&format!("{line}\n")),
+                (None, None) => {}
+            }
+        }
+        match parts[..] {
+            [] => vec![edit(stem, text)],
+            _ => parts.iter().map(|(name, part)| edit(name, part)).collect(),
+        }
     }
 }
 
@@ -87,8 +121,9 @@ impl Tree {
         for krate in self.crate_folders() {
             for file in self.below(&format!("crates/{krate}/must-fail")) {
                 let last = file.rsplit('/').next().unwrap_or(&file);
-                if let Some(name) = last.strip_suffix(".edit").map(String::from) {
-                    found.push(Edit { krate: krate.clone(), name, file });
+                if let Some(stem) = last.strip_suffix(".edit") {
+                    let text = self.read(&file).unwrap_or_default();
+                    found.extend(Edit::of_file(&krate, stem, &file, &text));
                 }
             }
         }
@@ -163,6 +198,17 @@ mod tests {
         ]);
         let names: Vec<String> = scratch.tree().edits().iter().map(|edit| edit.full()).collect();
         assert_eq!(names, ["a_c/one", "b/two"]);
+    }
+
+    #[test]
+    fn several_of_a_file_have_a_name_and_lines_each() {
+        let text = "program: up\n# more\nold: 1\nprogram: down\n# less\n";
+        let scratch = Scratch::new(&[("crates/a/must-fail/both.edit", text)]);
+        let [down, up] = &scratch.tree().edits()[..] else { panic!("there are two") };
+        assert_eq!([up.full(), down.full()], ["a/up", "a/down"]);
+        assert_eq!([&*up.text, &*down.text], ["# more\nold: 1\n", "# less\n"]);
+        assert_eq!([&*up.tried, &*down.tried], ["a/both"; 2]);
+        assert!(!up.is_alone() && !down.is_alone());
     }
 
     #[test]

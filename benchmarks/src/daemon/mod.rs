@@ -1,11 +1,8 @@
 //! The server that people run, `trawld`, under a flood of requests, beside a bare UDP echo that
 //! takes as many bytes and answers as many: what is left is the work itself. Both are processes of
-//! their own, flooded by the same clients in turns, and the best turn of each counts.
-//!
-//! How many are answered in a second hangs on what else the machine does: where it is busy, who
-//! needs more of the processor waits more often for it. So they are held to each other by the
-//! processor's time that an answer took, the clients' with it: by that there are so many in a second
-//! where nothing else runs, and all processors are used.
+//! their own, flooded by the same clients in turns, and the best turn of each counts. They are held
+//! to each other twice: by how many they answer in a second, which also depends on what else the
+//! machine does and on the clients, and by the processor's time that an answer took.
 
 pub mod echo;
 mod flood;
@@ -14,14 +11,14 @@ mod process;
 use crate::limits;
 use crate::run::Run;
 use crate::table::{count, number, Table};
-use flood::{at_rest, flood, request, Flooded};
+use flood::{at_rest, flood, Flooded};
 use process::{Echo, Process, Trawld};
 use std::time::Duration;
 
 /// Numbers of sockets, with a thread each.
 const SOCKETS: [usize; 3] = [1, 2, 4];
 
-/// How often each is flooded, in the time that a run gives it, and how often again while the ratio is
+/// How often each is flooded, in the time that a run gives it, and how often again while a ratio is
 /// above its limit.
 const TURNS: usize = 6;
 const AGAIN: usize = 18;
@@ -35,25 +32,22 @@ pub const ANSWER: usize = 736;
 /// The best of some turns.
 struct Best {
     rate: f64,
-    /// Of the processor, for an answer, in microseconds: the server's alone, and with the clients'.
-    own: f64,
-    all: f64,
+    /// Of the processor, for an answer, in microseconds.
+    cost: f64,
 }
 
 impl Best {
-    const NONE: Best = Best { rate: 0.0, own: f64::MAX, all: f64::MAX };
+    const NONE: Best = Best { rate: 0.0, cost: f64::MAX };
 
-    fn take(&mut self, Flooded { answers, seconds, used }: Flooded, own: Duration) {
-        let each = |used: Duration| used.as_secs_f64() * 1e6 / answers.max(1) as f64;
+    fn take(&mut self, Flooded { answers, seconds }: Flooded, used: Duration) {
         self.rate = self.rate.max(answers as f64 / seconds);
-        self.own = self.own.min(each(own));
-        self.all = self.all.min(each(own + used));
+        self.cost = self.cost.min(used.as_secs_f64() * 1e6 / answers.max(1) as f64);
     }
 }
 
-fn turn(best: &mut Best, process: &impl Process, key: [u8; 32], span: Duration) {
+fn turn(best: &mut Best, process: &impl Process, requests: &[Vec<u8>], span: Duration) {
     let before = process.used();
-    let flooded = flood(process.address(), key, span);
+    let flooded = flood(process.address(), requests, span);
     best.take(flooded, process.used().saturating_sub(before));
 }
 
@@ -71,43 +65,49 @@ impl Pair {
         Some(Pair { trawld, echo, ours: Best::NONE, bare: Best::NONE })
     }
 
-    fn turn(&mut self, span: Duration) {
-        turn(&mut self.ours, &self.trawld, self.trawld.key, span);
-        turn(&mut self.bare, &self.echo, self.trawld.key, span);
+    fn turn(&mut self, requests: &[Vec<u8>], span: Duration) {
+        turn(&mut self.ours, &self.trawld, requests, span);
+        turn(&mut self.bare, &self.echo, requests, span);
     }
 
-    /// What an answer costs by what an echo does.
-    fn ratio(&self) -> f64 {
-        self.ours.all / self.bare.all
+    /// Echoes a second by answers a second, and what an answer costs by what an echo does.
+    fn ratios(&self) -> (f64, f64) {
+        (self.bare.rate / self.ours.rate, self.ours.cost / self.bare.cost)
+    }
+
+    fn is_above(&self) -> bool {
+        let (rate, cost) = self.ratios();
+        rate > limits::highest("daemon_rate") || cost > limits::highest("daemon")
     }
 
     fn flood(&mut self, run: &Run) {
+        let requests = self.trawld.requests();
         let span = run.span() / TURNS as u32;
-        (0..TURNS).for_each(|_| self.turn(span));
+        (0..TURNS).for_each(|_| self.turn(&requests, span));
         for _ in 0..AGAIN {
-            if self.ratio() > limits::highest("daemon") {
-                self.turn(span);
+            if self.is_above() {
+                self.turn(&requests, span);
             }
         }
     }
 
     fn row(&self, sockets: usize) -> Vec<String> {
-        let Pair { ours, bare, .. } = self;
-        let (rates, own, all) =
-            ([ours.rate, bare.rate], [ours.own, bare.own], [ours.all, bare.all]);
-        let mut row = vec![count(sockets)];
-        row.extend(rates.map(|rate| number(rate, 0)));
-        row.push(number(ours.rate / bare.rate, 2));
-        row.extend(own.map(|own| number(own, 2)));
-        row.extend(all.map(|all| number(all, 2)));
-        row.push(number(1.0 / self.ratio(), 2));
-        row
+        let (Pair { ours, bare, .. }, (rate, cost)) = (self, self.ratios());
+        vec![
+            count(sockets),
+            number(ours.rate, 0),
+            number(bare.rate, 0),
+            number(1.0 / rate, 2),
+            number(ours.cost, 2),
+            number(bare.cost, 2),
+            number(cost, 3),
+        ]
     }
 }
 
 /// What one request takes at rest, there and back.
 fn rest(Pair { trawld, echo, .. }: &Pair) -> String {
-    let request = &request(&trawld.key, &[0; 32]);
+    let request = &trawld.requests()[0];
     let said = |(best, middle): (Duration, Duration)| {
         format!("{:.0} µs ({:.0} in the middle)", micros(best), micros(middle))
     };
@@ -124,17 +124,7 @@ fn micros(span: Duration) -> f64 {
 }
 
 pub fn part(run: &mut Run) {
-    let head = [
-        "Sockets",
-        "answers/s",
-        "echoes/s",
-        "by",
-        "answer µs",
-        "echo µs",
-        "with client µs",
-        "echo's",
-        "by",
-    ];
+    let head = ["Sockets", "answers a second", "echoes", "by echoes", "answer µs", "echo µs", "by"];
     let title = "trawld by the number of its sockets, beside a bare echo; µs are the processor's";
     let mut table = Table::new("daemon", title, &head);
     let (mut first, mut least, mut load) = (Duration::MAX, u64::MAX, 0);
@@ -149,7 +139,9 @@ pub fn part(run: &mut Run) {
         }
         pair.flood(run);
         load = load.max(pair.trawld.memory());
-        run.hold("daemon", &format!("trawld with {sockets} sockets"), pair.ratio());
+        let (rate, cost) = pair.ratios();
+        run.hold("daemon_rate", &format!("trawld with {sockets} sockets"), rate);
+        run.hold("daemon", &format!("trawld with {sockets} sockets"), cost);
         table.row(pair.row(sockets));
     }
     run.put(table);

@@ -1,7 +1,6 @@
 //! The two processes that are flooded, and what the system says of them.
 
 use super::echo::ECHO;
-use super::flood::request;
 use std::fs;
 use std::io::{BufRead, BufReader};
 use std::net::{SocketAddr, UdpSocket};
@@ -9,9 +8,13 @@ use std::path::PathBuf;
 use std::process::{Child, Command, Stdio};
 use std::time::{Duration, Instant};
 use std::{env, process};
+use trawlbeacon::REQUEST_LENGTH;
 
 /// The program, as ./bench builds it.
 const TRAWLD: &str = "build/cargo/release/trawld";
+
+/// Different requests of a flood.
+const REQUESTS: usize = 16;
 
 pub trait Process {
     fn address(&self) -> SocketAddr;
@@ -49,7 +52,7 @@ pub struct Trawld {
     child: Child,
     folder: PathBuf,
     address: SocketAddr,
-    pub key: [u8; 32],
+    key: [u8; 32],
     /// From its start on.
     pub first_answer: Duration,
 }
@@ -81,19 +84,28 @@ impl Trawld {
         Some(trawld)
     }
 
+    pub fn requests(&self) -> Vec<Vec<u8>> {
+        let request = |number: usize| {
+            let (mut request, nonce) = (vec![0; REQUEST_LENGTH], [number as u8; 32]);
+            trawlbeacon::write_request(&self.key, &nonce, &mut request).expect("there is room");
+            request
+        };
+        (0..REQUESTS).map(request).collect()
+    }
+
     /// Asks until it answers, as it should.
     fn ask(&self) {
-        let socket = UdpSocket::bind("127.0.0.1:0").expect("it binds");
-        let request = request(&self.key, &[0; 32]);
+        let (socket, request) =
+            (UdpSocket::bind("127.0.0.1:0").expect("it binds"), self.requests());
         socket.set_read_timeout(Some(Duration::from_secs(1))).expect("it is not zero");
         let mut answer = [0; 2048];
         let length = loop {
-            socket.send_to(&request, self.address).expect("it is sent");
+            socket.send_to(&request[0], self.address).expect("it is sent");
             if let Ok(length) = socket.recv(&mut answer) {
                 break length;
             }
         };
-        let checked = trawlbeacon::check_signed(&self.key, &request, &answer[..length]);
+        let checked = trawlbeacon::check_signed(&self.key, &request[0], &answer[..length]);
         assert!(checked.is_ok(), "trawld's answer is valid");
     }
 }

@@ -4,12 +4,20 @@
 /// Where the proof was rattle's own, there is no error but a note on the code, and what was said of
 /// the search for that proof stands in the note after it. General advice is no part of either.
 pub fn error(log: &str) -> (usize, String) {
+    error_where(log, &is_error)
+        .or_else(|| error_where(log, &on_code))
+        .unwrap_or_else(|| (1, up_to(&log.lines().collect::<Vec<_>>(), is_advice)))
+}
+
+/// The same of the first error, or note on the code, among those that are wanted.
+pub fn error_where(log: &str, wanted: &dyn Fn(&str) -> bool) -> Option<(usize, String)> {
     let lines: Vec<&str> = log.lines().collect();
-    if let Some(start) = lines.iter().position(|line| is_error(line)) {
-        return (start + 1, up_to(&lines[start..], |line| is_error(line) || is_note(line)));
-    }
-    let start = lines.iter().position(|line| on_code(line)).unwrap_or(0);
-    (start + 1, up_to(&lines[start..], |line| line.starts_with("note: antt's advice")))
+    let start = lines.iter().position(|line| wanted(line))?;
+    let ends = |line: &str| match is_error(lines[start]) {
+        true => is_error(line) || is_note(line),
+        false => is_advice(line) || is_error(line) || on_code(line),
+    };
+    Some((start + 1, up_to(&lines[start..], ends)))
 }
 
 /// These lines as far as the first behind the start at which an error ends.
@@ -28,7 +36,7 @@ fn placed(line: &str, word: &str) -> bool {
         .map_or(false, |(place, rest)| place.ends_with(':') && rest.starts_with(word))
 }
 
-fn is_error(line: &str) -> bool {
+pub fn is_error(line: &str) -> bool {
     placed(line, "error")
 }
 
@@ -36,8 +44,12 @@ fn is_note(line: &str) -> bool {
     placed(line, "note") || line.starts_with("note: ")
 }
 
+fn is_advice(line: &str) -> bool {
+    line.starts_with("note: antt's advice")
+}
+
 /// As `note: FILE:LINE:COLUMN: words`.
-fn on_code(line: &str) -> bool {
+pub fn on_code(line: &str) -> bool {
     let place = line.strip_prefix("note: ").and_then(|rest| rest.split(' ').next());
     place.map_or(false, |place| place.ends_with(':') && place.matches(':').count() == 3)
 }

@@ -2,14 +2,16 @@
 //! error, as the saved output of rt names it, and the kind of that error, as its log in
 //! target/must-fail shows it. There it was read that a program is refused for what its first line
 //! says. Where a proof moved and another refuses it, that is to be read again; then --write writes
-//! the list anew, of an output that has every wrong program.
+//! the list anew, of an output that has every wrong program. Of several that are tried together each
+//! must be refused by itself.
 
 mod first;
 mod kind;
 mod list;
+mod own;
 
 use crate::report::{at, unless, Checked, Verdict, Wrong};
-use crate::tree::Tree;
+use crate::tree::{Edit, Tree};
 use crate::whole;
 use kind::Kind;
 use list::Row;
@@ -41,16 +43,10 @@ fn of_run(tree: &Tree, said: &str) -> Checked<Vec<Row>> {
     let text = String::from_utf8_lossy(&text);
     let places: BTreeMap<&str, &str> = text.lines().filter_map(list::refused).collect();
     let (mut rows, mut problems) = (Vec::new(), Vec::new());
-    for name in tree.edits().iter().map(|edit| edit.full()) {
-        let log = format!("target/must-fail/{name}/.log");
-        match (places.get(name.as_str()), fs::read(tree.path(&log))) {
-            (None, _) => problems.push(format!("{said}: does not have {name} as refused")),
-            (_, Err(why)) => problems.push(format!("{log} cannot be read: {why}")),
-            (Some(file), Ok(bytes)) => {
-                let (line, text) = first::error(&String::from_utf8_lossy(&bytes));
-                let kind = Kind::of(&text);
-                rows.push(Row { name, file: file.to_string(), kind, log: format!("{log}:{line}") });
-            }
+    for edit in tree.edits() {
+        match of_one(tree, &edit, said, &places) {
+            Ok(row) => rows.push(row),
+            Err(problem) => problems.push(problem),
         }
     }
     if problems.is_empty() {
@@ -58,6 +54,29 @@ fn of_run(tree: &Tree, said: &str) -> Checked<Vec<Row>> {
     } else {
         Err(Wrong::Found(problems))
     }
+}
+
+/// What it says of one of them, where these are the files of first errors.
+fn of_one(
+    tree: &Tree,
+    edit: &Edit,
+    said: &str,
+    places: &BTreeMap<&str, &str>,
+) -> Result<Row, String> {
+    let (name, tried) = (edit.full(), &edit.tried);
+    let log = format!("target/must-fail/{tried}/.log");
+    let place = places.get(tried.as_str());
+    let place = place.ok_or_else(|| format!("{said}: does not have {tried} as refused"))?;
+    let bytes = fs::read(tree.path(&log)).map_err(|why| format!("{log} cannot be read: {why}"))?;
+    let text = String::from_utf8_lossy(&bytes);
+    let (file, line, error) = if edit.is_alone() {
+        let (line, error) = first::error(&text);
+        (place.to_string(), line, error)
+    } else {
+        own::error(tree, edit, &text)
+            .ok_or_else(|| format!("{log}: has no error of the function that {name} changes"))?
+    };
+    Ok(Row { name, file, kind: Kind::of(&error), log: format!("{log}:{line}") })
 }
 
 /// A wrong program whose proof merely does not fit it shows nothing of what is wrong in it.

@@ -187,3 +187,51 @@ fn what_does_not_fit_is_unfit_and_what_is_new_is_other() {
     }
     assert_eq!(kind_of("returns", "words that nobody has read yet"), Kind::Other);
 }
+
+/// Two wrong programs that are tried together, of which one changes a function with a proof, and the
+/// other one whose proof is rattle's own.
+fn together() -> Scratch {
+    let edit = "program: up\n# more\nfile: src/lib.rt\nold: x + 1\nnew: x + 2\n\
+        program: down\n# less\nfile: src/low/down.rt\nold: y - 1\nnew: y - 2\n";
+    let of_up = FALSE.replace("/x/P.antt", "/x/proofs/up/Proof.antt");
+    let of_down = NOTED.replace("/x/src/lib.rt:26", "/x/src/low/down.rt:3");
+    let scratch = Scratch::new(&[
+        ("crates/a/must-fail/both.edit", edit),
+        ("crates/a/src/lib.rt", "mod low;\npub fn up(x: u8) -> u8\n{\n    x + 1\n}\n"),
+        ("crates/a/src/low/down.rt", "fn z() {\n}\nfn down(y: u8) -> u8 {\n    y - 1\n}\n"),
+        (
+            "said",
+            "rt: must-fail a/both: refused, as it must be (first at src/low/down.rt:3:1; 2 s)\n",
+        ),
+        (LIST, "a/down src/low/down.rt unsolved\na/up proofs/up/Proof.antt false\n"),
+    ]);
+    scratch.put("target/must-fail/a/both/.log", &format!("{of_down}{of_up}"));
+    scratch
+}
+
+#[test]
+fn of_two_that_are_tried_together_each_has_its_own_error() {
+    assert_eq!(checked(&together(), &[]).unwrap(), "2 wrong programs: 1 false, 1 unsolved");
+}
+
+#[test]
+fn one_of_two_that_has_no_error_of_its_own_is_found() {
+    let log = "target/must-fail/a/both/.log";
+    for (old, new) in [("proofs/up/", "proofs/low/up/"), ("down.rt:3", "down.rt:1")] {
+        let scratch = together();
+        scratch.alter(log, old, new);
+        let problems = found(checked(&scratch, &[]));
+        assert_eq!(problems.len(), 1, "{problems:?}");
+        assert!(problems[0].contains("has no error of the function that a/"), "{problems:?}");
+    }
+}
+
+#[test]
+fn one_of_two_that_only_rests_on_the_other_is_unfit() {
+    let scratch = together();
+    let rests = "/x/proofs/up/Proof.antt:7:3: error: `returns`: `met` was not admitted\n";
+    let of_down = NOTED.replace("/x/src/lib.rt:26", "/x/src/low/down.rt:3");
+    scratch.put("target/must-fail/a/both/.log", &format!("{of_down}{rests}"));
+    let problems = found(checked(&scratch, &[]));
+    assert!(problems[0].contains("a/up only shows that the proof no longer fits"), "{problems:?}");
+}
