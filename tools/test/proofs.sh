@@ -41,7 +41,7 @@ tell_counts() {
             "rt: "*" proved ("*) proved=$((proved + 1)) ;;
             esac
         elif [ $? -gt 128 ]; then
-            tell "$proved of $crates crates are proved, $refused of $edits wrong programs refused"
+            tell "$proved of $crates crates are proved, $refused of $edits files of wrong programs refused"
         else
             break
         fi
