@@ -37,23 +37,22 @@ module _ (seed h : List ℕ) (h-is : h ≡ Sha512 seed) where
 
 -- ---- what is made of what the seed is expanded to
 
-module _ (seed : List ℕ) (e : Secret) (a : List ℕ) (expanded : Expanded seed e)
-    (a-is : a ≡ encodedTimes (value 256 (e .scalar))) where
-  pub public-is : a ≡ publicOf seed
+module _ (seed : List ℕ) (e : Secret) (a : List ℕ) (expanded : Expanded seed e) where
+  pub public-is : a ≡ encodedTimes (value 256 (e .scalar)) → a ≡ publicOf seed
   unfolding publicOf
-  public-is = a-is ∙ ap encodedTimes (expanded .scalar-is)
+  public-is a-is = a-is ∙ ap encodedTimes (expanded .scalar-is)
 
-  pub signature-is : (m : List ℕ) (f : First) (s b : List ℕ) → Begun (e .prefix ++ m) f
+  pub signature-is : a ≡ publicOf seed → (m : List ℕ) (f : First) (s b : List ℕ) → Begun (e .prefix ++ m) f
       → s ≡ leBytes 32 ((value radix (f .number) + kOf (f .string) a m * value 256 (e .scalar)) % L)
       → b ≡ f .string ++ s → b ≡ signatureOf seed m
   unfolding signatureOf numberS firstHalf rOf
-  signature-is m f s b begun s-is b-is =
+  signature-is a-is m f s b begun s-is b-is =
       let with : List ℕ → ℕ = λ (l : List ℕ). le 64 (Sha512 (l ++ m)) 0 % L in
       let r-is : with (e .prefix) ≡ rOf seed m = ap with (expanded .prefix-is) in
       let number : value radix (f .number) ≡ rOf seed m = begun .number .is ∙ r-is in
       let string : f .string ≡ firstHalf seed m = begun .string-is ∙ ap encodedTimes r-is in
       b-is ∙ ap₂ (λ (x y : List ℕ). x ++ y) string
-      (s-is ∙ (rw (number, string, public-is, expanded .scalar-is)))
+      (s-is ∙ (rw (number, string, a-is, expanded .scalar-is)))
 
 -- ---- the halves in one buffer, and the text in two parts
 

@@ -11,6 +11,7 @@ use ed25519_scalar::Scalar;
 pub use signing::public_key;
 pub use signing::sign;
 pub use signing::sign_parts;
+pub use signing::sign_parts_with;
 
 // What a seed is expanded to: the scalar s in bytes, the prefix, and the veil, a 0 of which a compiler does not know
 // that it is 0.

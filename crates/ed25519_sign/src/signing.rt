@@ -30,29 +30,38 @@ fn joined(r: [u8; 32], s: [u8; 32]) -> [u8; 64]
     out
 }
 
-// The signature of a text that is not too long.
-fn signed(seed: [u8; 32], context: &[u8], value: &[u8]) -> [u8; 64]
-    requires { ⌜ 64 + (length (now context) + length (now value)) < 2 ^ 64 ⌝ }
+// The signature of a text that is not too long, with the public key of the seed.
+fn signed(seed: [u8; 32], key: [u8; 32], context: &[u8], value: &[u8]) -> [u8; 64]
+    requires { ⌜ (key ≡ publicOf seed) × (64 + (length (now context) + length (now value)) < 2 ^ 64) ⌝ }
     ensures { λ b. ⌜ b ≡ signatureOf seed (now (context .entry) ++ now (value .entry)) ⌝ }
 {
     let e = secret_expand(seed);
     let s = e.scalar;
     let prefix = e.prefix;
-    let a = encoded_times(&s, e.zero);
     let f = first_half(&prefix, e.zero, context, value);
     let n = f.number;
     let r = f.string;
-    joined(r, second_half(n, &s, &r, &a, context, value))
+    joined(r, second_half(n, &s, &r, &key, context, value))
 }
 
-// The signature of the text that is context and then value.
-pub fn sign_parts(seed: [u8; 32], context: &[u8], value: &[u8]) -> [u8; 64]
+// The signature of the text that is context and then value, by one who has the public key at hand: one multiplication
+// less. It must be that of the seed, and so C is not offered this. Two signatures of one text under two keys have the
+// same r and show s, the secret scalar.
+pub fn sign_parts_with(seed: [u8; 32], key: [u8; 32], context: &[u8], value: &[u8]) -> [u8; 64]
+    requires { ⌜ key ≡ publicOf seed ⌝ }
     ensures { λ b. ⌜ b ≡ signatureParts seed (now (context .entry)) (now (value .entry)) ⌝ }
 {
     if value.len() > MOST_TEXT - context.len() {
         return [0u8; 64];
     }
-    signed(seed, context, value)
+    signed(seed, key, context, value)
+}
+
+// The same of the seed alone.
+pub fn sign_parts(seed: [u8; 32], context: &[u8], value: &[u8]) -> [u8; 64]
+    ensures { λ b. ⌜ b ≡ signatureParts seed (now (context .entry)) (now (value .entry)) ⌝ }
+{
+    sign_parts_with(seed, public_key(seed), context, value)
 }
 
 // The signature of the text.

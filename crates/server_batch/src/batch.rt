@@ -5,7 +5,7 @@ ghost use lib.ListN.{length};
 ghost use Rattle.tree_build.specs.Leaves.{most};
 ghost use Rattle.server_batch.specs.Batch.{batch, longest};
 ghost use Rattle.server_batch.specs.Answering.{batchCode, batchAnswer, batchNumber, LeftBy};
-ghost use Rattle.server_batch.specs.Steps.{Enough, Left};
+ghost use Rattle.server_batch.specs.Steps.{Enough, Keyed, Left};
 use super::BatchAnswer;
 use super::fitting::answer_length;
 use super::fitting::shortest;
@@ -37,6 +37,7 @@ pub fn answer_all(
         × (length (now lengths) ≤ most)
         × Enough (length (now lengths)) (length (now cert)) (length (now packets)) slot (length (now rows))
         (length (now out)) room (length (now marks))
+        × Keyed (now cert) seed
         ⌝ }
     ensures { λ r. ⌜
         Left (batch (now (packets .entry)) slot (now (lengths .entry)) srv)

@@ -4,6 +4,7 @@ ghost use Prim.Native.Nat.{_≤_, _<_};
 ghost use Rattle.server_response.specs.Facts.{Certifies};
 ghost use Rattle.tree_build.specs.Leaves.{most};
 ghost use Rattle.server_batch.specs.Answering.{otherKey, countWrong, roomShort, keysCode, sizesCode};
+use super::delegating::delegated_key;
 use super::marking::wide;
 use ed25519_sign::public_key;
 use octets::equal;
@@ -17,10 +18,6 @@ use server_response::midp_outside;
 use tree_build::MOST;
 use tree_build::bytes;
 use tree_build::depth;
-use wire_message::tags::DELE;
-use wire_message::tags::PUBK;
-use wire_message::value_of;
-use wire_packet::fields::value32;
 
 // The seed is not that of the key that CERT delegates to.
 fn other_key(seed: [u8; 32], cert: &[u8]) -> bool
@@ -28,7 +25,7 @@ fn other_key(seed: [u8; 32], cert: &[u8]) -> bool
     ensures { λ r. ⌜ r ≡ otherKey seed (now (cert .entry)) ⌝ }
 {
     let ours = public_key(seed);
-    let theirs = value32(value_of(cert, DELE), PUBK);
+    let theirs = delegated_key(cert);
     !equal(&ours, &theirs)
 }
 

@@ -1,15 +1,15 @@
 -- The rounds with sixteen words of the schedule at a time are the rounds over the whole schedule.
 use mathlib.Core.Path.{_≡_, refl, sym, ap, _∙_}
 use mathlib.Core.Logic.{⊎-elim}
-use mathlib.Core.List.{List}
+use mathlib.Core.List.{List, []}
 use Prim.Native.Nat.{ℕ, _+_, _-_, _%_, _≤_, _<_}
 use native.Mathlib.Nat.{eq-or-lt-of-le}
 use native.Mathlib.Numerals.{add-one}
 use native.Mathlib.Omega.{arith}
-use lib.ListN.{length, getD, length-set}
+use lib.ListN.{length, getD, replicate, length-set, getD-replicate}
 use lib.Seq.{getD-take, getD-set-same, getD-set-other}
 use Rattle.sha512_block.specs.Constants.{K}
-use Rattle.sha512_block.specs.Rolling.{Turning, turning, nextMixed, wordStep, roundStep, turnStep}
+use Rattle.sha512_block.specs.Rolling.{Turning, turning, nextMixed, wordStep, roundStep, quietStep, turnStep}
 use Rattle.sha512_block.specs.Rounds.{round, rounds}
 use Rattle.sha512_block.specs.Schedule.{firstWords, schedule}
 use Rattle.sha512_block.specs.Steps.{steps}
@@ -37,11 +37,11 @@ rolling-none b w z l e = record {
   so-far = refl;
 }
 
--- one round more, from any words of which the one at t's place is word t
-round-more : (b w : List ℕ) (z : Regs) (t : ℕ) (y : Regs) → getD w (t % 16) 0 ≡ getD (schedule b) t 0
-    → y ≡ rounds (schedule b) z t → roundStep K w t y ≡ rounds (schedule b) z (t + 1)
+-- one round more over the schedule q, from any words of which the one at t's place is word t
+round-more : (q w : List ℕ) (z : Regs) (t : ℕ) (y : Regs) → getD w (t % 16) 0 ≡ getD q t 0
+    → y ≡ rounds q z t → roundStep K w t y ≡ rounds q z (t + 1)
 unfolding rounds
-round-more b w z t y v e = rw (add-one, v) (ap (round (getD K t 0) (getD (schedule b) t 0)) e)
+round-more q w z t y v e = rw (add-one, v) (ap (round (getD K t 0) (getD q t 0)) e)
 
 module _ (b : List ℕ) (z : Regs) (t : ℕ) (p : Turning) (l : t < 64) (r : Rolling b z t p) where
   abbrev w : List ℕ
@@ -78,7 +78,7 @@ module _ (b : List ℕ) (z : Regs) (t : ℕ) (p : Turning) (l : t < 64) (r : Rol
         getD-set-other w (t % 16) (u % 16) (nextMixed w t) 0 (λ (m : u % 16 ≡ t % 16). omega arith)
         ∙ r .window u (omega arith) q)
         (eq-or-lt-of-le (omega arith));
-    so-far = round-more b w z t (p .regs) (r .window t (omega arith) (omega arith)) (r .so-far);
+    so-far = round-more (schedule b) w z t (p .regs) (r .window t (omega arith) (omega arith)) (r .so-far);
   }
 
 -- n turns more, where code has the constants as k
@@ -93,4 +93,12 @@ pub rolling-last : {b k w : List ℕ} {z x r : Regs} {t : ℕ} → k ≡ K → t
 rolling-last {b} {k} {w} {z} {x} {r} {t} k-is t-is l e =
     rw (e, k-is)
     (steps-keep (roundStep K w) (λ i y. y ≡ rounds (schedule b) z i) 64 16 x
-    (λ i y f g h. round-more b w z i y (l .window i (omega arith) (omega arith)) h) (rw t-is at (l .so-far)))
+    (λ i y f g h. round-more (schedule b) w z i y (l .window i (omega arith) (omega arith)) h) (rw t-is at (l .so-far)))
+
+-- n rounds more over a schedule of zeros
+pub quiet-more : {k : List ℕ} (z x : Regs) {r : Regs} (t n : ℕ) → k ≡ K → t + n ≤ 80 → x ≡ rounds (replicate 80 0) z t
+    → r ≡ steps (quietStep k) t n x → r ≡ rounds (replicate 80 0) z (t + n)
+quiet-more {k} z x {r} t n k-is l so-far e =
+    rw (e, k-is)
+    (steps-keep (quietStep K) (λ i y. y ≡ rounds (replicate 80 0) z i) t n x
+    (λ i y f g h. round-more (replicate 80 0) [] z i y (sym (getD-replicate 80 i 0 0 (omega arith))) h) so-far)

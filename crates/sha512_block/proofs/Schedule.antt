@@ -1,16 +1,20 @@
--- Laws of the message schedule: FIPS 180-4's own statement of W t.
+-- Laws of the message schedule: FIPS 180-4's own statement of W t, and that a block of zeros has words of zeros.
 use mathlib.Core.Path.{_≡_, refl, sym, ap, _∙_}
-use mathlib.Core.Bool.{cond}
+use mathlib.Core.Bool.{Bool, true, false, cond}
 use mathlib.Core.List.{List, [], _∷_, _++_}
-use Prim.Native.Nat.{ℕ, zero, suc, _+_, _-_, _≤_, _<_}
+use Prim.Native.Nat.{ℕ, zero, suc, _+_, _-_, _*_, _≤_, _<_}
 use native.Mathlib.Nat.{le-of-eq}
 use native.Mathlib.Decide.{le-ind}
 use native.Mathlib.Numerals.{add-one}
 use native.Mathlib.Omega.{arith}
-use borrow.Author.Tests.{lt-ltb, le-ltb}
+use borrow.Author.Tests.{lt-ltb, le-ltb, ltb-false}
 use lib.Dec.{ltb}
-use lib.ListN.{length, getD, take, length-append}
+use lib.ListN.{length, getD, take, replicate, length-append, getD-replicate, replicate-append-replicate}
 use lib.Seq.{getD-take, getD-at, take-all, take-append-le}
+use Rattle.laws.specs.Numbers.{be}
+use Rattle.laws.specs.Zeros.{zeros}
+use Rattle.laws.proofs.Zeros.{zeros-at}
+use Rattle.sha512_block.specs.Words.{σ0, σ1}
 use Rattle.sha512_block.specs.Schedule.{blockWord, mixed, firstWords, schedule}
 
 -- the word behind the first t
@@ -71,3 +75,39 @@ schedule-high b t h l =
     let before : firstWords b t ≡ take t (firstWords b 80) = sym (words-take b t 80 (omega arith)) in
     words-at b t 80 l
     ∙ rw (le-ltb t 16 h) (ap (λ (w : List ℕ). mixed w t) before ∙ mixed-take (firstWords b 80) t h)
+
+-- ---- a block of zeros
+
+-- its own words are 0
+word-zero : (b : List ℕ) → zeros b ≡ true → (k at : ℕ) → be k b at ≡ 0
+unfolding be
+word-zero b h zero at = refl
+word-zero b h (suc k) at = rw (word-zero b h k at, zeros-at b h (at + k))
+
+-- and what is mixed of zeros is 0
+mixed-zero : (t : ℕ) → 16 ≤ t → mixed (replicate t 0) t ≡ 0
+unfolding σ0 σ1
+mixed-zero t h =
+    let h2 : t - 2 < t = omega arith in
+    let h7 : t - 7 < t = omega arith in
+    let h15 : t - 15 < t = omega arith in
+    let h16 : t - 16 < t = omega arith in
+    simp getD-replicate
+
+-- so that all are
+words-zero : (b : List ℕ) → zeros b ≡ true → (n : ℕ) → firstWords b n ≡ replicate n 0
+unfolding firstWords
+words-zero b h zero = refl
+words-zero b h (suc n) =
+    ap (λ (w : List ℕ). w ++ (nextWord b w n ∷ [])) (words-zero b h n)
+    ∙ ap (λ (x : ℕ). replicate n 0 ++ (x ∷ [])) (next (ltb n 16) refl)
+    ∙ replicate-append-replicate n 1 0
+    ∙ ap (λ (k : ℕ). replicate k 0) (add-one n)
+  where
+    next : (t : Bool) → ltb n 16 ≡ t → cond t (blockWord b n) (mixed (replicate n 0) n) ≡ 0
+    next true e = word-zero b h 8 (8 * n)
+    next false e = mixed-zero n (ltb-false n 16 e)
+
+pub schedule-zero : (b : List ℕ) → zeros b ≡ true → schedule b ≡ replicate 80 0
+unfolding schedule
+schedule-zero b h = words-zero b h 80

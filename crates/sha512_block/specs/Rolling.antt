@@ -30,6 +30,10 @@ wordStep t w = set w (t % 16) (nextMixed w t)
 abbrev pub roundStep : List ℕ → List ℕ → ℕ → Regs → Regs
 roundStep k w t s = round (getD k t 0) (getD w (t % 16) 0) s
 
+-- round t on a block of zeros, with the constants k
+abbrev pub quietStep : List ℕ → ℕ → Regs → Regs
+quietStep k t s = round (getD k t 0) 0 s
+
 -- round t with its word, and word t + 16 in the place of that
 abbrev pub turnStep : List ℕ → ℕ → Turning → Turning
 turnStep k t p = turning (roundStep k (p .words) t (p .regs)) (wordStep t (p .words))

@@ -103,7 +103,7 @@ fn one_round<'a>(s: Regs, k: &'a [u64; 80], w: &'a [u64; 16], t: usize) -> Regs
 }
 
 // One round, with its constant and its word.
-fn round(s: Regs, k: u64, w: u64) -> Regs
+pub fn round(s: Regs, k: u64, w: u64) -> Regs
     ensures { λ r. ⌜ r ≡ round k w s ⌝ }
 {
     let x = t1(s, k, w);

@@ -91,6 +91,7 @@ serve-requires c κs =
     let s = start m in (
       held (b m) _ _ _ (s .pre .1) (s .pre .2) (m .mark .ensures),
       rw (puts-length (p .put-leaves .ensures .puts)) (can p (c .before .before .before .if1 .left)),
+      s .pre .3,
     )
 
 -- the same behind the call that answers them

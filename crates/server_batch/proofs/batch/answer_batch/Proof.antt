@@ -2,7 +2,7 @@
 use Rattle.laws.proofs.First.{says-0, says-more, is-last}
 use Rattle.refusal.specs.Refusal.{refusals}
 use Rattle.server_batch.specs.Answering.{batchCode}
-use Rattle.server_batch.proofs.Told.{sizes-right, told-refused, told-answered}
+use Rattle.server_batch.proofs.Told.{keys-right, sizes-right, told-refused, told-answered}
 use borrow.Author.Needs.{needs}
 use Rattle.server_batch.proofs.batch.answer_batch.Statement.{statement}
 use Rattle.server_batch.proofs.batch.answer_batch.Tie as tie
@@ -24,7 +24,10 @@ returns-2 c =
 answer-all-requires : tie.Need-answer-all-requires
 answer-all-requires c κs =
     let j = c .before .before .before in
-    sizes-right _ _ _ _ _ _ _ _ (j .before .before .sizes-code .ensures) (j .if2 .left)
+    let z = j .before .before in
+    let i = z .before in
+    let sizes = sizes-right _ _ _ _ _ _ _ _ (z .sizes-code .ensures) (j .if2 .left) in
+    (sizes .0, sizes .1, sizes .2, keys-right _ _ _ _ (i .before .before .keys-code .ensures) (i .if1 .left))
 
 returns-3 : tie.Need-returns-3
 unfolding batchCode

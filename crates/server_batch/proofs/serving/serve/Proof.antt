@@ -25,7 +25,8 @@ say-requires : tie.Need-say-requires
 say-requires c κs =
     let f = c .before .before .before in
     let d = f .before .before in
-    (d .depth .ensures .1, omega (arith, held d, puts-length (f .fill-rows .ensures)))
+    let s = d .before .before .before .before .before .before .before in
+    (d .depth .ensures .1, omega (arith, held d, puts-length (f .fill-rows .ensures)), s .pre .2)
 
 answer-each-requires : tie.Need-answer-each-requires
 answer-each-requires c κs =

@@ -7,7 +7,7 @@ use Rattle.sha512_block.proofs.blocks.compress.Tie as tie
 returns : tie.Need-returns
 unfolding compress
 returns c =
-    rw (c .next-hash .ensures, c .before .rounds .ensures, c .before .before .working-variables .ensures)
+    rw (c .next-hash .ensures, c .before .block-rounds .ensures, c .before .before .working-variables .ensures)
 
 pub compress-spec : {M : Type 1} → statement M
 compress-spec =

@@ -1,4 +1,4 @@
--- `sha512_block::blocks::hash_blocks` meets its contract.
+-- `sha512_block::blocks::blocks_hashed` meets its contract.
 -- With no whole block the hash value stays.
 -- The loop keeps: the table is that of the constants, and the hash value is that after i blocks.
 use mathlib.Core.Path.{_≡_, refl, ap, _∙_}
@@ -11,14 +11,14 @@ use Rattle.sha512_block.specs.Constants.{K}
 use Rattle.sha512_block.specs.HashValue.{compress, hashAfter, hashed}
 use Rattle.sha512_block.proofs.HashValue.{hashed-short}
 use borrow.Author.Needs.{needs}
-use Rattle.sha512_block.proofs.blocks.hash_blocks.Statement.{statement}
-use Rattle.sha512_block.proofs.blocks.hash_blocks.Tie as tie
+use Rattle.sha512_block.proofs.blocks.blocks_hashed.Statement.{statement}
+use Rattle.sha512_block.proofs.blocks.blocks_hashed.Tie as tie
 
 abbrev Inv-loop : tie.InvT-loop
-Inv-loop s n k x₀ i₀ x i = (i ≤ n) × (n ≡ length s / 128) × (k ≡ K) × (x ≡ hashAfter x₀ s i)
+Inv-loop s o n k x₀ i₀ x i = (i ≤ n) × (n ≡ length s / 128) × (k ≡ K) × (x ≡ hashAfter x₀ s i)
 
 abbrev μ-loop : tie.MeasureT-loop
-μ-loop s n k x₀ i₀ x i = n - i
+μ-loop s o n k x₀ i₀ x i = n - i
 
 returns : tie.Need-returns Inv-loop μ-loop
 returns c = hashed-short _ _ (c .if1 .taken)
@@ -45,8 +45,8 @@ returns-2 c =
     let all : at-loop .loop .i ≡ length s / 128 = omega arith in
     rw all at (at-loop .loop .inv .3)
 
-pub hash-blocks-spec : {M : Type 1} → statement M
-hash-blocks-spec =
+pub blocks-hashed-spec : {M : Type 1} → statement M
+blocks-hashed-spec =
     tie.close
     (tie.spec
     Inv-loop
