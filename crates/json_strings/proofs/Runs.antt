@@ -9,7 +9,6 @@ use lib.ListN.{length, getD}
 use borrow.Author.Tests.{leb-true, leb-false, eqb-true, eqb-false}
 use Rattle.laws.specs.Pick.{pick}
 use Rattle.json_strings.specs.declared.Unit.the-variants.{Code, Close}
-use Rattle.json_tokens.specs.declared.Skip.the-variants.{Past}
 use Rattle.json_tokens.specs.declared.Step.the-variants.{More}
 use Rattle.json_tokens.specs.Scan.{pastWhile}
 use Rattle.json_tokens.specs.Walk.{walked}

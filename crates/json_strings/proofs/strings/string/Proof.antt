@@ -1,10 +1,10 @@
 use borrow.Author.Needs.{needs}
 use native.Mathlib.Omega.{arith}
 use Prim.Native.Nat.{_-_}
-use mathlib.Core.Path.{_≡_, refl, sym, _∙_, ap}
+use mathlib.Core.Path.{_≡_, refl, sym, _∙_}
 use lib.ListN.{length}
 use Rattle.laws.specs.Pick.{pick}
-use Rattle.json_strings.specs.Text.{stepOf, unitStep, stringAt}
+use Rattle.json_strings.specs.Text.{unitStep, stringAt}
 use Rattle.json_tokens.specs.Walk.{walked}
 use Rattle.json_strings.proofs.Ahead.{forth-unit}
 use Rattle.json_strings.proofs.Runs.{walked-run, run-closed}
