@@ -3,20 +3,20 @@ use Prim.Native.Nat.{ℕ, suc, _+_}
 use mathlib.Core.Path.{_≡_, refl, sym, _∙_, ap}
 use mathlib.Core.Bool.{Bool, true, false}
 use mathlib.Core.List.{List, [], _∷_}
-use native.Mathlib.Omega.{arith}
 use lib.Dec.{eqb}
 use lib.ListN.{length, getD}
 use borrow.Author.Needs.{needs}
-use borrow.Author.Tests.{ne-eqb}
+use borrow.Author.Tests.{ne-eqb, eqb-true, eqb-false}
 use Rattle.laws.specs.Pick.{pick, both}
 use Rattle.json.specs.declared.Found.{Found}
+use Rattle.json.specs.declared.Found.the-variants.{Twice}
 use Rattle.json_tokens.specs.declared.Skip.the-variants.{Past}
 use Rattle.json_tokens.specs.Scan.{pastBlanks}
 use Rattle.json_tokens.specs.Walk.{starts, walked}
 use Rattle.json_tokens.proofs.Picks.{picks}
 use Rattle.json.specs.Value.{memberStep, valueAt, objectOf}
 use Rattle.json.specs.declared.Seen.{Seen}
-use Rattle.json.specs.Facts.{Noted, Letters}
+use Rattle.json.specs.Facts.{Noted}
 use Rattle.json_strings.specs.Text.{unescaped, contentAt, sameList}
 use Rattle.json_strings.proofs.Content.{content-code}
 use Rattle.json_strings.proofs.Runs.{unit-unescaped}
@@ -32,6 +32,26 @@ module _ (s w : List ℕ) (n v k : ℕ) {yes : Bool} {m u : ℕ} (a : yes ≡ na
   pub tally-last : {all : List ℕ} {r : Found} → all ≡ k ∷ [] → r ≡ answerOf m u → r ≡ tally s w n v all
   unfolding tally
   tally-last e g = rw (e, sym a, sym b, sym c) g
+
+-- ---- Where two members have the name, no other matters, and no place.
+either-twice : (s w ks : List ℕ) (u v : ℕ) (b : Bool) → tally s w 2 u ks ≡ Twice → tally s w 2 v ks ≡ Twice
+    → tally s w (countOf b 2) (pick b u v) ks ≡ Twice
+unfolding countOf pick
+either-twice s w ks u v true p q = p
+either-twice s w ks u v false p q = q
+
+pub tally-many : (s w ks : List ℕ) (v : ℕ) → tally s w 2 v ks ≡ Twice
+unfolding tally answerOf pick
+tally-many s w [] v = refl
+tally-many s w (k ∷ ks) v =
+    either-twice s w ks (valuePlace s k) v (named s w k) (tally-many s w ks (valuePlace s k)) (tally-many s w ks v)
+
+tally-place : (s w ks : List ℕ) (n : ℕ) {u v : ℕ} → ((n ≡ 2 → ⊥) → u ≡ v) → tally s w n u ks ≡ tally s w n v ks
+tally-place s w ks n {u} {v} h = by (eqb n 2) refl
+  where
+    by : (b : Bool) → eqb n 2 ≡ b → tally s w n u ks ≡ tally s w n v ks
+    by true e = rw (eqb-true n 2 e) (tally-many s w ks u ∙ sym (tally-many s w ks v))
+    by false e = ap (λ x. tally s w n x ks) (h (eqb-false n 2 e))
 
 -- ---- An object, at its first member: `first` and `b` are what code holds of it.
 module _ (s : List ℕ) (d at : ℕ) {first b : ℕ} (e : first ≡ pastBlanks s (at + 1)) (g : b ≡ getD s first 0) where
@@ -67,16 +87,18 @@ sofar-first e g h = record { whole = rw (e, g, h) refl }
 
 module _ {s w : List ℕ} {d at k v : ℕ} {t r : Seen} (z : Sofar s w d at k (t .n) (t .v)) (a : v ≡ valuePlace s k)
     (b : Noted s w k v t r) where
+  placed : (ks : List ℕ) → tally s w (r .n) (r .v) ks ≡ tally s w (r .n) (pick (named s w k) (valuePlace s k) (t .v)) ks
+  placed ks = tally-place s w ks (r .n) (λ h. rw a at (b .v h))
+
   pub sofar-more : {j : ℕ} → starts (suc (length s)) (memberStep s (valueAt s d)) k
       ≡ k ∷ starts (suc (length s)) (memberStep s (valueAt s d)) j
       → Sofar s w d at j (r .n) (r .v)
-  sofar-more e = record {
-    whole = tally-more s w (t .n) (t .v) k refl (b .n) (rw a at (b .v)) _ e ∙ z .whole;
-  }
+  sofar-more e = record { whole = placed _ ∙ tally-more s w (t .n) (t .v) k refl (b .n) refl _ e ∙ z .whole }
 
   pub sofar-last : {x : Found} → starts (suc (length s)) (memberStep s (valueAt s d)) k ≡ k ∷ []
       → x ≡ answerOf (r .n) (r .v) → x ≡ foundOf s w d at
-  sofar-last e h = tally-last s w (t .n) (t .v) k refl (b .n) (rw a at (b .v)) e h ∙ z .whole
+  unfolding tally
+  sofar-last e h = h ∙ placed [] ∙ tally-last s w (t .n) (t .v) k refl (b .n) refl e refl ∙ z .whole
 
 not-same : (b : ℕ) (l x : List ℕ) → (b ≡ getD l 0 0 → ⊥) → sameList (b ∷ x) l ≡ false
 unfolding sameList both
@@ -88,49 +110,48 @@ unfolding both pick
 not-both true = refl
 not-both false = refl
 
-not-same-then : (a b : ℕ) (l x : List ℕ) → (b ≡ getD l 1 0 → ⊥) → sameList (a ∷ b ∷ x) l ≡ false
+not-long : (x l : List ℕ) → (length x ≡ length l → ⊥) → sameList x l ≡ false
 unfolding sameList
-not-same-then a b [] x h = refl
-not-same-then a b (y ∷ l) x h = rw (not-same b l x h) (not-both (eqb a y))
+not-long [] [] h = absurd (h refl)
+not-long [] (y ∷ l) h = refl
+not-long (b ∷ x) [] h = refl
+not-long (b ∷ x) (y ∷ l) h = rw (not-long x l (λ e. h (ap suc e))) (not-both (eqb b y))
 
 -- ---- A member that has not the name changes nothing.
 module _ (s w : List ℕ) (k : ℕ) where
   pub noted-not : {v : ℕ} {t : Seen} → named s w k ≡ false → Noted s w k v t t
   unfolding countOf pick
-  noted-not e = record { n = rw e refl; v = rw e refl }
+  noted-not e = record { n = rw e refl; v = λ _. rw e refl }
 
+  -- nor does one where two have it
+  pub noted-twice : {v : ℕ} {t : Seen} → t .n ≡ 2 → Noted s w k v t t
+  unfolding countOf pick
+  noted-twice e = record { n = rw e (by (named s w k)); v = λ h. absurd (h e) }
+    where
+      by : (p : Bool) → _≡_ {A = ℕ} 2 (pick p 2 2)
+      by true = refl
+      by false = refl
+
+  -- by its quote
   pub unnamed-other : {b : ℕ} → b ≡ getD s k 0 → (b ≡ 34 → ⊥) → named s w k ≡ false
   unfolding named pick
   unnamed-other {b} e h = rw (sym e, ne-eqb b 34 h) refl
 
+  by-content : sameList (contentAt s (k + 1)) w ≡ false → named s w k ≡ false
+  unfolding named pick
+  by-content h = by (eqb (getD s k 0) 34)
+    where
+      by : (q : Bool) → pick q (sameList (contentAt s (k + 1)) w) false ≡ false
+      by true = h
+      by false = refl
+
   -- by its first letter
   pub unnamed-first : {b : ℕ} → b ≡ getD s (k + 1) 0 → unescaped b ≡ true → (b ≡ getD w 0 0 → ⊥) → named s w k ≡ false
-  unfolding named pick
-  unnamed-first {b} e u h = by (eqb (getD s k 0) 34)
+  unnamed-first {b} e u h = by-content (rw content (not-same b w (contentAt s (k + 1 + 1)) h))
     where
       content : contentAt s (k + 1) ≡ b ∷ contentAt s (k + 1 + 1)
       content = rw (sym e) at (content-code s (k + 1) refl (unit-unescaped s (k + 1) (rw e at u)))
 
-      by : (q : Bool) → pick q (sameList (contentAt s (k + 1)) w) false ≡ false
-      by true = rw content (not-same b w (contentAt s (k + 1 + 1)) h)
-      by false = refl
-
-  -- and by its second
-  pub unnamed-second : {a b : ℕ} → Letters s k a b → unescaped b ≡ true → (b ≡ getD w 1 0 → ⊥) → named s w k ≡ false
-  unfolding named pick
-  unnamed-second {a} {b} g u h = by (eqb (getD s k 0) 34)
-    where
-      next : k + 2 ≡ k + 1 + 1
-      next = omega arith
-
-      second : b ≡ getD s (k + 1 + 1) 0
-      second = g .then ∙ ap (λ j. getD s j 0) next
-
-      content : contentAt s (k + 1) ≡ a ∷ b ∷ contentAt s (k + 1 + 1 + 1)
-      content = rw (sym (g .first)) at (content-code s (k + 1) refl (unit-unescaped s (k + 1) (rw (g .first) at (g .itself))))
-          ∙ ap (λ l. a ∷ l) (rw (sym second) at
-          (content-code s (k + 1 + 1) refl (unit-unescaped s (k + 1 + 1) (rw second at u))))
-
-      by : (q : Bool) → pick q (sameList (contentAt s (k + 1)) w) false ≡ false
-      by true = rw content (not-same-then a b w (contentAt s (k + 1 + 1 + 1)) h)
-      by false = refl
+  -- and by how long it is
+  pub unnamed-long : {n : ℕ} → length (contentAt s (k + 1)) ≡ n → (length w ≡ n → ⊥) → named s w k ≡ false
+  unnamed-long e h = by-content (not-long _ w (λ q. h (sym q ∙ e)))

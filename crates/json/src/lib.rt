@@ -50,8 +50,10 @@ struct Five {
     e: Seen,
 }
 
-// A turn of an object, and the place of the member's value.
+// A turn of an object: the place past the member's name, where every letter of it stands for itself, else 0; and the
+// place of its value.
 struct Turn {
+    past: usize,
     value: usize,
     step: Step,
 }

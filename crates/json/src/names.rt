@@ -7,6 +7,7 @@ ghost use Rattle.laws.specs.Pick.{pick};
 use super::Found;
 use super::values::member;
 use json_strings::holds;
+use json_strings::is_unescaped;
 use json_strings::string;
 use json_tokens::Skip;
 use json_tokens::Step;
@@ -14,12 +15,19 @@ use json_tokens::blanks;
 use json_tokens::byte;
 use json_tokens::colon;
 
-// Whether the member at a place has the name.
+// Whether the member at a place has the name. That it has another is mostly seen by its first letter.
 pub fn is_named(s: &[u8], k: usize, w: &[u8]) -> bool
     ensures { λ r. ⌜ r ≡ named (now (s .entry)) (now (w .entry)) k ⌝ }
 {
     let b = byte(s, k);
-    if b == b'"' { holds(s, k + 1, w) } else { false }
+    if b != b'"' {
+        return false;
+    }
+    let x = byte(s, k + 1);
+    if (x != byte(w, 0)) & is_unescaped(x) {
+        return false;
+    }
+    holds(s, k + 1, w)
 }
 
 fn value_place(s: &[u8], k: usize) -> usize

@@ -1,11 +1,11 @@
 // The members of an object under several names at once, and where it ends, in one walk over it.
-ghost use mathlib.Core.Bool.{true, false};
 ghost use mathlib.Core.Path.{_≡_};
 ghost use Prim.Native.Nat.{_+_, _<_};
 ghost use lib.ListN.{length};
 ghost use Rattle.json.specs.Members.{named, valuePlace, answerOf, foundOf};
 ghost use Rattle.json.specs.Value.{valueAt, memberStep, objectOf};
-ghost use Rattle.json.specs.Facts.{Noted, Letters, Begins};
+ghost use Rattle.json.specs.Facts.{Noted};
+ghost use Rattle.json_strings.specs.Text.{stringAt, contentAt, Simple};
 use super::Five;
 use super::Object;
 use super::Seen;
@@ -14,7 +14,7 @@ use super::names::answer;
 use super::names::is_named;
 use super::names::one_more;
 use super::values::value;
-use json_strings::is_unescaped;
+use json_strings::simple;
 use json_strings::string;
 use json_tokens::Skip;
 use json_tokens::Step;
@@ -37,10 +37,13 @@ fn nothing() -> Five
     }
 }
 
-// The member at k, whose value stands at v, under one of the names.
+// The member at k, whose value stands at v, under one of the names. Where two had it already, one more changes nothing.
 fn looked(s: &[u8], k: usize, v: usize, w: &[u8], t: Seen) -> Seen
     ensures { λ r. ⌜ Noted (now (s .entry)) (now (w .entry)) k v t r ⌝ }
 {
+    if t.n == 2 {
+        return t;
+    }
     if is_named(s, k, w) {
         Seen {
             n: one_more(true, t.n),
@@ -51,15 +54,12 @@ fn looked(s: &[u8], k: usize, v: usize, w: &[u8], t: Seen) -> Seen
     }
 }
 
-// The same by its first two letters, of which x is none that is escaped: mostly they are others.
-fn looked_by(s: &[u8], k: usize, v: usize, w: &[u8], t: Seen, x: u8, y: u8) -> Seen
-    requires { ⌜ Letters (now s) k x y ⌝ }
+// The same where its name has n characters: mostly the word has another number of them.
+fn looked_by(s: &[u8], k: usize, v: usize, w: &[u8], t: Seen, n: usize) -> Seen
+    requires { ⌜ length (contentAt (now s) (k + 1)) ≡ n ⌝ }
     ensures { λ r. ⌜ Noted (now (s .entry)) (now (w .entry)) k v t r ⌝ }
 {
-    if x != byte(w, 0) {
-        return t;
-    }
-    if (y != byte(w, 1)) & is_unescaped(y) {
+    if w.len() != n {
         return t;
     }
     looked(s, k, v, w, t)
@@ -76,10 +76,9 @@ fn look_by(
     c: &[u8],
     d: &[u8],
     e: &[u8],
-    x: u8,
-    y: u8,
+    n: usize,
 ) -> Five
-    requires { ⌜ Letters (now s) k x y ⌝ }
+    requires { ⌜ length (contentAt (now s) (k + 1)) ≡ n ⌝ }
     ensures { λ r. ⌜ Noted (now (s .entry)) (now (a .entry)) k v (m .a) (r .a) ⌝ }
     ensures { λ r. ⌜ Noted (now (s .entry)) (now (b .entry)) k v (m .b) (r .b) ⌝ }
     ensures { λ r. ⌜ Noted (now (s .entry)) (now (c .entry)) k v (m .c) (r .c) ⌝ }
@@ -91,11 +90,11 @@ fn look_by(
     let mc = m.c;
     let md = m.d;
     let me = m.e;
-    let fa = looked_by(s, k, v, a, ma, x, y);
-    let fb = looked_by(s, k, v, b, mb, x, y);
-    let fc = looked_by(s, k, v, c, mc, x, y);
-    let fd = looked_by(s, k, v, d, md, x, y);
-    let fe = looked_by(s, k, v, e, me, x, y);
+    let fa = looked_by(s, k, v, a, ma, n);
+    let fb = looked_by(s, k, v, b, mb, n);
+    let fc = looked_by(s, k, v, c, mc, n);
+    let fd = looked_by(s, k, v, d, md, n);
+    let fe = looked_by(s, k, v, e, me, n);
     Five {
         a: fa,
         b: fb,
@@ -105,7 +104,7 @@ fn look_by(
     }
 }
 
-// The same where the first letter is escaped.
+// The same where one of its letters is escaped, or is more than a byte.
 fn look_at_all(
     s: &[u8],
     k: usize,
@@ -142,23 +141,11 @@ fn look_at_all(
     }
 }
 
-// Whether a letter is the first of none of the words. Most members have a name that nobody asks for.
-fn begins_none(x: u8, a: &[u8], b: &[u8], c: &[u8], d: &[u8], e: &[u8]) -> bool
-    ensures { λ r. ⌜ (r ≡ true →
-        Begins x (now (a .entry)) × Begins x (now (b .entry)) × Begins x (now (c .entry))
-        × Begins x (now (d .entry)) × Begins x (now (e .entry))) ⌝ }
-{
-    (x != byte(a, 0))
-        & (x != byte(b, 0))
-        & (x != byte(c, 0))
-        & (x != byte(d, 0))
-        & (x != byte(e, 0))
-}
-
-// The member at k under each of the names, where that is seen by the first letter for most.
+// The member at k under each of the names, by how long its name is.
 fn look(
     s: &[u8],
     k: usize,
+    past: usize,
     v: usize,
     m: Five,
     a: &[u8],
@@ -167,49 +154,61 @@ fn look(
     d: &[u8],
     e: &[u8],
 ) -> Five
+    requires { ⌜ ((past ≡ 0 → ⊥) → Simple (now s) k past) ⌝ }
     ensures { λ r. ⌜ Noted (now (s .entry)) (now (a .entry)) k v (m .a) (r .a) ⌝ }
     ensures { λ r. ⌜ Noted (now (s .entry)) (now (b .entry)) k v (m .b) (r .b) ⌝ }
     ensures { λ r. ⌜ Noted (now (s .entry)) (now (c .entry)) k v (m .c) (r .c) ⌝ }
     ensures { λ r. ⌜ Noted (now (s .entry)) (now (d .entry)) k v (m .d) (r .d) ⌝ }
     ensures { λ r. ⌜ Noted (now (s .entry)) (now (e .entry)) k v (m .e) (r .e) ⌝ }
 {
-    if byte(s, k) != b'"' {
-        return m;
-    }
-    let x = byte(s, k + 1);
-    if !is_unescaped(x) {
+    if past == 0 {
         return look_at_all(s, k, v, m, a, b, c, d, e);
     }
-    if begins_none(x, a, b, c, d, e) {
-        return m;
-    }
-    look_by(s, k, v, m, a, b, c, d, e, x, byte(s, k + 2))
+    look_by(s, k, v, m, a, b, c, d, e, past - k - 2)
 }
 
-// A turn of an object, and the place of the member's value.
+// Past the name of the member at k, where `simple` has been asked for it.
+fn name_end(s: &[u8], k: usize, past: usize) -> Skip
+    requires { ⌜ ((past ≡ 0 → ⊥) → Simple (now s) k past) ⌝ }
+    ensures { λ r. ⌜ r ≡ stringAt (now (s .entry)) k ⌝ }
+{
+    if past == 0 {
+        string(s, k)
+    } else {
+        Skip::Past(past)
+    }
+}
+
+// A turn of an object.
 fn take(s: &[u8], k: usize, depth: usize) -> Turn
     ensures { λ r. ⌜ r .value ≡ valuePlace (now (s .entry)) k ⌝ }
     ensures { λ r. ⌜ r .step ≡ memberStep (now (s .entry)) (valueAt (now (s .entry)) depth) k ⌝ }
+    ensures { λ r. ⌜ ((r .past ≡ 0 → ⊥) → Simple (now (s .entry)) k (r .past)) ⌝ }
 {
-    let Skip::Past(e) = string(s, k) else {
+    let past = simple(s, k);
+    let Skip::Past(e) = name_end(s, k, past) else {
         return Turn {
+            past,
             value: 0,
             step: Step::Wrong,
         };
     };
     let Skip::Past(v) = colon(s, e) else {
         return Turn {
+            past,
             value: 0,
             step: Step::Wrong,
         };
     };
     let Skip::Past(f) = value(s, v, depth) else {
         return Turn {
+            past,
             value: v,
             step: Step::Wrong,
         };
     };
     Turn {
+        past,
         value: v,
         step: after_item(s, f, b'}'),
     }
@@ -259,7 +258,7 @@ pub fn members(
     let mut k = first;
     loop {
         let t = take(s, k, depth);
-        m = look(s, k, t.value, m, a, b, c, d, e);
+        m = look(s, k, t.past, t.value, m, a, b, c, d, e);
         let step = t.step;
         match step {
             Step::More(j) => {

@@ -12,11 +12,12 @@ use Rattle.json_strings.specs.declared.Unit.the-variants.{Code, Close}
 use Rattle.json_tokens.specs.declared.Step.the-variants.{More}
 use Rattle.json_tokens.specs.Scan.{pastWhile}
 use Rattle.json_tokens.specs.Walk.{walked}
-use Rattle.json_strings.specs.Text.{unescaped, unitAt, stepOf, unitStep}
+use Rattle.json_strings.specs.Text.{unescaped, unitAt, stepOf, unitStep, stringAt, contentAt, Simple}
 use Rattle.json_tokens.proofs.Picks.{over}
 use Rattle.json_tokens.proofs.While.{while-more, while-stop, while-end, while-same}
-use Rattle.json_tokens.proofs.Turns.{walked-more}
+use Rattle.json_tokens.proofs.Turns.{walked-more, walked-end}
 use Rattle.json_strings.proofs.Ahead.{forth-unit}
+use Rattle.json_strings.proofs.Content.{content-code, content-close}
 
 -- A byte that is no such character, within the text or past its end: the run is empty. One that is lies within.
 module _ {x : ℕ} {t : Bool} (s : List ℕ) (k : ℕ) (e : x ≡ getD s k 0) (g : t ≡ unescaped x) where
@@ -71,3 +72,25 @@ pub walked-run : {r : ℕ} (s : List ℕ) (k : ℕ) → r ≡ pastWhile unescape
 walked-run s k e =
     ap (walked (length s) (unitStep s)) e ∙ while-same unescaped s (walked (length s) (unitStep s))
     (λ j u. walked-more (length s) (unitStep s) (forth-unit s) j refl (step-unescaped s j u)) k
+
+-- and holds a character for each byte of the run
+content-run : {r : ℕ} (s : List ℕ) (k : ℕ) → r ≡ pastWhile unescaped s k
+    → r + length (contentAt s r) ≡ k + length (contentAt s k)
+content-run s k e = ap reach e ∙ while-same unescaped s reach one k
+  where
+    reach : ℕ → ℕ
+    reach j = j + length (contentAt s j)
+
+    one : (j : ℕ) → unescaped (getD s j 0) ≡ true → reach (j + 1) ≡ reach j
+    one j u = rw (content-code s j refl (unit-unescaped s j u)) (omega arith)
+
+-- a string that is such a run: b, r and c are what code holds of it
+pub run-closed : {b r c : ℕ} (s : List ℕ) (at : ℕ) → b ≡ getD s at 0 → b ≡ 34 → r ≡ pastWhile unescaped s (at + 1)
+    → c ≡ getD s r 0 → c ≡ 34 → Simple s at (r + 1)
+unfolding stringAt pick unitStep
+run-closed {r = r} s at e h g f i =
+    let q = unit-quoted s r f i in
+    record {
+      ends = rw (sym e ∙ h) (sym (walked-end (length s) (unitStep s) r refl (ap stepOf q) ∙ walked-run s (at + 1) g));
+      long = omega (arith, ap length (content-close s r refl q), content-run s (at + 1) g);
+    }

@@ -8,6 +8,7 @@ mod wides;
 
 pub use escapes::latin;
 pub use strings::holds;
+pub use strings::simple;
 pub use strings::string;
 pub use strings::unit_of;
 pub use unescaped::is_unescaped;

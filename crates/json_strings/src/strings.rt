@@ -2,8 +2,9 @@
 ghost use mathlib.Core.Path.{_≡_};
 ghost use Prim.Native.Nat.{_≤_, _<_};
 ghost use lib.ListN.{length, drop};
+ghost use Rattle.json_tokens.specs.Scan.{pastWhile};
 ghost use Rattle.json_tokens.specs.Walk.{walked};
-ghost use Rattle.json_strings.specs.Text.{unitAt, unitStep, stringAt, contentAt, sameList, Alike};
+ghost use Rattle.json_strings.specs.Text.{unescaped, unitAt, unitStep, stringAt, contentAt, sameList, Alike, Simple};
 use super::Unit;
 use super::escapes::escape;
 use super::letters::wide;
@@ -62,6 +63,27 @@ fn onward(s: &[u8], k: usize, n: usize) -> usize
     }
 }
 
+// The run of characters at a place that stand for themselves, for `string` and `simple`. A function that lends its slice
+// to one that is not inlined copies both halves of it at once, and waits where they have just been written apart. This
+// one is inlined, so that the copy is its own.
+fn run_from(s: &[u8], at: usize) -> usize
+    ensures { λ r. ⌜ r ≡ pastWhile unescaped (now (s .entry)) at ⌝ }
+{
+    unescaped_run(s, at)
+}
+
+// Past a string whose characters all stand for themselves, at its opening quote; 0 for any other.
+pub fn simple(s: &[u8], at: usize) -> usize
+    ensures { λ r. ⌜ ((r ≡ 0 → ⊥) → Simple (now (s .entry)) at r) ⌝ }
+{
+    let b = byte(s, at);
+    if b != b'"' {
+        return 0;
+    }
+    let k = run_from(s, at + 1);
+    if byte(s, k) == b'"' { k + 1 } else { 0 }
+}
+
 // A string, at its opening quote.
 pub fn string(s: &[u8], at: usize) -> Skip
     ensures { λ r. ⌜ r ≡ stringAt (now (s .entry)) at ⌝ }
@@ -70,7 +92,7 @@ pub fn string(s: &[u8], at: usize) -> Skip
     if b != b'"' {
         return Skip::Bad;
     }
-    let mut k = unescaped_run(s, at + 1);
+    let mut k = run_from(s, at + 1);
     if byte(s, k) == b'"' {
         return Skip::Past(k + 1);
     }

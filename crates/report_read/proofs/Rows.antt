@@ -8,7 +8,7 @@ use native.Mathlib.Numerals.{add-one}
 use lib.Dec.{eqb, ltb}
 use lib.ListN.{length, getD, drop, set, length-set, length-drop}
 use lib.Seq.{getD-set-same, getD-set-other}
-use borrow.Author.Tests.{ne-eqb, eqb-true, eqb-false, lt-ltb}
+use borrow.Author.Tests.{ne-eqb, eqb-true, eqb-false, lt-ltb, le-ltb}
 use Rattle.laws.specs.Pick.{pick, either, both}
 use Rattle.json_tokens.specs.declared.Skip.the-variants.{Bad}
 use Rattle.json_tokens.specs.declared.Step.{Step}
@@ -24,7 +24,7 @@ use Rattle.report_read.specs.declared.Kept.{Kept}
 use Rattle.report_read.specs.Entry.{inList, requestName, responseName, memberOf, held, hasAll, entryAt, elementsOf, allOf}
 use Rattle.report_read.specs.Entry.{entriesAt}
 use Rattle.report_read.specs.Read.{isBig, anyBig}
-use Rattle.report_read.specs.Ready.{from, Spotted, Fine, spotIn, storedOf, Listed}
+use Rattle.report_read.specs.Ready.{from, Spotted, Fine, spotIn, Listed}
 use Rattle.report_read.proofs.Elements.{both-left, elements-from, elements-none, array-some, array-empty}
 use Rattle.report_read.proofs.Elements.{from-more, from-end, from-head}
 
@@ -53,7 +53,19 @@ or-last true q = refl
 or-last false true = refl
 or-last false false = refl
 
--- ---- What is kept.
+-- ---- What is kept: one more, of the first 16.
+pub storedOf : List Spot → ℕ → Spot → List Spot
+storedOf es n e = pick (ltb n 16) (set es n e) es
+
+module _ (es : List Spot) (n : ℕ) (e : Spot) {fs : List Spot} where
+  pub stored-early : n < 16 → fs ≡ set es n e → fs ≡ storedOf es n e
+  unfolding storedOf pick
+  stored-early h q = rw (lt-ltb n 16 h) q
+
+  pub stored-late : 16 ≤ n → fs ≡ es → fs ≡ storedOf es n e
+  unfolding storedOf pick
+  stored-late h q = rw (le-ltb n 16 h) q
+
 stored-long : (es : List Spot) (n : ℕ) (e : Spot) → length (storedOf es n e) ≡ length es
 unfolding storedOf pick
 stored-long es n e = by (ltb n 16)

@@ -20,7 +20,7 @@ use Rattle.json.specs.declared.Found.{Found}
 use Rattle.json.specs.declared.Found.the-variants.{At, Nothing, Twice}
 use Rattle.json.specs.Value.{valueAt, memberStep, objectOf, arrayOf, endsAt, isText, deepest}
 use Rattle.json.specs.Members.{named, placeOf, valuePlace, answerOf, countOf, tally, foundOf}
-use Rattle.json.proofs.Finds.{members-none, members-some, object-some}
+use Rattle.json.proofs.Finds.{tally-many, members-none, members-some, object-some}
 use Rattle.json.proofs.Ahead.{forth-members, value-is, object-is, array-is}
 use Rattle.report_read.specs.declared.Kept.{Kept}
 use Rattle.report_read.specs.Entry.{responsesName, inReport, inList, elementsOf, allOf, entriesAt, listOf, listPlace, these}
@@ -32,18 +32,6 @@ tally-skip : (s w : List ℕ) (n v k : ℕ) {rest all : List ℕ} → named s w 
     → tally s w n v rest ≡ tally s w n v all
 unfolding tally countOf pick
 tally-skip s w n v k h e = rw (e, h) refl
-
-either-twice : (s w ks : List ℕ) (u v : ℕ) (b : Bool) → tally s w 2 u ks ≡ Twice → tally s w 2 v ks ≡ Twice
-    → tally s w (countOf b 2) (pick b u v) ks ≡ Twice
-unfolding countOf pick
-either-twice s w ks u v true p q = p
-either-twice s w ks u v false p q = q
-
-tally-many : (s w ks : List ℕ) (v : ℕ) → tally s w 2 v ks ≡ Twice
-unfolding tally answerOf pick
-tally-many s w [] v = refl
-tally-many s w (k ∷ ks) v =
-    either-twice s w ks (valuePlace s k) v (named s w k) (tally-many s w ks (valuePlace s k)) (tally-many s w ks v)
 
 module _ (s : List ℕ) (k : ℕ) {x : Step} (e : x ≡ memberStep s (valueAt s inReport) k) where
   pub end-more : {j : ℕ} → x ≡ More j → endFrom s j ≡ endFrom s k

@@ -3,14 +3,14 @@
 use Prim.Native.Nat.{ℕ, suc, _≤_, _<_}
 use mathlib.Core.Path.{_≡_}
 use mathlib.Core.Bool.{Bool, true, false}
-use mathlib.Core.List.{List, [], _∷_}
-use lib.Dec.{eqb, ltb}
-use lib.ListN.{length, getD, set}
-use Rattle.laws.specs.Pick.{pick, either}
+use mathlib.Core.List.{List}
+use lib.Dec.{eqb}
+use lib.ListN.{length, getD}
+use Rattle.laws.specs.Pick.{either}
 use Rattle.json_tokens.specs.declared.Skip.{Skip}
 use Rattle.json_tokens.specs.declared.Skip.the-variants.{Past, Bad}
 use Rattle.json_tokens.specs.declared.Step.{Step}
-use Rattle.json_tokens.specs.Scan.{after, pastWhile, blank}
+use Rattle.json_tokens.specs.Scan.{pastWhile, blank}
 use Rattle.json_tokens.specs.Walk.{onward, walked, moreOf, starts}
 use Rattle.json_strings.specs.Text.{contentAt}
 use Rattle.json.specs.declared.Found.{Found}
@@ -103,10 +103,6 @@ pub record Listed (s : List ℕ) (v : ℕ) (r : Kept) (j : ℕ) : Type 0 where
   pub all : allOf s true (elementsOf s inList v) ≡ true
   pub ends : arrayOf s (valueAt s inList) v ≡ Past j
   pub keeps : Keeps s (elementsOf s inList v) (r .n) (r .big) (r .spots)
-
--- one more is kept, of the first 16
-unfoldable pub storedOf : List Spot → ℕ → Spot → List Spot
-storedOf es n e = pick (ltb n 16) (set es n e) es
 
 abbrev pub ListedBy : List ℕ → ℕ → Kept → Skip → Type 0
 ListedBy s v r (Past j) = Listed s v r j

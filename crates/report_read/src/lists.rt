@@ -5,7 +5,7 @@ ghost use Prim.Native.Nat.{_<_};
 ghost use lib.Dec.{ltb};
 ghost use lib.ListN.{length};
 ghost use Rattle.pile.specs.Layout.{AREA};
-ghost use Rattle.report_read.specs.Ready.{storedOf, ListedBy};
+ghost use Rattle.report_read.specs.Ready.{ListedBy};
 use super::Kept;
 use super::Looked;
 use super::Spot;
@@ -46,18 +46,6 @@ pub fn none() -> Kept
     }
 }
 
-// One more entry, of which the first 16 are kept.
-fn stored(spots: [Spot; 16], n: usize, e: Spot) -> [Spot; 16]
-    ensures { λ r. ⌜ r ≡ storedOf spots n e ⌝ }
-{
-    let mut all = spots;
-    if n < 16 {
-        all[n] = e;
-        return all;
-    }
-    all
-}
-
 // A packet is above 2,000 bytes.
 fn is_big(e: Spot) -> bool
     ensures { λ r. ⌜ r ≡ (ltb AREA (e .asked) || ltb AREA (e .said)) ⌝ }
@@ -87,8 +75,9 @@ pub fn list(s: &[u8], v: usize) -> Kept
         let Looked::Good(e, j) = entry(s, k, n == 0) else {
             return none();
         };
-        let more = stored(spots, n, e);
-        spots = more;
+        if n < 16 {
+            spots[n] = e;
+        }
         big = big | is_big(e);
         n += 1;
         match after_item(s, j, b']') {

@@ -56,7 +56,7 @@ loop-less c =
     let a = c .before .before .before .before .before .before .before .before .before .before .before .before .before .before .before .before .args in
     let s = a .s .now in
     turn-falls _ (memberStep s (valueAt s (a .depth))) (forth-members s (a .depth)) _
-    (c .before .before .before .before .take .ensures .1) (c .before .step .given .1)
+    (c .before .before .before .before .take .ensures .1 .0) (c .before .step .given .1)
 
 loop-again : tie.Need-loop-again Inv-loop μ-loop
 loop-again c =
@@ -66,8 +66,8 @@ loop-again c =
     let t = c .before .before .before .before .take .ensures in
     let g = c .before .before .before .look .ensures in
     let n =
-    starts-more _ (memberStep s (valueAt s (a .depth))) (forth-members s (a .depth)) _ (t .1) (c .before .step .given .1) in (
-      walked-more _ (memberStep s (valueAt s (a .depth))) (forth-members s (a .depth)) _ (t .1)
+    starts-more _ (memberStep s (valueAt s (a .depth))) (forth-members s (a .depth)) _ (t .1 .0) (c .before .step .given .1) in (
+      walked-more _ (memberStep s (valueAt s (a .depth))) (forth-members s (a .depth)) _ (t .1 .0)
           (c .before .step .given .1) ∙ l .0,
       sofar-more (l .1) (t .0) (g .0) n,
       sofar-more (l .2) (t .0) (g .1 .0) n,
@@ -82,8 +82,8 @@ returns-2 c =
     let t = c .before .before .before .before .before .take .ensures in
     let g = c .before .before .before .before .look .ensures in
     let r = c .ended2 .ensures in
-    let n = starts-end _ _ _ (t .1) (c .before .before .step2 .given .1) in (
-      r .0 ∙ walked-end _ _ _ (t .1) (c .before .before .step2 .given .1) ∙ l .0,
+    let n = starts-end _ _ _ (t .1 .0) (c .before .before .step2 .given .1) in (
+      r .0 ∙ walked-end _ _ _ (t .1 .0) (c .before .before .step2 .given .1) ∙ l .0,
       (sofar-last (l .1) (t .0) (g .0) n (r .1 .0), (sofar-last (l .2) (t .0) (g .1 .0) n (r .1 .1 .0), (sofar-last (l .3) (t .0) (g .1 .1 .0) n (r .1 .1 .1 .0), (sofar-last (l .4) (t .0) (g .1 .1 .1 .0) n (r .1 .1 .1 .1 .0), sofar-last (l .5) (t .0) (g .1 .1 .1 .1) n (r .1 .1 .1 .1 .1))))),
     )
 
@@ -93,8 +93,8 @@ returns-3 c =
     let t = c .before .before .before .before .take .ensures in
     let g = c .before .before .before .look .ensures in
     let r = c .ended3 .ensures in
-    let n = starts-wrong _ _ _ (t .1) (c .before .enum-told .given .1) in (
-      r .0 ∙ walked-wrong _ _ _ (t .1) (c .before .enum-told .given .1) ∙ l .0,
+    let n = starts-wrong _ _ _ (t .1 .0) (c .before .enum-told .given .1) in (
+      r .0 ∙ walked-wrong _ _ _ (t .1 .0) (c .before .enum-told .given .1) ∙ l .0,
       (sofar-last (l .1) (t .0) (g .0) n (r .1 .0), (sofar-last (l .2) (t .0) (g .1 .0) n (r .1 .1 .0), (sofar-last (l .3) (t .0) (g .1 .1 .0) n (r .1 .1 .1 .0), (sofar-last (l .4) (t .0) (g .1 .1 .1 .0) n (r .1 .1 .1 .1 .0), sofar-last (l .5) (t .0) (g .1 .1 .1 .1) n (r .1 .1 .1 .1 .1))))),
     )
 

@@ -10,36 +10,36 @@ use Rattle.json.proofs.objects.take.Tie as tie
 returns : tie.Need-returns
 unfolding valuePlace placeOf memberStep
 returns c = (
-  ap placeOf (then-bad (pastColon _) (c .before .before .string .ensures) (c .enum-told .given .1)),
-  search (picks, needs) depth 7,
+  ap placeOf (then-bad (pastColon _) (c .before .before .name-end .ensures) (c .enum-told .given .1)),
+  (search (picks, needs) depth 7, c .before .before .before .simple .ensures),
 )
 
 returns-2 : tie.Need-returns-2
 unfolding valuePlace placeOf memberStep
 returns-2 c = (
   ap placeOf
-      (then-past (pastColon _) (c .before .before .before .before .before .before .string .ensures)
+      (then-past (pastColon _) (c .before .before .before .before .before .before .name-end .ensures)
       (c .before .before .before .before .e .given .1) (sym (c .enum-told2 .given .1)
       ∙ c .before .before .colon .ensures)),
-  search (picks, needs) depth 7,
+  (search (picks, needs) depth 7, c .before .before .before .before .before .before .before .simple .ensures),
 )
 
 returns-3 : tie.Need-returns-3
 unfolding valuePlace placeOf memberStep
 returns-3 c = (
   ap placeOf
-      (then-past (pastColon _) (c .before .before .before .before .before .before .before .before .before .before .string .ensures) (c .before .before .before .before .before .before .before .before .e .given .1)
+      (then-past (pastColon _) (c .before .before .before .before .before .before .before .before .before .before .name-end .ensures) (c .before .before .before .before .before .before .before .before .e .given .1)
       (sym (c .before .before .before .before .v .given .1) ∙ c .before .before .before .before .before .before .colon .ensures)),
-  search (picks, needs) depth 7,
+  (search (picks, needs) depth 7, c .before .before .before .before .before .before .before .before .before .before .before .simple .ensures),
 )
 
 returns-4 : tie.Need-returns-4
 unfolding valuePlace placeOf memberStep
 returns-4 c = (
   ap placeOf
-      (then-past (pastColon _) (c .before .before .before .before .before .before .before .before .before .before .before .before .string .ensures) (c .before .before .before .before .before .before .before .before .before .before .e .given .1)
+      (then-past (pastColon _) (c .before .before .before .before .before .before .before .before .before .before .before .before .name-end .ensures) (c .before .before .before .before .before .before .before .before .before .before .e .given .1)
       (sym (c .before .before .before .before .before .before .v .given .1) ∙ c .before .before .before .before .before .before .before .before .colon .ensures)),
-  search (picks, needs) depth 7,
+  (search (picks, needs) depth 7, c .before .before .before .before .before .before .before .before .before .before .before .before .before .simple .ensures),
 )
 
 pub take-spec : {M : Type 1} → statement M
@@ -47,6 +47,7 @@ take-spec =
     tie.close
     (tie.spec
     (λ c κs. search needs)
+    (λ c κs. c .simple .ensures)
     (λ c. search needs)
     (λ c. search needs)
     returns

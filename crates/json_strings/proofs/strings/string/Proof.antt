@@ -1,13 +1,13 @@
 use borrow.Author.Needs.{needs}
 use native.Mathlib.Omega.{arith}
 use Prim.Native.Nat.{_-_}
-use mathlib.Core.Path.{_≡_, refl, sym, _∙_, ap}
+use mathlib.Core.Path.{_≡_, refl, sym, _∙_}
 use lib.ListN.{length}
 use Rattle.laws.specs.Pick.{pick}
-use Rattle.json_strings.specs.Text.{stepOf, unitStep, stringAt}
+use Rattle.json_strings.specs.Text.{unitStep, stringAt}
 use Rattle.json_tokens.specs.Walk.{walked}
 use Rattle.json_strings.proofs.Ahead.{forth-unit}
-use Rattle.json_strings.proofs.Runs.{walked-run, unit-quoted}
+use Rattle.json_strings.proofs.Runs.{walked-run, run-closed}
 use Rattle.json_strings.proofs.Units.{units}
 use Rattle.json_tokens.proofs.Turns.{walked-more, turn-ahead, turn-falls, walked-end, walked-wrong}
 use Rattle.json_strings.proofs.strings.string.Statement.{statement}
@@ -23,23 +23,19 @@ returns : tie.Need-returns Inv-loop μ-loop
 unfolding stringAt
 returns c = search (units, needs)
 
-add-unescaped-run : tie.Need-add-unescaped-run Inv-loop μ-loop
-add-unescaped-run c = search (units, needs)
+add-run-from : tie.Need-add-run-from Inv-loop μ-loop
+add-run-from c = search (units, needs)
 
 returns-2 : tie.Need-returns-2 Inv-loop μ-loop
-unfolding stringAt unitStep
 returns-2 c =
-    let s = c .before .before .before .before .before .before .args .s .now in
-    let k = c .before .before .unescaped-run .result in
-    walked-end (length s) (unitStep s) k refl
-    (ap stepOf (unit-quoted s k (c .before .byte2 .ensures) (c .if2 .taken)))
-    ∙ walked-run _ _ (c .before .before .unescaped-run .ensures) ∙ search (units, needs)
+    sym (run-closed _ _ (c .before .before .before .before .byte .ensures) (c .before .before .before .if1 .left)
+    (c .before .before .run-from .ensures) (c .before .byte2 .ensures) (c .if2 .taken) .ends)
 
 loop-holds : tie.Need-loop-holds Inv-loop μ-loop
 unfolding stringAt pick
 loop-holds c =
     let b = c .before .before .before .before .byte .ensures in
-    walked-run _ _ (c .before .before .unescaped-run .ensures) ∙ rw (sym b ∙ c .before .before .before .if1 .left) refl
+    walked-run _ _ (c .before .before .run-from .ensures) ∙ rw (sym b ∙ c .before .before .before .if1 .left) refl
 
 onward-requires : tie.Need-onward-requires Inv-loop μ-loop
 onward-requires c κs =
@@ -76,7 +72,7 @@ string-spec =
     μ-loop
     (λ c κs. search needs)
     returns
-    add-unescaped-run
+    add-run-from
     (λ c κs. search needs)
     (λ c κs. search needs)
     (λ c. search (units, needs))

@@ -1,10 +1,11 @@
 use borrow.Author.Needs.{needs}
 use Prim.Native.Nat.{_-_}
 use mathlib.Core.Path.{refl}
+use mathlib.Core.Logic.{⊎-elim}
 use lib.ListN.{length}
 use Rattle.json_tokens.proofs.Picks.{picks}
 use Rattle.report_read.proofs.Rows.{Listing, listing-first, listed-none, listing-unfit, listing-inside, listing-wrong}
-use Rattle.report_read.proofs.Rows.{listing-less, listing-more, listing-end}
+use Rattle.report_read.proofs.Rows.{listing-less, listing-more, listing-end, stored-early, stored-late}
 use Rattle.report_read.proofs.lists.list.Statement.{statement}
 use Rattle.report_read.proofs.lists.list.Tie as tie
 
@@ -45,13 +46,13 @@ loop-less c =
 loop-again : tie.Need-loop-again Inv-loop μ-loop
 loop-again c =
     listing-more (c .before .before .before .before .before .before .before .before .before .before .loop .inv) (rw (c .before .before .before .before .before .before .before .e .given .1) at (c .before .before .before .before .before .before .before .before .before .entry .ensures))
-    (c .before .before .before .after-item .ensures) (c .before .before .before .before .is-big .ensures) (c .before .before .before .before .before .stored .ensures)
+    (c .before .before .before .after-item .ensures) (c .before .before .before .before .is-big .ensures) (⊎-elim (λ w. stored-early _ _ _ (w .0 .taken) (w .1)) (λ w. stored-late _ _ _ (w .0 .left) (w .1)) (c .before .before .before .before .before .if2 .came))
     (c .before .i .given .1)
 
 returns-3 : tie.Need-returns-3 Inv-loop μ-loop
 returns-3 c =
     listing-end (c .before .before .before .before .before .before .before .before .before .before .loop .inv) (rw (c .before .before .before .before .before .before .before .e .given .1) at (c .before .before .before .before .before .before .before .before .before .entry .ensures))
-    (c .before .before .before .after-item .ensures) (c .before .before .before .before .is-big .ensures) (c .before .before .before .before .before .stored .ensures) _
+    (c .before .before .before .after-item .ensures) (c .before .before .before .before .is-big .ensures) (⊎-elim (λ w. stored-early _ _ _ (w .0 .taken) (w .1)) (λ w. stored-late _ _ _ (w .0 .left) (w .1)) (c .before .before .before .before .before .if2 .came)) _
     (c .before .i2 .given .1) refl refl refl
 
 returns-4 : tie.Need-returns-4 Inv-loop μ-loop
@@ -78,7 +79,8 @@ list-spec =
     (λ c. search needs)
     (λ c κs. search needs)
     returns-2
-    (λ c κs. search needs)
+    (λ c. search needs)
+    (λ c. search needs)
     (λ c κs. search needs)
     add-n
     (λ c κs. search needs)
