@@ -4,18 +4,13 @@ use Prim.Native.Char.{code}
 use Prim.Native.Nat.{ℕ, _+_, _*_, _%_, _≤_, _<_}
 use mathlib.Core.Path.{_≡_, refl, sym, _∙_, ap}
 use mathlib.Core.Bool.{Bool, true, false, not, _||_, _&&_, true≢false}
-use mathlib.Core.List.{List, [], _∷_}
 use native.Mathlib.Omega.{arith}
 use borrow.Author.Tests.{ne-eqb, le-ltb, lt-leb, ltb-true, ltb-false, eqb-false, not-true}
 use lib.Dec.{T, T-not, eqb, leb, ltb, eqb→eq, leb→le, eqb-refl}
 use lib.ListN.{getD, replicate}
-use Rattle.laws.specs.Ascii.{ascii}
 use Rattle.laws.specs.Pick.{pick}
 use Rattle.digits.proofs.Table.{at, both, both-left, both-right}
-use Rattle.base64.specs.Alphabet.{letterOf, sextetOf, isLetter, pad}
-
-abbrev pub letters : List ℕ
-letters = ascii "ABCDEFGHIJKLMNOPQRSTUVWXYZabcdefghijklmnopqrstuvwxyz0123456789+/"
+use Rattle.base64.specs.Alphabet.{letters, letterOf, sextetOf, isLetter, pad}
 
 letter-right : ℕ → ℕ → Bool
 letter-right k x = both (eqb x (letterOf k)) (both (eqb (sextetOf x) k) (not (eqb x pad)))

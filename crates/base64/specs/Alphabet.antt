@@ -2,7 +2,9 @@
 use Prim.Native.Char.{code}
 use Prim.Native.Nat.{ℕ, _+_, _-_}
 use mathlib.Core.Bool.{Bool, not}
+use mathlib.Core.List.{List}
 use lib.Dec.{eqb, leb, ltb}
+use Rattle.laws.specs.Ascii.{ascii}
 use Rattle.laws.specs.Pick.{pick}
 
 -- the letter of a number below 64
@@ -10,6 +12,10 @@ unfoldable pub letterOf : ℕ → ℕ
 letterOf n =
     pick (ltb n 26) (n + code "A") (pick (ltb n 52) (n - 26 + code "a") (pick (ltb n 62) (n - 52 + code "0")
     (pick (eqb n 62) (code "+") (code "/"))))
+
+-- For the private functions: the same as a list, by which `letterOf` is looked up
+abbrev pub letters : List ℕ
+letters = ascii "ABCDEFGHIJKLMNOPQRSTUVWXYZabcdefghijklmnopqrstuvwxyz0123456789+/"
 
 -- the number of a letter, and 64 for what is no letter
 unfoldable pub sextetOf : ℕ → ℕ

@@ -1,23 +1,15 @@
-// The alphabet: RFC 4648, table 1. By tests and not by tables, since a table is copied at each look.
+// The alphabet: RFC 4648, table 1. A letter is read by tests and not by a table, since a table is copied wherever it is
+// named; to write, who names it lends it.
 ghost use mathlib.Core.Path.{_≡_};
 ghost use Prim.Native.Nat.{_≤_, _<_};
-ghost use Rattle.base64.specs.Alphabet.{letterOf, sextetOf};
+ghost use Rattle.base64.specs.Alphabet.{letters, letterOf, sextetOf};
 
 // The letter of a number.
-pub fn letter(n: u8) -> u8
-    requires { ⌜ n < 64 ⌝ }
+pub fn letter(alphabet: &[u8], n: u8) -> u8
+    requires { ⌜ (now alphabet ≡ letters) × (n < 64) ⌝ }
     ensures { λ r. ⌜ r ≡ letterOf n ⌝ }
 {
-    if n < 26 {
-        return n + b'A';
-    }
-    if n < 52 {
-        return n - 26 + b'a';
-    }
-    if n < 62 {
-        return n - 52 + b'0';
-    }
-    if n == 62 { b'+' } else { b'/' }
+    alphabet[n as usize]
 }
 
 // The number of a letter, and 64 for what is no letter. A character is any number, and a letter is one of ASCII.

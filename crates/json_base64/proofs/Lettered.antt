@@ -31,10 +31,13 @@ letter-unescaped b e =
       lt-ltb b 128 (omega (arith, r .most)),
     )
 
+pub reads-unescaped : {s : List ℕ} {k j x : ℕ} → j ≡ k + 1 → x ≡ getD s k 0 → unescaped x ≡ true → Reads s k x j
+reads-unescaped {s} {k} q e h =
+    let u = unit-unescaped s k (rw e at h) in
+    rw (q, e) (record { text = content-code s k refl u; on = content-falls s k refl u })
+
 reads-letter : {s : List ℕ} {k j : ℕ} → j ≡ k + 1 → isLetter (getD s k 0) ≡ true → Reads s k (getD s k 0) j
-reads-letter {s} {k} {j} q e =
-    let u = unit-unescaped s k (letter-unescaped (getD s k 0) e) in
-    rw q (record { text = content-code s k refl u; on = content-falls s k refl u })
+reads-letter {s} {k} q e = reads-unescaped q refl (letter-unescaped (getD s k 0) e)
 
 -- four of them, as code tests them
 both-true : (p q : Bool) → p && q ≡ true → (p ≡ true) × (q ≡ true)

@@ -9,6 +9,7 @@ use super::Letter;
 use super::Quad;
 use super::letters::four;
 use json_strings::Unit;
+use json_strings::is_unescaped;
 use json_strings::latin;
 use json_tokens::byte;
 
@@ -76,15 +77,41 @@ fn quad_escaped(s: &[u8], k: usize) -> Quad
     Quad::Four(base64::group_of(a, b, c, d), k + 24)
 }
 
+// The four characters at a place, each of which stands for itself, or one by one where one does not: such are the pads
+// at a string's end.
+fn quad_plain(s: &[u8], k: usize) -> Quad
+    requires { ⌜ k < length (now s) ⌝ }
+    ensures { λ r. ⌜ QuadOf (now (s .entry)) k r ⌝ }
+{
+    let a = byte(s, k);
+    let b = byte(s, k + 1);
+    let c = byte(s, k + 2);
+    let d = byte(s, k + 3);
+    if is_unescaped(a) & is_unescaped(b) & is_unescaped(c) & is_unescaped(d) {
+        return Quad::Four(
+            base64::group_of(a as u32, b as u32, c as u32, d as u32),
+            k + 4,
+        );
+    }
+    quad_singly(s, k)
+}
+
 // The four characters at a place.
 pub fn quad_of(s: &[u8], k: usize) -> Quad
     ensures { λ r. ⌜ QuadOf (now (s .entry)) k r ⌝ }
 {
-    if byte(s, k) == b'\\' {
+    let a = byte(s, k);
+    if a == b'"' {
+        return Quad::End;
+    }
+    if a == b'\\' {
         return quad_escaped(s, k);
     }
     if four(s, k) {
-        quad_together(s, k)
+        return quad_together(s, k);
+    }
+    if is_unescaped(a) {
+        quad_plain(s, k)
     } else {
         quad_singly(s, k)
     }

@@ -12,7 +12,8 @@ use Rattle.json_strings.proofs.Plain.{Plain, Each, none, one}
 use Rattle.report_read.specs.Entry.{randName, keyName, requestName, responseName, responsesName}
 use Rattle.base64.specs.Alphabet.{letterOf}
 use Rattle.base64.specs.Encode.{encode64}
-use Rattle.base64.proofs.Tables.{letters, letter-at}
+use Rattle.base64.specs.Alphabet.{letters}
+use Rattle.base64.proofs.Tables.{letter-at}
 
 plain-right : ℕ → ℕ → Bool
 plain-right k x = both (leb 32 x) (both (ltb x 128) (both (not (eqb x 34)) (not (eqb x 92))))
