@@ -37,7 +37,8 @@ fn see_address(s: &[u8], k: usize) -> SeenAddress
     if b != b'{' {
         return SeenAddress::Wrong;
     }
-    let m = members(s, k, IN_ADDRESS, b"protocol", b"address", b"", b"", b"");
+    let none: &[u8] = b"";
+    let m = members(s, k, IN_ADDRESS, b"protocol", b"address", none, none, none);
     let protocol = m.a;
     let address = m.b;
     let end = m.end;

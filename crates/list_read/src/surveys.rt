@@ -146,6 +146,7 @@ pub fn survey_of(text: &[u8]) -> Survey
     if b != b'{' {
         return unlisted();
     }
+    let none: &[u8] = b"";
     let m = members(
         text,
         root,
@@ -153,8 +154,8 @@ pub fn survey_of(text: &[u8]) -> Survey
         b"servers",
         b"sources",
         b"reports",
-        b"",
-        b"",
+        none,
+        none,
     );
     let servers = m.a;
     let sources = m.b;

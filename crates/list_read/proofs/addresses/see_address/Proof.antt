@@ -28,8 +28,6 @@ see-address-spec =
     (λ c. search needs)
     (λ c. search needs)
     (λ c. search needs)
-    (λ c. search needs)
-    (λ c. search needs)
     members-requires
     (λ c κs. search needs)
     (λ c κs. search needs)
