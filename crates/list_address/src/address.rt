@@ -3,7 +3,7 @@ ghost use mathlib.Core.Path.{_≡_};
 ghost use Prim.Native.Nat.{_<_};
 ghost use lib.ListN.{length};
 ghost use Rattle.list_address.specs.Address.{dividesAt, isAddress};
-use super::decimal::is_port;
+use super::decimal::is_decimal;
 use super::host::is_host;
 
 // A host stands before the colon at k, and a port behind it. The port comes first: it has few bytes, so that not much
@@ -16,7 +16,7 @@ fn divides_at(s: &[u8], k: usize) -> bool
         return false;
     }
     let from = k + 1;
-    if !is_port(&s[from..]) {
+    if !is_decimal(&s[from..], 5, 65535) {
         return false;
     }
     is_host(&s[..k])

@@ -1,6 +1,6 @@
 // Tests on bytes.
 ghost use mathlib.Core.Path.{_≡_};
-ghost use Rattle.list_address.specs.Chars.{between, letter, hexDigit, labelChar, oneOf, urlChar, ofKind};
+ghost use Rattle.list_address.specs.Chars.{between, hexDigit, labelChar, oneOf, urlChar, ofKind};
 use super::Kind;
 
 fn is_between(b: u8, low: u8, high: u8) -> bool
@@ -10,15 +10,6 @@ fn is_between(b: u8, low: u8, high: u8) -> bool
         return false;
     }
     b <= high
-}
-
-fn is_letter(b: u8) -> bool
-    ensures { λ r. ⌜ r ≡ letter b ⌝ }
-{
-    if is_between(b, b'a', b'z') {
-        return true;
-    }
-    is_between(b, b'A', b'Z')
 }
 
 pub fn is_hex(b: u8) -> bool
@@ -39,7 +30,10 @@ fn is_label_char(b: u8) -> bool
     if is_between(b, b'0', b'9') {
         return true;
     }
-    if is_letter(b) {
+    if is_between(b, b'a', b'z') {
+        return true;
+    }
+    if is_between(b, b'A', b'Z') {
         return true;
     }
     b == b'-'

@@ -2,7 +2,7 @@
 ghost use mathlib.Core.Path.{_≡_};
 ghost use Prim.Native.Nat.{_+_, _-_, _*_, _≤_, _<_};
 ghost use lib.ListN.{length};
-ghost use Rattle.list_address.specs.Decimal.{worth, unpadded, isDecimal, isPort, isOctet};
+ghost use Rattle.list_address.specs.Decimal.{worth, unpadded, isDecimal, isOctet};
 use super::Kind;
 use super::scan::is_run;
 use json_tokens::byte;
@@ -42,7 +42,7 @@ fn is_unpadded(s: &[u8]) -> bool
     b != b'0'
 }
 
-fn is_decimal(s: &[u8], wide: usize, most: u64) -> bool
+pub fn is_decimal(s: &[u8], wide: usize, most: u64) -> bool
     requires { ⌜ wide ≤ 5 ⌝ }
     ensures { λ r. ⌜ r ≡ isDecimal wide most (now (s .entry)) ⌝ }
 {
@@ -59,10 +59,4 @@ pub fn is_octet(s: &[u8]) -> bool
     ensures { λ r. ⌜ r ≡ isOctet (now (s .entry)) ⌝ }
 {
     is_decimal(s, 3, 255)
-}
-
-pub fn is_port(s: &[u8]) -> bool
-    ensures { λ r. ⌜ r ≡ isPort (now (s .entry)) ⌝ }
-{
-    is_decimal(s, 5, 65535)
 }

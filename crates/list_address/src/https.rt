@@ -3,8 +3,7 @@ ghost use mathlib.Core.Path.{_≡_};
 ghost use mathlib.Core.Bool.{true};
 ghost use Prim.Native.Nat.{_<_};
 ghost use lib.ListN.{length};
-ghost use Rattle.list_address.specs.Https.{lower, hasScheme, isEnded, isAuthority, percentAt, cleanAt};
-ghost use Rattle.list_address.specs.Https.{isClean, isRest, isHttps};
+ghost use Rattle.list_address.specs.Https.{lower, hasScheme, isAuthority, cleanAt, isClean, isRest, isHttps};
 use super::Kind;
 use super::address::is_address;
 use super::chars::is_hex;
@@ -41,18 +40,7 @@ fn has_scheme(s: &[u8]) -> bool
     true
 }
 
-// A host with a colon behind it, and no port.
-fn is_ended(s: &[u8]) -> bool
-    ensures { λ r. ⌜ r ≡ isEnded (now (s .entry)) ⌝ }
-{
-    let b = last_byte(s);
-    if b != b':' {
-        return false;
-    }
-    let e = last_place(s);
-    is_host(&s[..e])
-}
-
+// A host, with a port or without one; or with a colon behind it, and no port.
 fn is_authority(s: &[u8]) -> bool
     ensures { λ r. ⌜ r ≡ isAuthority (now (s .entry)) ⌝ }
 {
@@ -62,31 +50,30 @@ fn is_authority(s: &[u8]) -> bool
     if is_address(s) {
         return true;
     }
-    is_ended(s)
+    let b = last_byte(s);
+    if b != b':' {
+        return false;
+    }
+    let e = last_place(s);
+    is_host(&s[..e])
 }
 
-// A percent sign stands at k, and two hexadecimal digits behind it.
-fn is_percent(s: &[u8], k: usize) -> bool
+// A byte of a URL stands at k, or a percent sign with two hexadecimal digits behind it.
+fn is_clean_at(s: &[u8], k: usize) -> bool
     requires { ⌜ k < length (now s) ⌝ }
-    ensures { λ r. ⌜ r ≡ percentAt (now (s .entry)) k ⌝ }
+    ensures { λ r. ⌜ r ≡ cleanAt (now (s .entry)) k ⌝ }
 {
-    if s[k] != b'%' {
+    let b = s[k];
+    if is_url_char(b) {
+        return true;
+    }
+    if b != b'%' {
         return false;
     }
     if !is_hex(byte(s, k + 1)) {
         return false;
     }
     is_hex(byte(s, k + 2))
-}
-
-fn is_clean_at(s: &[u8], k: usize) -> bool
-    requires { ⌜ k < length (now s) ⌝ }
-    ensures { λ r. ⌜ r ≡ cleanAt (now (s .entry)) k ⌝ }
-{
-    if is_url_char(s[k]) {
-        return true;
-    }
-    is_percent(s, k)
 }
 
 fn is_clean(s: &[u8]) -> bool

@@ -10,9 +10,10 @@ use super::Element;
 use super::IN_ADDRESS;
 use super::IN_ADDRESSES;
 use super::SeenAddress;
+use super::Sort;
 use super::elements::first_item;
 use super::elements::next_past;
-use super::texts::is_place;
+use super::texts::is_sort;
 use super::values::is_word;
 use super::values::string_place;
 use json::members;
@@ -37,14 +38,15 @@ fn see_address(s: &[u8], k: usize) -> SeenAddress
     if b != b'{' {
         return SeenAddress::Wrong;
     }
-    let m = members(s, k, IN_ADDRESS, b"protocol", b"address", b"", b"", b"");
+    let none: &[u8] = b"";
+    let m = members(s, k, IN_ADDRESS, b"protocol", b"address", none, none, none);
     let protocol = m.a;
     let address = m.b;
     let end = m.end;
     if !is_protocol(s, string_place(s, protocol)) {
         return SeenAddress::Wrong;
     }
-    if is_place(s, address) {
+    if is_sort(s, address, Sort::Place) {
         SeenAddress::Right(end)
     } else {
         SeenAddress::Wrong

@@ -10,11 +10,12 @@ ghost use Rattle.list_read.specs.Facts.{codeOf, Finds, Surveys, SurveysB
 use super::Element;
 use super::IN_ROOT;
 use super::IN_SERVERS;
+use super::Sort;
 use super::Survey;
 use super::elements::first_item;
 use super::elements::next_item;
 use super::tallies::tally;
-use super::texts::is_url;
+use super::texts::is_sort;
 use super::values::array_place;
 use json::Found;
 use json::members;
@@ -33,7 +34,7 @@ fn urls_in(s: &[u8], v: usize) -> bool
         let Element::At(k) = at else {
             return true;
         };
-        if !is_url(s, Found::At(k)) {
+        if !is_sort(s, Found::At(k), Sort::Url) {
             return false;
         }
         at = next_item(s, k, IN_SERVERS);
@@ -57,7 +58,7 @@ fn reports_good(s: &[u8], f: Found) -> bool
     ensures { λ r. ⌜ r ≡ reportsGood (now (s .entry)) f ⌝ }
 {
     match f {
-        Found::At(v) => is_url(s, Found::At(v)),
+        Found::At(v) => is_sort(s, Found::At(v), Sort::Url),
         Found::Nothing => true,
         Found::Twice => false,
     }
@@ -146,6 +147,7 @@ pub fn survey_of(text: &[u8]) -> Survey
     if b != b'{' {
         return unlisted();
     }
+    let none: &[u8] = b"";
     let m = members(
         text,
         root,
@@ -153,8 +155,8 @@ pub fn survey_of(text: &[u8]) -> Survey
         b"servers",
         b"sources",
         b"reports",
-        b"",
-        b"",
+        none,
+        none,
     );
     let servers = m.a;
     let sources = m.b;

@@ -2,8 +2,7 @@
 ghost use mathlib.Core.Path.{_≡_};
 ghost use Rattle.json_strings.specs.Text.{contentAt};
 ghost use Rattle.json_text.specs.Octets.{textOf};
-ghost use Rattle.list_read.specs.Server.{isSome, isPlace, passes, textBy};
-ghost use Rattle.list_read.specs.Listed.{isUrl};
+ghost use Rattle.list_read.specs.Server.{isSome, passes, textBy};
 ghost use Rattle.list_read.specs.Facts.{ofSort};
 use super::LONGEST;
 use super::Sort;
@@ -70,25 +69,11 @@ fn is_there(s: &[u8], p: usize, sort: Sort) -> bool
 }
 
 // A member is a string of that sort.
-fn is_sort(s: &[u8], f: Found, sort: Sort) -> bool
+pub fn is_sort(s: &[u8], f: Found, sort: Sort) -> bool
     ensures { λ r. ⌜ r ≡ passes (ofSort sort) (textBy (now (s .entry)) f) ⌝ }
 {
     let Skip::Past(p) = string_place(s, f) else {
         return false;
     };
     is_there(s, p, sort)
-}
-
-// A member is a string that says a host and a port.
-pub fn is_place(s: &[u8], f: Found) -> bool
-    ensures { λ r. ⌜ r ≡ isPlace (textBy (now (s .entry)) f) ⌝ }
-{
-    is_sort(s, f, Sort::Place)
-}
-
-// A member is a string that is an HTTPS URL.
-pub fn is_url(s: &[u8], f: Found) -> bool
-    ensures { λ r. ⌜ r ≡ isUrl (textBy (now (s .entry)) f) ⌝ }
-{
-    is_sort(s, f, Sort::Url)
 }

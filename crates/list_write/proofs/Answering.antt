@@ -19,13 +19,14 @@ use Rattle.json_quote.specs.Room.{spent}
 use Rattle.json_quote.proofs.Putting.{Putting, putting-first}
 use Rattle.list_write.specs.declared.Listing.the-variants.{Text, Refused}
 use Rattle.list_write.specs.Given.{Given, goodServer, isCrowded, serverCode, goodReports}
-use Rattle.list_write.specs.Lent.{Lent, fitted, givens, allServers, anyCrowded}
+use Rattle.list_write.specs.Lent.{Lent, lent, fitted, givens, allServers, anyCrowded}
+use Rattle.list_write.specs.Facts.{keyless, nameless}
 use Rattle.list_write.specs.Lines.{linesOf, allGood}
 use Rattle.list_write.specs.Texts.{serversText, sourcesText, reportsText, listText}
 use Rattle.list_write.specs.Answers.{listingNumber, roomed, answered, goodList, sizeCode, listCode, Ready}
 use Rattle.list_write.proofs.Flats.{room-piece}
 use Rattle.list_write.proofs.Arrays.{flat-one}
-use Rattle.list_write.proofs.Lends.{halves, givens-length}
+use Rattle.list_write.proofs.Lends.{halves, givens-length, Lending, lending-first, good-keyless, crowd-nameless}
 
 -- ---- Room that is left, or not.
 no-room : {k : ℕ} → Left k ≡ Short → ⊥
@@ -126,20 +127,38 @@ sizes-crowd l n m a b =
       sym a,
     ) b
 
-module _ (l : Lent) (sources reports : List ℕ) {t : Bool} (e : t ≡ fitted l) where
-  pub code-lent : not t ≡ true → 21 ≡ listCode l sources reports
+-- sizes by the addresses alone
+sizes-same : (ks vs ns nl xs al : List ℕ) → length al ≡ length vs
+    → sizeCode (givens (nameless xs al)) ≡ sizeCode (givens (lent ks vs ns nl xs al))
+unfolding sizeCode
+sizes-same ks vs ns nl xs al e =
+    let n = givens-length (nameless xs al) ∙ e ∙ sym (givens-length (lent ks vs ns nl xs al)) in
+    rw (n, crowd-nameless ks vs ns nl xs al e) refl
+
+module _ (ks vs ns nl xs al sources reports : List ℕ) {t : Bool} (e : t ≡ fitted (lent ks vs ns nl xs al)) where
+  pub code-lent : not t ≡ true → 21 ≡ listCode (lent ks vs ns nl xs al) sources reports
   unfolding listCode pick
   code-lent h = rw (sym e ∙ not-true t h) refl
 
-  module _ (f : not t ≡ false) {u : Bool} (g : u ≡ goodList l sources reports) where
-    pub code-bad : not u ≡ true → 24 ≡ listCode l sources reports
-    unfolding listCode pick
-    code-bad h = rw (sym e ∙ not-false t f, sym g ∙ not-true u h) refl
+  module _ (f : not t ≡ false) where
+    pub code-walk : Lending (lent ks vs ns nl xs al) 0 0 0
+    code-walk = lending-first (lent ks vs ns nl xs al) (sym e ∙ not-false t f)
 
-    module _ (h : not u ≡ false) where
-      pub code-size : {r : ℕ} → r ≡ sizeCode (givens l) → r ≡ listCode l sources reports
+    module _ {u : Bool} (g : u ≡ goodList (keyless ns nl xs al) sources reports) where
+      list-same : u ≡ goodList (lent ks vs ns nl xs al) sources reports
+      unfolding goodList
+      list-same = g ∙ rw (good-keyless ks vs ns nl xs al (code-walk .count)) refl
+
+      pub code-bad : not u ≡ true → 24 ≡ listCode (lent ks vs ns nl xs al) sources reports
       unfolding listCode pick
-      code-size q = rw (sym e ∙ not-false t f, sym g ∙ not-false u h) q
+      code-bad h = rw (sym e ∙ not-false t f, sym list-same ∙ not-true u h) refl
+
+      pub code-size : not u ≡ false → {r : ℕ} → r ≡ sizeCode (givens (nameless xs al))
+          → r ≡ listCode (lent ks vs ns nl xs al) sources reports
+      unfolding listCode pick
+      code-size h q =
+          rw (sym e ∙ not-false t f, sym list-same ∙ not-false u h)
+          (q ∙ sizes-same ks vs ns nl xs al (code-walk .walk .even ∙ code-walk .count))
 
 -- ---- The text of a list: at its beginning, and the room that it takes.
 pub list-first : (gs : List Given) (sources reports o : List ℕ) → 0 + length (listText gs sources reports) ≤ length o

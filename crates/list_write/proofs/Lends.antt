@@ -1,6 +1,6 @@
 -- Laws of what is lent of many servers, for loops over them.
 use Prim.Native.Nat.{ℕ, zero, suc, _+_, _*_, _-_, _/_, _%_, _≤_, _<_}
-use mathlib.Core.Path.{_≡_, refl, sym, ap}
+use mathlib.Core.Path.{_≡_, refl, sym, _∙_, ap}
 use mathlib.Core.Bool.{Bool, true, false}
 use mathlib.Core.List.{List, [], _∷_}
 use native.Mathlib.Omega.{arith}
@@ -9,10 +9,12 @@ use lib.Dec.{eqb}
 use lib.ListN.{length, drop, getD, drop-of-length-le}
 use lib.Seq.{drop-cons}
 use borrow.Author.Tests.{eq-eqb, ne-eqb, eqb-true, eqb-false}
-use Rattle.laws.specs.Pick.{both}
+use Rattle.laws.specs.Pick.{either, both}
 use Rattle.laws.specs.Pasted.{part}
+use Rattle.laws.proofs.Pasted.{length-part}
 use Rattle.list_write.specs.Given.{given}
-use Rattle.list_write.specs.Lent.{Lent, total, fitted, givenAt, givenFrom, givens}
+use Rattle.list_write.specs.Lent.{Lent, lent, total, fitted, givenAt, givenFrom, givens, allServers, anyCrowded}
+use Rattle.list_write.specs.Facts.{keyless, nameless, Cut, Place, Walk}
 
 total-cons : (l : List ℕ) (i : ℕ) → i < length l → total (drop i l) ≡ getD l i 0 + total (drop (i + 1) l)
 unfolding total
@@ -66,14 +68,28 @@ halves true true z = (refl, refl)
 halves true false z = absurd (let w : _≡_ {A = ℕ} 0 1 = cc in omega arith)
 halves false b z = absurd (let w : _≡_ {A = ℕ} 0 1 = cc in omega arith)
 
+-- ---- Pieces that stand one after the other.
+pub cut-is : (s : List ℕ) (p n : ℕ) {e : ℕ} → e ≡ p + n → p + n ≤ length s → Cut s p n (part p e s)
+cut-is s p n {e} q h = record {
+  is = ap (λ x. part p x s) q;
+  long = length-part s p e (omega arith) (omega arith) ∙ omega arith;
+}
+
+module _ {s lengths : List ℕ} {i p : ℕ} (w : Place s lengths i p) (h : i < length lengths) where
+  pub place-fits : p + getD lengths i 0 ≤ length s
+  place-fits = omega (arith, w .left, total-cons lengths i h)
+
+  pub place-turn : {r : List ℕ} → Cut s p (getD lengths i 0) r → Place s lengths (i + 1) (p + length r)
+  place-turn c = record { here = omega arith; left = omega (arith, w .left, total-cons lengths i h, c .long) }
+
+pub place-long : {s : List ℕ} {p n : ℕ} {r : List ℕ} → Cut s p n r → p + n ≤ length s → p + length r ≤ length s
+place-long c h = omega (arith, c .long)
+
 -- ---- A place among the servers: server i, whose name starts at p, and whose addresses start at q.
 pub record Lending (l : Lent) (i p q : ℕ) : Type 0 where
   pub keyed : length (l .keys) ≡ 32 * length (l .versions)
-  pub named : length (l .nameLengths) ≡ length (l .versions)
-  pub placed : length (l .addressLengths) ≡ length (l .versions)
-  pub here : i ≤ length (l .versions)
-  pub names-left : p + total (drop i (l .nameLengths)) ≡ length (l .names)
-  pub addresses-left : q + total (drop i (l .addressLengths)) ≡ length (l .addresses)
+  pub count : length (l .nameLengths) ≡ length (l .versions)
+  pub walk : Walk (l .names) (l .nameLengths) (l .addresses) (l .addressLengths) i p q
 
 pub lending-first : (l : Lent) → fitted l ≡ true → Lending l 0 0 0
 unfolding fitted
@@ -82,55 +98,57 @@ lending-first l h =
     let b = halves (eqb (length (l .nameLengths)) (length (l .versions))) _ (a .1) in
     let c = halves (eqb (length (l .addressLengths)) (length (l .versions))) _ (b .1) in
     let d = halves (eqb (total (l .nameLengths)) (length (l .names))) _ (c .1) in
+    let n = eqb-true (length (l .nameLengths)) (length (l .versions)) (b .0) in
+    let m = eqb-true (length (l .addressLengths)) (length (l .versions)) (c .0) in
     record {
       keyed = eqb-true _ _ (a .0);
-      named = eqb-true _ _ (b .0);
-      placed = eqb-true _ _ (c .0);
-      here = omega arith;
-      names-left = let e = eqb-true (total (l .nameLengths)) (length (l .names)) (d .0) in omega arith;
-      addresses-left = let e = eqb-true (total (l .addressLengths)) (length (l .addresses)) (d .1) in omega arith;
+      count = n;
+      walk = record {
+        even = m ∙ sym n;
+        name = place-first (eqb-true (total (l .nameLengths)) (length (l .names)) (d .0));
+        lines = place-first (eqb-true (total (l .addressLengths)) (length (l .addresses)) (d .1));
+      };
     }
+  where
+    place-first : {s lengths : List ℕ} → total lengths ≡ length s → Place s lengths 0 0
+    place-first e = record { here = omega arith; left = omega arith }
+
+pub walk-lines : {ns nl xs al : List ℕ} {i p q : ℕ} → Walk ns nl xs al i p q → i < length nl → i < length al
+walk-lines w h = omega (arith, w .even)
+
+pub walk-turn : {ns nl xs al : List ℕ} {i p q : ℕ} → Walk ns nl xs al i p q → i < length nl → {x y : List ℕ}
+    → Cut ns p (getD nl i 0) x → Cut xs q (getD al i 0) y → Walk ns nl xs al (i + 1) (p + length x) (q + length y)
+walk-turn w h c d = record {
+  even = w .even;
+  name = place-turn (w .name) h c;
+  lines = place-turn (w .lines) (walk-lines w h) d;
+}
 
 module _ {l : Lent} {i p q : ℕ} (w : Lending l i p q) (h : i < length (l .versions)) where
-  name-step : total (drop i (l .nameLengths)) ≡ getD (l .nameLengths) i 0 + total (drop (i + 1) (l .nameLengths))
-  name-step = total-cons (l .nameLengths) i (omega (arith, w .named))
+  pub lending-name : i < length (l .nameLengths)
+  lending-name = omega (arith, w .count)
 
-  address-step : total (drop i (l .addressLengths))
-      ≡ getD (l .addressLengths) i 0 + total (drop (i + 1) (l .addressLengths))
-  address-step = total-cons (l .addressLengths) i (omega (arith, w .placed))
-
-  pub lending-name : p + getD (l .nameLengths) i 0 ≤ length (l .names)
-  lending-name = omega (arith, w .names-left, name-step)
-
-  pub lending-address : q + getD (l .addressLengths) i 0 ≤ length (l .addresses)
-  lending-address = omega (arith, w .addresses-left, address-step)
+  pub lending-lines : i < length (l .addressLengths)
+  lending-lines = walk-lines (w .walk) lending-name
 
   pub lending-key : 32 * i + 32 ≤ length (l .keys)
   lending-key = omega (arith, w .keyed)
 
-  pub lending-turn : {n m : ℕ} → n ≡ getD (l .nameLengths) i 0 → m ≡ getD (l .addressLengths) i 0
-      → Lending l (i + 1) (p + n) (q + m)
-  lending-turn e f = record {
-    keyed = w .keyed;
-    named = w .named;
-    placed = w .placed;
-    here = omega arith;
-    names-left = omega (arith, w .names-left, name-step, e);
-    addresses-left = omega (arith, w .addresses-left, address-step, f);
-  }
+  pub lending-turn : {x y : List ℕ} → Cut (l .names) p (getD (l .nameLengths) i 0) x
+      → Cut (l .addresses) q (getD (l .addressLengths) i 0) y → Lending l (i + 1) (p + length x) (q + length y)
+  lending-turn c d = record { keyed = w .keyed; count = w .count; walk = walk-turn (w .walk) lending-name c d }
 
 -- ---- The servers from there on.
 
-pub givens-turn : (l : Lent) (i p q : ℕ) {n m : ℕ} → i < length (l .versions) → n ≡ getD (l .nameLengths) i 0
-    → m ≡ getD (l .addressLengths) i 0
+pub givens-turn : (l : Lent) (i p q : ℕ) {x y : List ℕ} → i < length (l .versions)
+    → Cut (l .names) p (getD (l .nameLengths) i 0) x → Cut (l .addresses) q (getD (l .addressLengths) i 0) y
     → givenFrom (length (l .versions) - i) l i p q
-    ≡ given (part p (p + n) (l .names)) (getD (l .versions) i 0) (part (32 * i) (32 * i + 32) (l .keys))
-    (part q (q + m) (l .addresses))
-    ∷ givenFrom (length (l .versions) - (i + 1)) l (i + 1) (p + n) (q + m)
+    ≡ given x (getD (l .versions) i 0) (part (32 * i) (32 * i + 32) (l .keys)) y
+    ∷ givenFrom (length (l .versions) - (i + 1)) l (i + 1) (p + length x) (q + length y)
 unfolding givenFrom givenAt
-givens-turn l i p q {n} {m} h e f =
+givens-turn l i p q h c d =
     let k : length (l .versions) - i ≡ suc (length (l .versions) - (i + 1)) = omega arith in
-    rw (k, e, f) refl
+    rw (k, c .long, d .long, c .is, d .is) refl
 
 pub givens-end : (l : Lent) (i p q : ℕ) → length (l .versions) ≤ i → givenFrom (length (l .versions) - i) l i p q ≡ []
 unfolding givenFrom
@@ -144,3 +162,27 @@ from-length l (suc n) i p q = ap suc (from-length l n (i + 1) _ _)
 pub givens-length : (l : Lent) → length (givens l) ≡ length (l .versions)
 unfolding givens
 givens-length l = from-length l (length (l .versions)) 0 0 0
+
+-- ---- What does not look at keys and versions, and at names either.
+module _ (ks vs ns nl xs al : List ℕ) where
+  good-from : (n i p q : ℕ)
+      → allServers (givenFrom n (keyless ns nl xs al) i p q) ≡ allServers (givenFrom n (lent ks vs ns nl xs al) i p q)
+  unfolding givenFrom givenAt allServers
+  good-from zero i p q = refl
+  good-from (suc n) i p q = ap (both _) (good-from n (i + 1) _ _)
+
+  crowd-from : (n i p o q : ℕ)
+      → anyCrowded (givenFrom n (nameless xs al) i o q) ≡ anyCrowded (givenFrom n (lent ks vs ns nl xs al) i p q)
+  unfolding givenFrom givenAt anyCrowded
+  crowd-from zero i p o q = refl
+  crowd-from (suc n) i p o q = ap (either _) (crowd-from n (i + 1) _ _ _)
+
+  pub good-keyless : length nl ≡ length vs
+      → allServers (givens (keyless ns nl xs al)) ≡ allServers (givens (lent ks vs ns nl xs al))
+  unfolding givens
+  good-keyless e = rw e (good-from (length vs) 0 0 0)
+
+  pub crowd-nameless : length al ≡ length vs
+      → anyCrowded (givens (nameless xs al)) ≡ anyCrowded (givens (lent ks vs ns nl xs al))
+  unfolding givens
+  crowd-nameless e = rw e (crowd-from (length vs) 0 0 0 0)

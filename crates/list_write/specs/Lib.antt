@@ -4,4 +4,5 @@ pub mod Lines
 pub mod Given
 pub mod Texts
 pub mod Lent
+pub mod Facts
 pub mod Answers

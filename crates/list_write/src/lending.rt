@@ -1,16 +1,27 @@
 // What is lent of many servers: keys of 32 bytes and numbers of versions; names one after the other, and their lengths;
 // and so their lines of addresses.
 ghost use mathlib.Core.Path.{_≡_};
-ghost use mathlib.Core.Bool.{true};
+ghost use Prim.Native.Nat.{_+_, _≤_};
 ghost use lib.Dec.{eqb};
+ghost use lib.ListN.{length};
 ghost use Rattle.list_write.specs.Lent.{lent, total, fitted, givens, allServers, anyCrowded};
+ghost use Rattle.list_write.specs.Facts.{keyless, nameless, Cut, Place, Walk};
 use super::checking::is_crowded;
 use super::checking::server_good;
 
-pub fn wide(x: u32) -> usize
+fn wide(x: u32) -> usize
     ensures { λ r. ⌜ r ≡ x ⌝ }
 {
     x as usize
+}
+
+// The n bytes of s from p on.
+pub fn piece(s: &[u8], p: usize, n: u32) -> &[u8]
+    requires { ⌜ p + n ≤ length (now s) ⌝ }
+    ensures { λ r. ⌜ Cut (now (s .entry)) p n (now r) ⌝ }
+{
+    let e = p + wide(n);
+    &s[p..e]
 }
 
 // Whether the lengths come to n.
@@ -67,76 +78,52 @@ pub fn fits(
 
 // Whether all servers can be written.
 pub fn servers_good(
-    keys: &[u8],
-    versions: &[u32],
     names: &[u8],
     name_lengths: &[u32],
     addresses: &[u8],
     address_lengths: &[u32],
 ) -> bool
-    requires { ⌜
-        fitted
-        (lent (now keys) (now versions) (now names) (now «name_lengths») (now addresses) (now «address_lengths»))
-        ≡ true
-        ⌝ }
+    requires { ⌜ Walk (now names) (now «name_lengths») (now addresses) (now «address_lengths») 0 0 0 ⌝ }
     ensures { λ r. ⌜
         r
         ≡ allServers
         (givens
-        (lent (now (keys .entry)) (now (versions .entry)) (now (names .entry)) (now («name_lengths» .entry))
-        (now (addresses .entry)) (now («address_lengths» .entry))))
+        (keyless (now (names .entry)) (now («name_lengths» .entry)) (now (addresses .entry))
+        (now («address_lengths» .entry))))
         ⌝ }
 {
     let mut i = 0;
     let mut p = 0;
     let mut q = 0;
-    while i < versions.len() {
-        let n = wide(name_lengths[i]);
-        let m = wide(address_lengths[i]);
-        if !server_good(&names[p..p + n], &addresses[q..q + m]) {
+    while i < name_lengths.len() {
+        let name = piece(names, p, name_lengths[i]);
+        let lines = piece(addresses, q, address_lengths[i]);
+        if !server_good(name, lines) {
             return false;
         }
         i += 1;
-        p += n;
-        q += m;
+        p += name.len();
+        q += lines.len();
     }
     true
 }
 
 // Whether one has too many addresses.
-pub fn any_crowded(
-    keys: &[u8],
-    versions: &[u32],
-    names: &[u8],
-    name_lengths: &[u32],
-    addresses: &[u8],
-    address_lengths: &[u32],
-) -> bool
-    requires { ⌜
-        fitted
-        (lent (now keys) (now versions) (now names) (now «name_lengths») (now addresses) (now «address_lengths»))
-        ≡ true
-        ⌝ }
+pub fn any_crowded(addresses: &[u8], address_lengths: &[u32]) -> bool
+    requires { ⌜ Place (now addresses) (now «address_lengths») 0 0 ⌝ }
     ensures { λ r. ⌜
-        r
-        ≡ anyCrowded
-        (givens
-        (lent (now (keys .entry)) (now (versions .entry)) (now (names .entry)) (now («name_lengths» .entry))
-        (now (addresses .entry)) (now («address_lengths» .entry))))
+        r ≡ anyCrowded (givens (nameless (now (addresses .entry)) (now («address_lengths» .entry))))
         ⌝ }
 {
     let mut i = 0;
-    let mut p = 0;
     let mut q = 0;
-    while i < versions.len() {
-        let n = wide(name_lengths[i]);
-        let m = wide(address_lengths[i]);
-        if is_crowded(&addresses[q..q + m]) {
+    while i < address_lengths.len() {
+        let lines = piece(addresses, q, address_lengths[i]);
+        if is_crowded(lines) {
             return true;
         }
         i += 1;
-        p += n;
-        q += m;
+        q += lines.len();
     }
     false
 }

@@ -8,10 +8,10 @@ ghost use Rattle.laws.specs.Written.{Puts};
 ghost use Rattle.json_quote.specs.Room.{spent};
 ghost use Rattle.list_write.specs.Lent.{lent, fitted, givens, allServers};
 ghost use Rattle.list_write.specs.Texts.{serversText};
-use super::lending::wide;
+use super::lending::piece;
 use super::objects::put_server;
+use super::pieces::put_byte;
 use super::pieces::put_separator;
-use super::pieces::put_word;
 use super::sizing::separator_size;
 use super::sizing::server_room;
 use json_quote::Room;
@@ -53,14 +53,14 @@ pub fn servers_room(
     let mut p = 0;
     let mut q = 0;
     while i < versions.len() {
-        let n = wide(name_lengths[i]);
-        let m = wide(address_lengths[i]);
-        let k = &keys[32 * i..32 * i + 32];
+        let name = piece(names, p, name_lengths[i]);
+        let lines = piece(addresses, q, address_lengths[i]);
+        let key = piece(keys, 32 * i, 32);
         let more = spend(left, separator_size(i == 0));
-        left = server_room(more, &names[p..p + n], versions[i], k, &addresses[q..q + m]);
+        left = server_room(more, name, versions[i], key, lines);
         i += 1;
-        p += n;
-        q += m;
+        p += name.len();
+        q += lines.len();
     }
     spend(left, 1)
 }
@@ -109,21 +109,14 @@ pub fn put_servers(
     let mut p = 0;
     let mut q = 0;
     while i < versions.len() {
-        let n = wide(name_lengths[i]);
-        let m = wide(address_lengths[i]);
-        let k = &keys[32 * i..32 * i + 32];
+        let name = piece(names, p, name_lengths[i]);
+        let lines = piece(addresses, q, address_lengths[i]);
+        let key = piece(keys, 32 * i, 32);
         let a = put_separator(out, j, i == 0);
-        j = put_server(
-            out,
-            a,
-            &names[p..p + n],
-            versions[i],
-            k,
-            &addresses[q..q + m],
-        );
+        j = put_server(out, a, name, versions[i], key, lines);
         i += 1;
-        p += n;
-        q += m;
+        p += name.len();
+        q += lines.len();
     }
-    put_word(out, j, b"]")
+    put_byte(out, j, b']')
 }

@@ -7,6 +7,7 @@ ghost use Rattle.laws.specs.Written.{Puts};
 ghost use Rattle.list_write.specs.Given.{given};
 ghost use Rattle.list_write.specs.Lines.{linesOf, allGood};
 ghost use Rattle.list_write.specs.Texts.{headText, keyText, serverText};
+use super::pieces::put_byte;
 use super::pieces::put_code;
 use super::pieces::put_decimal;
 use super::pieces::put_word;
@@ -55,5 +56,5 @@ pub fn put_server(
     let a = put_head(out, at, name, version);
     let b = put_key(out, a, key);
     let c = put_items(out, b, addresses, false);
-    put_word(out, c, b"}")
+    put_byte(out, c, b'}')
 }

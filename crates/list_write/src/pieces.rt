@@ -1,4 +1,5 @@
 // Pieces of a text, put one behind the other. Each function answers the index at which its piece ends.
+ghost use mathlib.Core.List.{[], _∷_};
 ghost use mathlib.Core.Path.{_≡_};
 ghost use Prim.Native.Nat.{_+_, _≤_};
 ghost use lib.ListN.{length};
@@ -17,6 +18,15 @@ pub fn put_word(out: &mut [u8], at: usize, w: &[u8]) -> usize
 {
     put(out, at, w);
     at + w.len()
+}
+
+// A byte.
+pub fn put_byte(out: &mut [u8], at: usize, b: u8) -> usize
+    requires { ⌜ at + 1 ≤ length (now out) ⌝ }
+    ensures { λ r. ⌜ Puts (now (out .entry)) at (b ∷ []) (now (out .exit)) r ⌝ }
+{
+    out[at] = b;
+    at + 1
 }
 
 // A number in decimal.
@@ -48,5 +58,5 @@ pub fn put_separator(out: &mut [u8], at: usize, first: bool) -> usize
     if first {
         return at;
     }
-    put_word(out, at, b",")
+    put_byte(out, at, b',')
 }

@@ -7,6 +7,7 @@ ghost use Rattle.laws.specs.Written.{Puts};
 ghost use Rattle.list_write.specs.Lines.{linesOf, isAddressLine, isItem, allGood};
 ghost use Rattle.list_write.specs.Texts.{addressText, itemText, itemsText};
 use super::lines::past_line;
+use super::pieces::put_byte;
 use super::pieces::put_separator;
 use super::pieces::put_word;
 use json_quote::put_quoted;
@@ -20,7 +21,7 @@ fn put_address(out: &mut [u8], at: usize, t: &[u8]) -> usize
     let b = put_word(out, a, &t[..3]);
     let c = put_word(out, b, b"\",\"address\":");
     let d = put_quoted(out, c, &t[4..]);
-    put_word(out, d, b"}")
+    put_byte(out, d, b'}')
 }
 
 // A source, or else an address.
@@ -50,5 +51,5 @@ pub fn put_items(out: &mut [u8], at: usize, s: &[u8], url: bool) -> usize
         j = put_item(out, a, &s[k..e - 1], url);
         k = e;
     }
-    put_word(out, j, b"]")
+    put_byte(out, j, b']')
 }

@@ -1,11 +1,11 @@
 // A whole list: what is refused of it, how much room it takes, and its text.
 ghost use mathlib.Core.Path.{_≡_};
-ghost use mathlib.Core.Bool.{true};
 ghost use Prim.Native.Nat.{_+_, _≤_};
 ghost use lib.ListN.{length};
 ghost use Rattle.laws.specs.Written.{Puts};
 ghost use Rattle.json_quote.specs.Room.{spent};
-ghost use Rattle.list_write.specs.Lent.{lent, fitted, givens};
+ghost use Rattle.list_write.specs.Lent.{lent, givens};
+ghost use Rattle.list_write.specs.Facts.{keyless, nameless, Place, Walk};
 ghost use Rattle.list_write.specs.Texts.{listText};
 ghost use Rattle.list_write.specs.Answers.{goodList, sizeCode, listCode, Ready};
 use super::SERVERS;
@@ -16,6 +16,7 @@ use super::lending::servers_good;
 use super::lines::lines_good;
 use super::many::put_servers;
 use super::many::servers_room;
+use super::pieces::put_byte;
 use super::pieces::put_word;
 use super::tails::put_reports;
 use super::tails::put_sources;
@@ -27,8 +28,6 @@ use refusal::codes;
 
 // Whether all that stands in the list can be written.
 fn list_good(
-    keys: &[u8],
-    versions: &[u32],
     names: &[u8],
     name_lengths: &[u32],
     addresses: &[u8],
@@ -36,27 +35,16 @@ fn list_good(
     sources: &[u8],
     reports: &[u8],
 ) -> bool
-    requires { ⌜
-        fitted
-        (lent (now keys) (now versions) (now names) (now «name_lengths») (now addresses) (now «address_lengths»))
-        ≡ true
-        ⌝ }
+    requires { ⌜ Walk (now names) (now «name_lengths») (now addresses) (now «address_lengths») 0 0 0 ⌝ }
     ensures { λ r. ⌜
         r
         ≡ goodList
-        (lent (now (keys .entry)) (now (versions .entry)) (now (names .entry)) (now («name_lengths» .entry))
-        (now (addresses .entry)) (now («address_lengths» .entry)))
+        (keyless (now (names .entry)) (now («name_lengths» .entry)) (now (addresses .entry))
+        (now («address_lengths» .entry)))
         (now (sources .entry)) (now (reports .entry))
         ⌝ }
 {
-    if !servers_good(
-        keys,
-        versions,
-        names,
-        name_lengths,
-        addresses,
-        address_lengths,
-    ) {
+    if !servers_good(names, name_lengths, addresses, address_lengths) {
         return false;
     }
     if !lines_good(sources, true) {
@@ -66,41 +54,19 @@ fn list_good(
 }
 
 // 25 by how many servers there are, and by how many addresses one has; else 0.
-fn size_code(
-    keys: &[u8],
-    versions: &[u32],
-    names: &[u8],
-    name_lengths: &[u32],
-    addresses: &[u8],
-    address_lengths: &[u32],
-) -> u8
-    requires { ⌜
-        fitted
-        (lent (now keys) (now versions) (now names) (now «name_lengths») (now addresses) (now «address_lengths»))
-        ≡ true
-        ⌝ }
+fn size_code(addresses: &[u8], address_lengths: &[u32]) -> u8
+    requires { ⌜ Place (now addresses) (now «address_lengths») 0 0 ⌝ }
     ensures { λ r. ⌜
-        r
-        ≡ sizeCode
-        (givens
-        (lent (now (keys .entry)) (now (versions .entry)) (now (names .entry)) (now («name_lengths» .entry))
-        (now (addresses .entry)) (now («address_lengths» .entry))))
+        r ≡ sizeCode (givens (nameless (now (addresses .entry)) (now («address_lengths» .entry))))
         ⌝ }
 {
-    if versions.len() == 0 {
+    if address_lengths.len() == 0 {
         return codes::ENTRIES;
     }
-    if SERVERS < versions.len() {
+    if SERVERS < address_lengths.len() {
         return codes::ENTRIES;
     }
-    if any_crowded(
-        keys,
-        versions,
-        names,
-        name_lengths,
-        addresses,
-        address_lengths,
-    ) {
+    if any_crowded(addresses, address_lengths) {
         codes::ENTRIES
     } else {
         0
@@ -137,8 +103,6 @@ pub fn list_code(
         return codes::LISTS;
     }
     if !list_good(
-        keys,
-        versions,
         names,
         name_lengths,
         addresses,
@@ -148,14 +112,7 @@ pub fn list_code(
     ) {
         return codes::REPORT_TEXT;
     }
-    size_code(
-        keys,
-        versions,
-        names,
-        name_lengths,
-        addresses,
-        address_lengths,
-    )
+    size_code(addresses, address_lengths)
 }
 
 // What is left behind the text.
@@ -249,5 +206,5 @@ pub fn put_list(
     );
     let c = put_sources(out, b, sources);
     let d = put_reports(out, c, reports);
-    put_word(out, d, b"}")
+    put_byte(out, d, b'}')
 }

@@ -1,4 +1,6 @@
 use Rattle.json_tokens.proofs.Picks.{inside}
+use Rattle.list_read.specs.Server.{isPlace}
+use Rattle.list_read.specs.Facts.{ofSort}
 use Rattle.list_read.proofs.Parts.{address}
 use borrow.Author.Needs.{needs}
 use Rattle.list_read.proofs.addresses.see_address.Statement.{statement}
@@ -14,9 +16,11 @@ returns-2 : tie.Need-returns-2
 returns-2 c = search (address, needs)
 
 returns-3 : tie.Need-returns-3
+unfolding isPlace ofSort
 returns-3 c = search (address, needs)
 
 returns-4 : tie.Need-returns-4
+unfolding isPlace ofSort
 returns-4 c = search (address, needs)
 
 pub see-address-spec : {M : Type 1} → statement M
@@ -25,8 +29,6 @@ see-address-spec =
     (tie.spec
     (λ c κs. search needs)
     returns
-    (λ c. search needs)
-    (λ c. search needs)
     (λ c. search needs)
     (λ c. search needs)
     (λ c. search needs)

@@ -1,9 +1,12 @@
 use borrow.Author.Needs.{needs}
+use Rattle.list_read.specs.Listed.{isUrl}
+use Rattle.list_read.specs.Facts.{ofSort}
 use Rattle.list_read.proofs.Surveying.{optional}
 use Rattle.list_read.proofs.surveys.reports_good.Statement.{statement}
 use Rattle.list_read.proofs.surveys.reports_good.Tie as tie
 
 returns : tie.Need-returns
+unfolding isUrl ofSort
 returns c = search (optional, needs)
 
 returns-2 : tie.Need-returns-2

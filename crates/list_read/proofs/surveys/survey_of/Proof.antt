@@ -28,7 +28,6 @@ survey-of-spec =
     (λ c. search needs)
     (λ c. search needs)
     (λ c. search needs)
-    (λ c. search needs)
     members-requires
     (λ c κs. search needs)
     (λ c κs. search needs)

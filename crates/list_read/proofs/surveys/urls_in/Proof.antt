@@ -2,8 +2,8 @@ use borrow.Author.Needs.{needs}
 use mathlib.Core.Path.{_≡_}
 use Rattle.report_read.specs.Entry.{elementsOf}
 use Rattle.list_read.specs.Server.{inServers}
-use Rattle.list_read.specs.Listed.{allUrls, urlAt}
-use Rattle.list_read.specs.Facts.{left}
+use Rattle.list_read.specs.Listed.{allUrls, urlAt, isUrl}
+use Rattle.list_read.specs.Facts.{left, ofSort}
 use Rattle.list_read.proofs.Items.{fuel, urls}
 use Rattle.list_read.proofs.surveys.urls_in.Statement.{statement}
 use Rattle.list_read.proofs.surveys.urls_in.Tie as tie
@@ -21,14 +21,14 @@ returns : tie.Need-returns Inv-loop μ-loop
 returns c = search (urls, needs)
 
 returns-2 : tie.Need-returns-2 Inv-loop μ-loop
-unfolding urlAt
+unfolding urlAt isUrl ofSort
 returns-2 c = search (urls, needs)
 
 loop-less : tie.Need-loop-less Inv-loop μ-loop
 loop-less c = search (urls, needs)
 
 loop-again : tie.Need-loop-again Inv-loop μ-loop
-unfolding urlAt
+unfolding urlAt isUrl ofSort
 loop-again c = search (urls, needs)
 
 pub urls-in-spec : {M : Type 1} → statement M

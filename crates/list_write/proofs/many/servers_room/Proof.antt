@@ -1,11 +1,11 @@
--- `list_write::many::servers_room` meets its contract: room for the servers from i on is left to take.
+-- `list_write::many::servers_room` meets its contract: room is taken for the servers before i.
 use borrow.Author.Needs.{needs}
 use native.Mathlib.Omega.{arith}
 use Prim.Native.Nat.{_-_}
 use lib.ListN.{length}
 use Rattle.list_write.specs.Lent.{lent}
-use Rattle.list_write.proofs.Lends.{lending-name, lending-address, lending-key}
-use Rattle.list_write.proofs.Walks.{Seating, seating-first, seating-turn, seating-last, good-this, key-long}
+use Rattle.list_write.proofs.Lends.{place-fits, place-long, lending-name, lending-lines, lending-key}
+use Rattle.list_write.proofs.Walks.{Seating, seating-first, seating-good, seating-turn, seating-last}
 use Rattle.list_write.proofs.many.servers_room.Statement.{statement}
 use Rattle.list_write.proofs.many.servers_room.Tie as tie
 
@@ -19,338 +19,115 @@ abbrev μ-loop : tie.MeasureT-loop
 loop-holds : tie.Need-loop-holds Inv-loop μ-loop
 loop-holds c =
     let start = c .before .before .before .before .before .before in
-    let a = start .args in
-    let l = lent (a .keys .now) (a .versions .now) (a .names .now) (a .name-lengths .now) (a .addresses .now)
-    (a .address-lengths .now) in
-    seating-first l _ (start .pre .0) (start .pre .1)
+    seating-first _ _ (start .pre .0) (start .pre .1)
 
-mul-wide : tie.Need-mul-wide Inv-loop μ-loop
-mul-wide c =
-    let a = lending-name (c .before .loop .inv .lending) (c .loop-test .taken) in
-    let b = lending-address (c .before .loop .inv .lending) (c .loop-test .taken) in
-    let k = lending-key (c .before .loop .inv .lending) (c .loop-test .taken) in
-    let r = c .before .loop .inv .lending .named in
-    let s = c .before .loop .inv .lending .placed in
-    search needs
+mul-piece : tie.Need-mul-piece Inv-loop μ-loop
+mul-piece c =
+    let at-loop = c .before in
+    let start = at-loop .before .before .before .before .before .before .before in
+    let h = lending-name (at-loop .loop .inv .lending) (c .loop-test .taken) in
+    omega (arith, start .good)
 
-shared-slice-read-wide : tie.Need-shared-slice-read-wide Inv-loop μ-loop
-shared-slice-read-wide c =
-    let a = lending-name (c .before .before .loop .inv .lending) (c .before .loop-test .taken) in
-    let b = lending-address (c .before .before .loop .inv .lending) (c .before .loop-test .taken) in
-    let k = lending-key (c .before .before .loop .inv .lending) (c .before .loop-test .taken) in
-    let r = c .before .before .loop .inv .lending .named in
-    let s = c .before .before .loop .inv .lending .placed in
-    search needs
+shared-slice-read-piece : tie.Need-shared-slice-read-piece Inv-loop μ-loop
+shared-slice-read-piece c =
+    let at-loop-test = c .before in
+    let at-loop = at-loop-test .before in
+    lending-name (at-loop .loop .inv .lending) (at-loop-test .loop-test .taken)
 
-mul-wide-2 : tie.Need-mul-wide-2 Inv-loop μ-loop
-mul-wide-2 c =
-    let a = lending-name (c .before .before .before .loop .inv .lending) (c .before .before .loop-test .taken) in
-    let b = lending-address (c .before .before .before .loop .inv .lending) (c .before .before .loop-test .taken) in
-    let k = lending-key (c .before .before .before .loop .inv .lending) (c .before .before .loop-test .taken) in
-    let r = c .before .before .before .loop .inv .lending .named in
-    let s = c .before .before .before .loop .inv .lending .placed in
-    search needs
+piece-requires : tie.Need-piece-requires Inv-loop μ-loop
+piece-requires c κs =
+    let at-loop-test = c .before in
+    let at-loop = at-loop-test .before in
+    place-fits (at-loop .loop .inv .lending .walk .name)
+    (lending-name (at-loop .loop .inv .lending) (at-loop-test .loop-test .taken))
 
-shared-slice-read-wide-2 : tie.Need-shared-slice-read-wide-2 Inv-loop μ-loop
-shared-slice-read-wide-2 c =
-    let a = lending-name (c .before .before .before .before .loop .inv .lending) (c .before .before .before
-    .loop-test .taken) in
-    let b = lending-address (c .before .before .before .before .loop .inv .lending) (c .before .before .before
-    .loop-test .taken) in
-    let k = lending-key (c .before .before .before .before .loop .inv .lending) (c .before .before .before .loop-test
-    .taken) in
-    let r = c .before .before .before .before .loop .inv .lending .named in
-    let s = c .before .before .before .before .loop .inv .lending .placed in
-    search needs
+mul-piece-2 : tie.Need-mul-piece-2 Inv-loop μ-loop
+mul-piece-2 c =
+    let at-loop-test = c .before .before in
+    let at-loop = at-loop-test .before in
+    let start = at-loop .before .before .before .before .before .before .before in
+    let h = lending-lines (at-loop .loop .inv .lending) (at-loop-test .loop-test .taken) in
+    omega (arith, start .good)
 
-mul-k : tie.Need-mul-k Inv-loop μ-loop
-mul-k c =
-    let a = lending-name (c .before .before .before .before .before .loop .inv .lending) (c .before .before .before
-    .before .loop-test .taken) in
-    let b = lending-address (c .before .before .before .before .before .loop .inv .lending) (c .before .before
-    .before .before .loop-test .taken) in
-    let k = lending-key (c .before .before .before .before .before .loop .inv .lending) (c .before .before .before
-    .before .loop-test .taken) in
-    let r = c .before .before .before .before .before .loop .inv .lending .named in
-    let s = c .before .before .before .before .before .loop .inv .lending .placed in
-    search needs
+shared-slice-read-piece-2 : tie.Need-shared-slice-read-piece-2 Inv-loop μ-loop
+shared-slice-read-piece-2 c =
+    let at-loop-test = c .before .before .before in
+    let at-loop = at-loop-test .before in
+    lending-lines (at-loop .loop .inv .lending) (at-loop-test .loop-test .taken)
 
-mul-k-2 : tie.Need-mul-k-2 Inv-loop μ-loop
-mul-k-2 c =
-    let a = lending-name (c .before .before .before .before .before .loop .inv .lending) (c .before .before .before
-    .before .loop-test .taken) in
-    let b = lending-address (c .before .before .before .before .before .loop .inv .lending) (c .before .before
-    .before .before .loop-test .taken) in
-    let k = lending-key (c .before .before .before .before .before .loop .inv .lending) (c .before .before .before
-    .before .loop-test .taken) in
-    let r = c .before .before .before .before .before .loop .inv .lending .named in
-    let s = c .before .before .before .before .before .loop .inv .lending .placed in
-    search needs
+piece-requires-2 : tie.Need-piece-requires-2 Inv-loop μ-loop
+piece-requires-2 c κs =
+    let at-loop-test = c .before .before .before in
+    let at-loop = at-loop-test .before in
+    place-fits (at-loop .loop .inv .lending .walk .lines)
+    (lending-lines (at-loop .loop .inv .lending) (at-loop-test .loop-test .taken))
 
-add-k : tie.Need-add-k Inv-loop μ-loop
-add-k c =
-    let a = lending-name (c .before .before .before .before .before .loop .inv .lending) (c .before .before .before
-    .before .loop-test .taken) in
-    let b = lending-address (c .before .before .before .before .before .loop .inv .lending) (c .before .before
-    .before .before .loop-test .taken) in
-    let k = lending-key (c .before .before .before .before .before .loop .inv .lending) (c .before .before .before
-    .before .loop-test .taken) in
-    let r = c .before .before .before .before .before .loop .inv .lending .named in
-    let s = c .before .before .before .before .before .loop .inv .lending .placed in
-    search needs
+mul-piece-3 : tie.Need-mul-piece-3 Inv-loop μ-loop
+mul-piece-3 c =
+    let at-loop-test = c .before .before .before .before in
+    let at-loop = at-loop-test .before in
+    let start = at-loop .before .before .before .before .before .before .before in
+    let h = lending-key (at-loop .loop .inv .lending) (at-loop-test .loop-test .taken) in
+    omega (arith, start .good)
 
-sub-k : tie.Need-sub-k Inv-loop μ-loop
-sub-k c =
-    let a = lending-name (c .before .before .before .before .before .loop .inv .lending) (c .before .before .before
-    .before .loop-test .taken) in
-    let b = lending-address (c .before .before .before .before .before .loop .inv .lending) (c .before .before
-    .before .before .loop-test .taken) in
-    let k = lending-key (c .before .before .before .before .before .loop .inv .lending) (c .before .before .before
-    .before .loop-test .taken) in
-    let r = c .before .before .before .before .before .loop .inv .lending .named in
-    let s = c .before .before .before .before .before .loop .inv .lending .placed in
-    search needs
-
-part-k-start : tie.Need-part-k-start Inv-loop μ-loop
-part-k-start c =
-    let a = lending-name (c .before .before .before .before .before .loop .inv .lending) (c .before .before .before
-    .before .loop-test .taken) in
-    let b = lending-address (c .before .before .before .before .before .loop .inv .lending) (c .before .before
-    .before .before .loop-test .taken) in
-    let k = lending-key (c .before .before .before .before .before .loop .inv .lending) (c .before .before .before
-    .before .loop-test .taken) in
-    let r = c .before .before .before .before .before .loop .inv .lending .named in
-    let s = c .before .before .before .before .before .loop .inv .lending .placed in
-    search needs
-
-part-k-end : tie.Need-part-k-end Inv-loop μ-loop
-part-k-end c =
-    let a = lending-name (c .before .before .before .before .before .loop .inv .lending) (c .before .before .before
-    .before .loop-test .taken) in
-    let b = lending-address (c .before .before .before .before .before .loop .inv .lending) (c .before .before
-    .before .before .loop-test .taken) in
-    let k = lending-key (c .before .before .before .before .before .loop .inv .lending) (c .before .before .before
-    .before .loop-test .taken) in
-    let r = c .before .before .before .before .before .loop .inv .lending .named in
-    let s = c .before .before .before .before .before .loop .inv .lending .placed in
-    search needs
-
-add-server-room : tie.Need-add-server-room Inv-loop μ-loop
-add-server-room c =
-    let a = lending-name (c .before .before .before .before .before .before .before .before .loop .inv .lending) (c
-    .before .before .before .before .before .before .before .loop-test .taken) in
-    let b = lending-address (c .before .before .before .before .before .before .before .before .loop .inv .lending)
-    (c .before .before .before .before .before .before .before .loop-test .taken) in
-    let k = lending-key (c .before .before .before .before .before .before .before .before .loop .inv .lending) (c
-    .before .before .before .before .before .before .before .loop-test .taken) in
-    let r = c .before .before .before .before .before .before .before .before .loop .inv .lending .named in
-    let s = c .before .before .before .before .before .before .before .before .loop .inv .lending .placed in
-    search needs
-
-sub-server-room : tie.Need-sub-server-room Inv-loop μ-loop
-sub-server-room c =
-    let a = lending-name (c .before .before .before .before .before .before .before .before .loop .inv .lending) (c
-    .before .before .before .before .before .before .before .loop-test .taken) in
-    let b = lending-address (c .before .before .before .before .before .before .before .before .loop .inv .lending)
-    (c .before .before .before .before .before .before .before .loop-test .taken) in
-    let k = lending-key (c .before .before .before .before .before .before .before .before .loop .inv .lending) (c
-    .before .before .before .before .before .before .before .loop-test .taken) in
-    let r = c .before .before .before .before .before .before .before .before .loop .inv .lending .named in
-    let s = c .before .before .before .before .before .before .before .before .loop .inv .lending .placed in
-    search needs
-
-part-server-room-start : tie.Need-part-server-room-start Inv-loop μ-loop
-part-server-room-start c =
-    let a = lending-name (c .before .before .before .before .before .before .before .before .loop .inv .lending) (c
-    .before .before .before .before .before .before .before .loop-test .taken) in
-    let b = lending-address (c .before .before .before .before .before .before .before .before .loop .inv .lending)
-    (c .before .before .before .before .before .before .before .loop-test .taken) in
-    let k = lending-key (c .before .before .before .before .before .before .before .before .loop .inv .lending) (c
-    .before .before .before .before .before .before .before .loop-test .taken) in
-    let r = c .before .before .before .before .before .before .before .before .loop .inv .lending .named in
-    let s = c .before .before .before .before .before .before .before .before .loop .inv .lending .placed in
-    search needs
-
-part-server-room-end : tie.Need-part-server-room-end Inv-loop μ-loop
-part-server-room-end c =
-    let a = lending-name (c .before .before .before .before .before .before .before .before .loop .inv .lending) (c
-    .before .before .before .before .before .before .before .loop-test .taken) in
-    let b = lending-address (c .before .before .before .before .before .before .before .before .loop .inv .lending)
-    (c .before .before .before .before .before .before .before .loop-test .taken) in
-    let k = lending-key (c .before .before .before .before .before .before .before .before .loop .inv .lending) (c
-    .before .before .before .before .before .before .before .loop-test .taken) in
-    let r = c .before .before .before .before .before .before .before .before .loop .inv .lending .named in
-    let s = c .before .before .before .before .before .before .before .before .loop .inv .lending .placed in
-    search needs
-
-mul-server-room : tie.Need-mul-server-room Inv-loop μ-loop
-mul-server-room c =
-    let a = lending-name (c .before .before .before .before .before .before .before .before .before .loop .inv
-    .lending) (c .before .before .before .before .before .before .before .before .loop-test .taken) in
-    let b = lending-address (c .before .before .before .before .before .before .before .before .before .loop .inv
-    .lending) (c .before .before .before .before .before .before .before .before .loop-test .taken) in
-    let k = lending-key (c .before .before .before .before .before .before .before .before .before .loop .inv
-    .lending) (c .before .before .before .before .before .before .before .before .loop-test .taken) in
-    let r = c .before .before .before .before .before .before .before .before .before .loop .inv .lending .named in
-    let s = c .before .before .before .before .before .before .before .before .before .loop .inv .lending .placed in
-    search needs
-
-add-server-room-2 : tie.Need-add-server-room-2 Inv-loop μ-loop
-add-server-room-2 c =
-    let a = lending-name (c .before .before .before .before .before .before .before .before .before .before .loop
-    .inv .lending) (c .before .before .before .before .before .before .before .before .before .loop-test .taken) in
-    let b = lending-address (c .before .before .before .before .before .before .before .before .before .before .loop
-    .inv .lending) (c .before .before .before .before .before .before .before .before .before .loop-test .taken) in
-    let k = lending-key (c .before .before .before .before .before .before .before .before .before .before .loop .inv
-    .lending) (c .before .before .before .before .before .before .before .before .before .loop-test .taken) in
-    let r = c .before .before .before .before .before .before .before .before .before .before .loop .inv .lending
-    .named in
-    let s = c .before .before .before .before .before .before .before .before .before .before .loop .inv .lending
-    .placed in
-    search needs
-
-sub-server-room-2 : tie.Need-sub-server-room-2 Inv-loop μ-loop
-sub-server-room-2 c =
-    let a = lending-name (c .before .before .before .before .before .before .before .before .before .before .loop
-    .inv .lending) (c .before .before .before .before .before .before .before .before .before .loop-test .taken) in
-    let b = lending-address (c .before .before .before .before .before .before .before .before .before .before .loop
-    .inv .lending) (c .before .before .before .before .before .before .before .before .before .loop-test .taken) in
-    let k = lending-key (c .before .before .before .before .before .before .before .before .before .before .loop .inv
-    .lending) (c .before .before .before .before .before .before .before .before .before .loop-test .taken) in
-    let r = c .before .before .before .before .before .before .before .before .before .before .loop .inv .lending
-    .named in
-    let s = c .before .before .before .before .before .before .before .before .before .before .loop .inv .lending
-    .placed in
-    search needs
-
-part-server-room-start-2 : tie.Need-part-server-room-start-2 Inv-loop μ-loop
-part-server-room-start-2 c =
-    let a = lending-name (c .before .before .before .before .before .before .before .before .before .before .loop
-    .inv .lending) (c .before .before .before .before .before .before .before .before .before .loop-test .taken) in
-    let b = lending-address (c .before .before .before .before .before .before .before .before .before .before .loop
-    .inv .lending) (c .before .before .before .before .before .before .before .before .before .loop-test .taken) in
-    let k = lending-key (c .before .before .before .before .before .before .before .before .before .before .loop .inv
-    .lending) (c .before .before .before .before .before .before .before .before .before .loop-test .taken) in
-    let r = c .before .before .before .before .before .before .before .before .before .before .loop .inv .lending
-    .named in
-    let s = c .before .before .before .before .before .before .before .before .before .before .loop .inv .lending
-    .placed in
-    search needs
-
-part-server-room-end-2 : tie.Need-part-server-room-end-2 Inv-loop μ-loop
-part-server-room-end-2 c =
-    let a = lending-name (c .before .before .before .before .before .before .before .before .before .before .loop
-    .inv .lending) (c .before .before .before .before .before .before .before .before .before .loop-test .taken) in
-    let b = lending-address (c .before .before .before .before .before .before .before .before .before .before .loop
-    .inv .lending) (c .before .before .before .before .before .before .before .before .before .loop-test .taken) in
-    let k = lending-key (c .before .before .before .before .before .before .before .before .before .before .loop .inv
-    .lending) (c .before .before .before .before .before .before .before .before .before .loop-test .taken) in
-    let r = c .before .before .before .before .before .before .before .before .before .before .loop .inv .lending
-    .named in
-    let s = c .before .before .before .before .before .before .before .before .before .before .loop .inv .lending
-    .placed in
-    search needs
-
-add-i : tie.Need-add-i Inv-loop μ-loop
-add-i c =
-    let a = lending-name (c .before .before .before .before .before .before .before .before .before .before .before
-    .before .loop .inv .lending) (c .before .before .before .before .before .before .before .before .before .before
-    .before .loop-test .taken) in
-    let b = lending-address (c .before .before .before .before .before .before .before .before .before .before
-    .before .before .loop .inv .lending) (c .before .before .before .before .before .before .before .before .before
-    .before .before .loop-test .taken) in
-    let k = lending-key (c .before .before .before .before .before .before .before .before .before .before .before
-    .before .loop .inv .lending) (c .before .before .before .before .before .before .before .before .before .before
-    .before .loop-test .taken) in
-    let r = c .before .before .before .before .before .before .before .before .before .before .before .before .loop
-    .inv .lending .named in
-    let s = c .before .before .before .before .before .before .before .before .before .before .before .before .loop
-    .inv .lending .placed in
-    search needs
-
-add-p : tie.Need-add-p Inv-loop μ-loop
-add-p c =
-    let a = lending-name (c .before .before .before .before .before .before .before .before .before .before .before
-    .before .loop .inv .lending) (c .before .before .before .before .before .before .before .before .before .before
-    .before .loop-test .taken) in
-    let b = lending-address (c .before .before .before .before .before .before .before .before .before .before
-    .before .before .loop .inv .lending) (c .before .before .before .before .before .before .before .before .before
-    .before .before .loop-test .taken) in
-    let k = lending-key (c .before .before .before .before .before .before .before .before .before .before .before
-    .before .loop .inv .lending) (c .before .before .before .before .before .before .before .before .before .before
-    .before .loop-test .taken) in
-    let r = c .before .before .before .before .before .before .before .before .before .before .before .before .loop
-    .inv .lending .named in
-    let s = c .before .before .before .before .before .before .before .before .before .before .before .before .loop
-    .inv .lending .placed in
-    search needs
-
-add-q : tie.Need-add-q Inv-loop μ-loop
-add-q c =
-    let a = lending-name (c .before .before .before .before .before .before .before .before .before .before .before
-    .before .loop .inv .lending) (c .before .before .before .before .before .before .before .before .before .before
-    .before .loop-test .taken) in
-    let b = lending-address (c .before .before .before .before .before .before .before .before .before .before
-    .before .before .loop .inv .lending) (c .before .before .before .before .before .before .before .before .before
-    .before .before .loop-test .taken) in
-    let k = lending-key (c .before .before .before .before .before .before .before .before .before .before .before
-    .before .loop .inv .lending) (c .before .before .before .before .before .before .before .before .before .before
-    .before .loop-test .taken) in
-    let r = c .before .before .before .before .before .before .before .before .before .before .before .before .loop
-    .inv .lending .named in
-    let s = c .before .before .before .before .before .before .before .before .before .before .before .before .loop
-    .inv .lending .placed in
-    search needs
+piece-requires-3 : tie.Need-piece-requires-3 Inv-loop μ-loop
+piece-requires-3 c κs =
+    let at-loop-test = c .before .before .before .before in
+    let at-loop = at-loop-test .before in
+    lending-key (at-loop .loop .inv .lending) (at-loop-test .loop-test .taken)
 
 shared-slice-read-server-room : tie.Need-shared-slice-read-server-room Inv-loop μ-loop
 shared-slice-read-server-room c =
-    let at-loop-test = c .before .before .before .before .before .before .before .before .before in
+    let at-loop-test = c .before .before .before .before .before .before .before .before in
     at-loop-test .loop-test .taken
 
 server-room-requires : tie.Need-server-room-requires Inv-loop μ-loop
 server-room-requires c κs =
-    let at-wide2 = c .before .before .before .before .before .before in
-    let at-wide = at-wide2 .before .before in
-    let at-loop-test = at-wide .before .before in
+    let at-piece3 = c .before .before .before in
+    let at-piece2 = at-piece3 .before in
+    let at-piece = at-piece2 .before .before in
+    let at-loop-test = at-piece .before .before in
+    let at-loop = at-loop-test .before in
+    seating-good _ _ _ _ (at-loop-test .loop-test .taken) (at-piece .piece .ensures) (at-piece2 .piece2 .ensures)
+    (at-piece3 .piece3 .ensures) (at-loop .loop .inv)
+
+add-p : tie.Need-add-p Inv-loop μ-loop
+add-p c =
+    let at-piece = c .before .before .before .before .before .before .before in
+    let at-loop-test = at-piece .before .before in
     let at-loop = at-loop-test .before in
     let start = at-loop .before .before .before .before .before .before .before in
-    let a = start .args in
-    let l = lent (a .keys .now) (a .versions .now) (a .names .now) (a .name-lengths .now) (a .addresses .now)
-    (a .address-lengths .now) in (
-      key-long (at-loop .loop .inv .lending) (at-loop-test .loop-test .taken),
-      good-this l (at-loop .loop .i) (at-loop
-          .loop .p) (at-loop .loop .q) (at-loop-test .loop-test .taken) (at-wide .wide .ensures) (at-wide2 .wide2 .ensures)
-          (at-loop .loop .inv .good) .0,
-    )
+    let h = place-long (at-piece .piece .ensures) (place-fits (at-loop .loop .inv .lending .walk .name)
+    (lending-name (at-loop .loop .inv .lending) (at-loop-test .loop-test .taken))) in
+    omega (arith, start .good)
 
-loop-less : tie.Need-loop-less Inv-loop μ-loop
-loop-less c =
-    omega arith
+add-q : tie.Need-add-q Inv-loop μ-loop
+add-q c =
+    let at-piece2 = c .before .before .before .before .before in
+    let at-loop-test = at-piece2 .before .before .before .before in
+    let at-loop = at-loop-test .before in
+    let start = at-loop .before .before .before .before .before .before .before in
+    let h = place-long (at-piece2 .piece2 .ensures) (place-fits (at-loop .loop .inv .lending .walk .lines)
+    (lending-lines (at-loop .loop .inv .lending) (at-loop-test .loop-test .taken))) in
+    omega (arith, start .good)
 
 loop-again : tie.Need-loop-again Inv-loop μ-loop
 loop-again c =
-    let at-spend = c .before .before .before .before in
+    let at-spend = c .before .before in
     let at-separator-size = at-spend .before in
-    let at-wide2 = at-separator-size .before .before in
-    let at-wide = at-wide2 .before .before in
-    let at-loop-test = at-wide .before .before in
+    let at-piece3 = at-separator-size .before in
+    let at-piece2 = at-piece3 .before in
+    let at-piece = at-piece2 .before .before in
+    let at-loop-test = at-piece .before .before in
     let at-loop = at-loop-test .before in
-    let start = at-loop .before .before .before .before .before .before .before in
-    let a = start .args in
-    let l = lent (a .keys .now) (a .versions .now) (a .names .now) (a .name-lengths .now) (a .addresses .now)
-    (a .address-lengths .now) in
-    seating-turn l (at-loop .loop .i) (at-loop .loop .p) (at-loop .loop .q) (at-loop-test .loop-test .taken) (at-wide
-    .wide .ensures) (at-wide2 .wide2 .ensures) (at-loop .loop .inv) (at-separator-size .separator-size .ensures)
-    (at-spend .spend .ensures) (c .server-room .ensures)
+    seating-turn _ _ _ _ (at-loop-test .loop-test .taken) (at-piece .piece .ensures) (at-piece2 .piece2 .ensures)
+    (at-piece3 .piece3 .ensures) (at-loop .loop .inv) (at-separator-size .separator-size .ensures) (at-spend .spend .ensures)
+    (c .server-room .ensures)
 
 returns : tie.Need-returns Inv-loop μ-loop
 returns c =
     let at-loop-test = c .before in
     let at-loop = at-loop-test .before in
-    let start = at-loop .before .before .before .before .before .before .before in
-    let a = start .args in
-    let l = lent (a .keys .now) (a .versions .now) (a .names .now) (a .name-lengths .now) (a .addresses .now)
-    (a .address-lengths .now) in
     seating-last _ _ (at-loop .loop .inv) (at-loop-test .loop-test .left) (c .spend2 .ensures)
 
 pub servers-room-spec : {M : Type 1} → statement M
@@ -360,35 +137,23 @@ servers-room-spec =
     Inv-loop
     μ-loop
     loop-holds
-    mul-wide
-    shared-slice-read-wide
-    (λ c κs. search needs)
-    mul-wide-2
-    shared-slice-read-wide-2
-    (λ c κs. search needs)
-    mul-k
-    mul-k-2
-    add-k
-    sub-k
-    part-k-start
-    part-k-end
+    mul-piece
+    shared-slice-read-piece
+    piece-requires
+    mul-piece-2
+    shared-slice-read-piece-2
+    piece-requires-2
+    mul-piece-3
+    piece-requires-3
     (λ c κs. search needs)
     (λ c κs. search needs)
-    add-server-room
-    sub-server-room
-    part-server-room-start
-    part-server-room-end
-    mul-server-room
+    (λ c. omega arith)
     shared-slice-read-server-room
-    add-server-room-2
-    sub-server-room-2
-    part-server-room-start-2
-    part-server-room-end-2
     server-room-requires
-    add-i
+    (λ c. omega arith)
     add-p
     add-q
-    loop-less
+    (λ c. omega arith)
     loop-again
     (λ c κs. search needs)
     returns)

@@ -36,9 +36,9 @@ put-items-requires c κs =
     let put2 = piece-next _ _ put1 (at-put-key .put-key .ensures) in
     (start .pre .0, piece-fits _ _ put2)
 
-put-word-requires : tie.Need-put-word-requires
-put-word-requires c κs =
-    let at-put-items = c .before .before .before .before in
+put-byte-requires : tie.Need-put-byte-requires
+put-byte-requires c κs =
+    let at-put-items = c .before .before .before in
     let at-put-key = at-put-items .before .before .before .before in
     let at-put-head = at-put-key .before .before .before .before in
     let start = at-put-head .before .before .before .before .before .before in
@@ -52,8 +52,8 @@ put-word-requires c κs =
 
 returns : tie.Need-returns
 returns c =
-    let at-put-word = c .before .before in
-    let at-put-items = at-put-word .before .before .before .before .before in
+    let at-put-byte = c .before .before in
+    let at-put-items = at-put-byte .before .before .before .before in
     let at-put-key = at-put-items .before .before .before .before in
     let at-put-head = at-put-key .before .before .before .before in
     let start = at-put-head .before .before .before .before .before .before in
@@ -63,7 +63,7 @@ returns c =
     let put1 = piece-next _ _ put0 (at-put-head .put-head .ensures) in
     let put2 = piece-next _ _ put1 (at-put-key .put-key .ensures) in
     let put3 = piece-next _ _ put2 (at-put-items .put-items .ensures) in
-    let put4 = piece-next _ _ put3 (at-put-word .put-word .ensures) in
+    let put4 = piece-next _ _ put3 (at-put-byte .put-byte .ensures) in
     pieces-last put4
 
 pub put-server-spec : {M : Type 1} → statement M
@@ -73,7 +73,6 @@ put-server-spec =
     put-head-requires
     put-key-requires
     put-items-requires
-    (λ c. search needs)
-    put-word-requires
+    put-byte-requires
     (λ c. search needs)
     returns)

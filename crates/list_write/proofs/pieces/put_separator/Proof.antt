@@ -12,26 +12,25 @@ returns c =
     let start = c .before .before in
     rw (c .if1 .taken) (puts-none _ _ (omega (arith, rw (c .if1 .taken) at (start .pre))))
 
-put-word-requires : tie.Need-put-word-requires
+put-byte-requires : tie.Need-put-byte-requires
 unfolding separator
-put-word-requires c κs =
-    let at-if1 = c .before .before in
+put-byte-requires c κs =
+    let at-if1 = c .before in
     let start = at-if1 .before .before in
     rw (at-if1 .if1 .left) at (start .pre)
 
 returns-2 : tie.Need-returns-2
 unfolding separator
 returns-2 c =
-    let at-put-word = c .before .before in
-    let at-if1 = at-put-word .before .before .before in
-    rw (at-if1 .if1 .left) (at-put-word .put-word .ensures)
+    let at-put-byte = c .before .before in
+    let at-if1 = at-put-byte .before .before in
+    rw (at-if1 .if1 .left) (at-put-byte .put-byte .ensures)
 
 pub put-separator-spec : {M : Type 1} → statement M
 put-separator-spec =
     tie.close
     (tie.spec
     returns
-    (λ c. search needs)
-    put-word-requires
+    put-byte-requires
     (λ c. search needs)
     returns-2)

@@ -65,9 +65,9 @@ put-quoted-requires c κs =
     let put3 = piece-next _ _ put2 (at-put-word3 .put-word3 .ensures) in
     piece-fits _ _ put3
 
-put-word-requires-4 : tie.Need-put-word-requires-4
-put-word-requires-4 c κs =
-    let at-put-quoted = c .before .before .before .before in
+put-byte-requires : tie.Need-put-byte-requires
+put-byte-requires c κs =
+    let at-put-quoted = c .before .before .before in
     let at-put-word3 = at-put-quoted .before .before .before .before .before in
     let at-put-word2 = at-put-word3 .before .before .before .before .before in
     let at-put-word = at-put-word2 .before .before .before .before .before in
@@ -82,8 +82,8 @@ put-word-requires-4 c κs =
 
 returns : tie.Need-returns
 returns c =
-    let at-put-word4 = c .before .before in
-    let at-put-quoted = at-put-word4 .before .before .before .before .before in
+    let at-put-byte = c .before .before in
+    let at-put-quoted = at-put-byte .before .before .before .before in
     let at-put-word3 = at-put-quoted .before .before .before .before .before in
     let at-put-word2 = at-put-word3 .before .before .before .before .before in
     let at-put-word = at-put-word2 .before .before .before .before .before in
@@ -94,7 +94,7 @@ returns c =
     let put2 = piece-next _ _ put1 (at-put-word2 .put-word2 .ensures) in
     let put3 = piece-next _ _ put2 (at-put-word3 .put-word3 .ensures) in
     let put4 = piece-next _ _ put3 (at-put-quoted .put-quoted .ensures) in
-    let put5 = piece-next _ _ put4 (at-put-word4 .put-word4 .ensures) in
+    let put5 = piece-next _ _ put4 (at-put-byte .put-byte .ensures) in
     pieces-last put5
 
 pub put-address-spec : {M : Type 1} → statement M
@@ -111,7 +111,6 @@ put-address-spec =
     part-put-quoted-start
     (λ c. search needs)
     put-quoted-requires
-    (λ c. search needs)
-    put-word-requires-4
+    put-byte-requires
     (λ c. search needs)
     returns)

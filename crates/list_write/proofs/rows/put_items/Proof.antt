@@ -11,10 +11,10 @@ use Rattle.list_write.proofs.rows.put_items.Statement.{statement}
 use Rattle.list_write.proofs.rows.put_items.Tie as tie
 
 abbrev Inv-loop : tie.InvT-loop
-Inv-loop out₀ at s url j₀ k₀ t out j k = Rowing url s out₀ at k out j
+Inv-loop out₀ at s url j₀ k₀ out j k = Rowing url s out₀ at k out j
 
 abbrev μ-loop : tie.MeasureT-loop
-μ-loop out₀ at s url j₀ k₀ t out j k = length s - k
+μ-loop out₀ at s url j₀ k₀ out j k = length s - k
 
 loop-holds : tie.Need-loop-holds Inv-loop μ-loop
 loop-holds c =
@@ -115,24 +115,24 @@ loop-again c =
     .ensures)
     (at-loop .loop .inv) (at-put-separator .put-separator .ensures) (at-put-item .put-item .ensures)
 
-put-word-requires : tie.Need-put-word-requires Inv-loop μ-loop
-put-word-requires c κs =
-    let at-loop-test = c .before .before in
+put-byte-requires : tie.Need-put-byte-requires Inv-loop μ-loop
+put-byte-requires c κs =
+    let at-loop-test = c .before in
     let at-loop = at-loop-test .before in
     piece-fits _ _ (rowing-end (at-loop .loop .inv) (at-loop-test .loop-test .left))
 
 same-length : tie.Need-same-length Inv-loop μ-loop
 same-length c =
-    let at-loop = c .before .before .before .before .before .before in
+    let at-loop = c .before .before .before .before .before in
     omega (arith, putting-length (at-loop .loop .inv .put))
 
 returns : tie.Need-returns Inv-loop μ-loop
 returns c =
-    let at-put-word = c .before .before in
-    let at-loop-test = at-put-word .before .before .before in
+    let at-put-byte = c .before .before in
+    let at-loop-test = at-put-byte .before .before in
     let at-loop = at-loop-test .before in
-    pieces-last (piece-next _ _ (rowing-end (at-loop .loop .inv) (at-loop-test .loop-test .left)) (at-put-word
-    .put-word .ensures))
+    pieces-last (piece-next _ _ (rowing-end (at-loop .loop .inv) (at-loop-test .loop-test .left)) (at-put-byte
+    .put-byte .ensures))
 
 pub put-items-spec : {M : Type 1} → statement M
 put-items-spec =
@@ -150,7 +150,6 @@ put-items-spec =
     put-item-requires
     loop-less
     loop-again
-    (λ c. search needs)
-    put-word-requires
+    put-byte-requires
     same-length
     returns)

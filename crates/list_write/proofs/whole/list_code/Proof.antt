@@ -1,42 +1,33 @@
 -- `list_write::whole::list_code` meets its contract.
 use borrow.Author.Needs.{needs}
-use mathlib.Core.Path.{sym, _∙_}
-use borrow.Author.Tests.{not-false}
-use Rattle.list_write.specs.Lent.{lent}
-use Rattle.list_write.proofs.Answering.{code-lent, code-bad, code-size}
+use mathlib.Core.List.{[]}
+use Rattle.list_write.proofs.Answering.{code-lent, code-walk, code-bad, code-size}
 use Rattle.list_write.proofs.whole.list_code.Statement.{statement}
 use Rattle.list_write.proofs.whole.list_code.Tie as tie
 
 list-good-requires : tie.Need-list-good-requires
 list-good-requires c κs =
     let at-fits2 = c .before in
-    sym (at-fits2 .fits2 .ensures) ∙ not-false _ (c .if1 .left)
+    code-walk _ _ _ _ _ _ [] [] (at-fits2 .fits2 .ensures) (c .if1 .left) .walk
 
 size-code-requires : tie.Need-size-code-requires
 size-code-requires c κs =
     let at-if1 = c .before .before in
-    sym (at-if1 .before .fits2 .ensures) ∙ not-false _ (at-if1 .if1 .left)
+    let at-fits2 = at-if1 .before in
+    code-walk _ _ _ _ _ _ [] [] (at-fits2 .fits2 .ensures) (at-if1 .if1 .left) .walk .lines
 
 returns : tie.Need-returns
 returns c =
     let at-fits2 = c .before in
-    let start = at-fits2 .before .before .before .before .before .before .before .before .before in
-    let a = start .args in
-    let l = lent (a .keys .now) (a .versions .now) (a .names .now) (a .name-lengths .now) (a .addresses .now)
-    (a .address-lengths .now) in
-    code-lent l (a .sources .now) (a .reports .now) (at-fits2 .fits2 .ensures) (c .if1 .taken)
+    code-lent _ _ _ _ _ _ _ _ (at-fits2 .fits2 .ensures) (c .if1 .taken)
 
 returns-2 : tie.Need-returns-2
 returns-2 c =
     let at-list-good = c .before in
     let at-if1 = at-list-good .before in
     let at-fits2 = at-if1 .before in
-    let start = at-fits2 .before .before .before .before .before .before .before .before .before in
-    let a = start .args in
-    let l = lent (a .keys .now) (a .versions .now) (a .names .now) (a .name-lengths .now) (a .addresses .now)
-    (a .address-lengths .now) in
-    code-bad l (a .sources .now) (a .reports .now) (at-fits2 .fits2 .ensures) (at-if1 .if1 .left) (at-list-good
-    .list-good .ensures) (c .if2 .taken)
+    code-bad _ _ _ _ _ _ _ _ (at-fits2 .fits2 .ensures) (at-if1 .if1 .left) (at-list-good .list-good .ensures)
+    (c .if2 .taken)
 
 returns-3 : tie.Need-returns-3
 returns-3 c =
@@ -44,7 +35,7 @@ returns-3 c =
     let at-list-good = at-if2 .before in
     let at-if1 = at-list-good .before in
     let at-fits2 = at-if1 .before in
-    code-size _ _ _ (at-fits2 .fits2 .ensures) (at-if1 .if1 .left) (at-list-good .list-good .ensures)
+    code-size _ _ _ _ _ _ _ _ (at-fits2 .fits2 .ensures) (at-if1 .if1 .left) (at-list-good .list-good .ensures)
     (at-if2 .if2 .left) (c .size-code .ensures)
 
 pub list-code-spec : {M : Type 1} → statement M

@@ -7,7 +7,7 @@ use Rattle.list_write.proofs.whole.list_good.Tie as tie
 
 servers-good-requires : tie.Need-servers-good-requires
 servers-good-requires c κs =
-    let start = c .before .before .before .before .before .before .before .before in
+    let start = c .before .before .before .before .before .before in
     start .pre
 
 returns : tie.Need-returns

@@ -61,9 +61,9 @@ put-reports-requires c κs =
     let put3 = piece-next _ _ put2 (at-put-sources .put-sources .ensures) in
     piece-fits _ _ put3
 
-put-word-requires-2 : tie.Need-put-word-requires-2
-put-word-requires-2 c κs =
-    let at-put-reports = c .before .before .before .before in
+put-byte-requires : tie.Need-put-byte-requires
+put-byte-requires c κs =
+    let at-put-reports = c .before .before .before in
     let at-put-sources = at-put-reports .before .before .before .before in
     let at-put-servers = at-put-sources .before .before .before .before in
     let at-put-word = at-put-servers .before .before .before .before in
@@ -82,8 +82,8 @@ put-word-requires-2 c κs =
 
 returns : tie.Need-returns
 returns c =
-    let at-put-word2 = c .before .before in
-    let at-put-reports = at-put-word2 .before .before .before .before .before in
+    let at-put-byte = c .before .before in
+    let at-put-reports = at-put-byte .before .before .before .before in
     let at-put-sources = at-put-reports .before .before .before .before in
     let at-put-servers = at-put-sources .before .before .before .before in
     let at-put-word = at-put-servers .before .before .before .before in
@@ -98,7 +98,7 @@ returns c =
     let put2 = piece-next _ _ put1 (at-put-servers .put-servers .ensures) in
     let put3 = piece-next _ _ put2 (at-put-sources .put-sources .ensures) in
     let put4 = piece-next _ _ put3 (at-put-reports .put-reports .ensures) in
-    let put5 = piece-next _ _ put4 (at-put-word2 .put-word2 .ensures) in
+    let put5 = piece-next _ _ put4 (at-put-byte .put-byte .ensures) in
     pieces-last put5
 
 pub put-list-spec : {M : Type 1} → statement M
@@ -110,7 +110,6 @@ put-list-spec =
     put-servers-requires
     put-sources-requires
     put-reports-requires
-    (λ c. search needs)
-    put-word-requires-2
+    put-byte-requires
     (λ c. search needs)
     returns)
