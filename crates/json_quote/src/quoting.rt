@@ -14,28 +14,31 @@ fn hex(n: u8) -> u8
     if n < 10 { n + b'0' } else { n - 10 + b'a' }
 }
 
+// The bytes of s, from index at of out on. The answer is the index at which they end.
+fn put_run(out: &mut [u8], at: usize, s: &[u8]) -> usize
+    requires { ⌜ at + length (now s) ≤ length (now out) ⌝ }
+    ensures { λ r. ⌜ Puts (now (out .entry)) at (now (s .entry)) (now (out .exit)) r ⌝ }
+{
+    put(out, at, s);
+    at + s.len()
+}
+
 // An octet within a string. The answer is the index at which it ends.
 fn put_octet(out: &mut [u8], at: usize, b: u8) -> usize
     requires { ⌜ at + length (escaped b) ≤ length (now out) ⌝ }
     ensures { λ r. ⌜ Puts (now (out .entry)) at (escaped b) (now (out .exit)) r ⌝ }
 {
     if b == b'"' {
-        put(out, at, b"\\\"");
-        return at + 2;
+        return put_run(out, at, b"\\\"");
     }
     if b == b'\\' {
-        put(out, at, b"\\\\");
-        return at + 2;
+        return put_run(out, at, b"\\\\");
     }
     if b < 0x20 {
         let high = hex(b / 16);
-        let six = [b'\\', b'u', b'0', b'0', high, hex(b % 16)];
-        put(out, at, &six);
-        return at + 6;
+        return put_run(out, at, &[b'\\', b'u', b'0', b'0', high, hex(b % 16)]);
     }
-    let one = [b];
-    put(out, at, &one);
-    at + 1
+    put_run(out, at, &[b])
 }
 
 // The string of x, from index at of out on. The answer is the index at which it ends.

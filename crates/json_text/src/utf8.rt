@@ -39,6 +39,14 @@ pub fn put_letter(c: u32, out: &mut [u8], n: usize)
         put(out, n, &two);
         return;
     }
+    put_long(c, out, n);
+}
+
+// The same of a character that takes three octets or four.
+fn put_long(c: u32, out: &mut [u8], n: usize)
+    requires { ⌜ (2048 ≤ c) × (n + length (utf8 c) ≤ length (now out)) ⌝ }
+    ensures { λ _. ⌜ now (out .exit) ≡ pasted (now (out .entry)) n (utf8 c) ⌝ }
+{
     if c < 0x10000 {
         let three = [(0xE0 + c / 4096 % 16) as u8, tail(c / 64), tail(c)];
         put(out, n, &three);

@@ -40,15 +40,15 @@ module _ {r s : List ℕ} (alike : Alike r s) where
 
   same-request : requestPacket r ≡ requestPacket s
   unfolding requestPacket
-  same-request = rw (same-request-length, rest 32)
+  same-request = cc (same-request-length, rest 32)
 
   pub same-response : responsePacket r ≡ responsePacket s
   unfolding responsePacket
-  same-response = rw (same-response-length, rest 2032)
+  same-response = cc (same-response-length, rest 2032)
 
   same-damage : recordBad r ≡ recordBad s
   unfolding recordBad
-  same-damage = rw (same-request-length, same-response-length, rest 32, rest 2032, rest 8)
+  same-damage = cc (same-request-length, same-response-length, rest 32, rest 2032, rest 8)
 
   undamaged-alike : Undamaged r → Undamaged s
   undamaged-alike u = undamaged-exactly s .0 (sym same-damage ∙ undamaged-exactly r .1 u)

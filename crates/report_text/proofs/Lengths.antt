@@ -6,8 +6,10 @@ use mathlib.Core.List.{List, [], _∷_}
 use native.Mathlib.Omega.{arith}
 use borrow.Author.Tests.{ltb-false}
 use lib.Dec.{eqb, ltb}
-use lib.ListN.{length, take}
+use lib.ListN.{length, take, length-take}
 use lib.Seq.{take-at}
+use mir.Syntax.{w64}
+use mir.Val.{Fits}
 use Rattle.laws.specs.Pasted.{fronted}
 use Rattle.laws.specs.Pick.{pick}
 use Rattle.laws.specs.Written.{written}
@@ -71,8 +73,8 @@ module _ {x : Read} {n : ℕ} (text : List ℕ) (e : x ≡ readOf (entriesOf tex
   unfolding entriesOf
   long = from-place text (listPlace text) 65536 n (sym e ∙ h)
 
-  pub few : n ≤ 16
-  few = long .0
+  pub few-fit : Fits w64 (n * 4096)
+  few-fit = let few = long .0 in record { fits = omega arith }
 
   -- what stands at the front of the buffer is the pile
   pub pile-front : {to : List ℕ} (was : List ℕ) → to ≡ written (readNumber x) (pileBytes (entriesOf text)) was
@@ -84,6 +86,10 @@ module _ {x : Read} {n : ℕ} (text : List ℕ) (e : x ≡ readOf (entriesOf tex
   pub front-count : {to : List ℕ} (was : List ℕ) → to ≡ written (readNumber x) (pileBytes (entriesOf text)) was
       → n * 4096 ≡ length (take (n * 4096) to)
   front-count was w = sym (ap length (pile-front was w) ∙ long .1)
+
+  pub front-inside : {to : List ℕ} (was : List ℕ) → to ≡ written (readNumber x) (pileBytes (entriesOf text)) was
+      → n * 4096 ≤ length to
+  front-inside {to} was w = omega (arith, front-count was w, length-take (n * 4096) to)
 
   -- the answer on the pile is the answer on the text
   pub text-cut : {r : Forwarded} {q o : List ℕ} (answers out : List ℕ) → q ≡ pileBytes (entriesOf text)

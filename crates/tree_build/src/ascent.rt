@@ -8,32 +8,29 @@ use super::Wanted;
 use super::level::FEW;
 use super::level::Few;
 use super::level::Many;
+use super::level::bottom_few;
+use super::level::bottom_many;
 use super::level::halved_few;
 use super::level::halved_many;
 use super::level::narrowed;
 use super::part::put_part;
-use super::row::bottom;
-use super::size::MOST;
 use super::size::width;
 
-// The root of the tree of depth d whose leaves are the first nodes of a small level. What is wanted of it is written
-// from index start of out on: siblings are those of the leaf at place.
+// The root of the tree of depth left whose leaves are the first nodes of a small level. What is wanted of it is written
+// from index at of out on: siblings are those of the leaf at place j.
 fn ascend_few(
     level: Few,
-    d: u32,
+    mut left: u32,
     wanted: Wanted,
-    place: usize,
+    mut j: usize,
     out: &mut [u8],
-    start: usize,
+    mut at: usize,
 ) -> [u8; 32]
-    requires { ⌜ (2 ^ d ≤ few) × Fits wanted d place start (length (now out)) ⌝ }
-    ensures { λ r. ⌜ Ascends level d wanted place (now (out .entry)) start (now (out .exit)) r ⌝ }
+    requires { ⌜ (2 ^ left ≤ few) × Fits wanted left j at (length (now out)) ⌝ }
+    ensures { λ r. ⌜ Ascends level left wanted j (now (out .entry)) at (now (out .exit)) r ⌝ }
 {
     let mut row = level;
-    let mut n = width(d);
-    let mut left = d;
-    let mut j = place;
-    let mut at = start;
+    let mut n = width(left);
     while 0 < left {
         at = put_part(wanted, &row, n, j, out, at);
         n = n / 2;
@@ -47,14 +44,18 @@ fn ascend_few(
 
 // The same of a large level, from the front of out on: it goes over to a small one as soon as its nodes have place
 // there.
-fn ascend_many(level: Many, d: u32, wanted: Wanted, place: usize, out: &mut [u8]) -> [u8; 32]
-    requires { ⌜ (few < 2 ^ d) × (2 ^ d ≤ most) × Fits wanted d place 0 (length (now out)) ⌝ }
-    ensures { λ r. ⌜ Ascends level d wanted place (now (out .entry)) 0 (now (out .exit)) r ⌝ }
+fn ascend_many(
+    level: Many,
+    mut left: u32,
+    wanted: Wanted,
+    mut j: usize,
+    out: &mut [u8],
+) -> [u8; 32]
+    requires { ⌜ (few < 2 ^ left) × (2 ^ left ≤ most) × Fits wanted left j 0 (length (now out)) ⌝ }
+    ensures { λ r. ⌜ Ascends level left wanted j (now (out .entry)) 0 (now (out .exit)) r ⌝ }
 {
     let mut row = level;
-    let mut n = width(d);
-    let mut left = d;
-    let mut j = place;
+    let mut n = width(left);
     let mut at: usize = 0;
     loop {
         at = put_part(wanted, &row, n, j, out, at);
@@ -87,13 +88,9 @@ pub fn ascend(
 {
     let n = width(d);
     if n <= FEW {
-        let mut row = [[0u8; 32]; FEW];
-        bottom(leaves, count, n, &mut row);
-        return ascend_few(row, d, wanted, place, out, 0);
+        return ascend_few(bottom_few(leaves, count, n), d, wanted, place, out, 0);
     }
-    let mut row = [[0u8; 32]; MOST];
-    bottom(leaves, count, n, &mut row);
-    ascend_many(row, d, wanted, place, out)
+    ascend_many(bottom_many(leaves, count, n), d, wanted, place, out)
 }
 
 // The same over leaves that stand at the front of out: they are all in the bottom level before anything is written.
@@ -105,11 +102,7 @@ pub fn ascend_over(out: &mut [u8], count: usize, d: u32, wanted: Wanted, place: 
 {
     let n = width(d);
     if n <= FEW {
-        let mut row = [[0u8; 32]; FEW];
-        bottom(out, count, n, &mut row);
-        return ascend_few(row, d, wanted, place, out, 0);
+        return ascend_few(bottom_few(out, count, n), d, wanted, place, out, 0);
     }
-    let mut row = [[0u8; 32]; MOST];
-    bottom(out, count, n, &mut row);
-    ascend_many(row, d, wanted, place, out)
+    ascend_many(bottom_many(out, count, n), d, wanted, place, out)
 }

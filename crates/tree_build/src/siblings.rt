@@ -29,8 +29,9 @@ pub fn put_node(node: [u8; 32], out: &mut [u8], at: usize)
     put(out, at, &node);
 }
 
-// The siblings of the leaf at place, leaf end first, at the front of out. A level has n nodes, from number first on.
-pub fn read_path(rows: &[u8], d: u32, place: usize, out: &mut [u8])
+// The siblings of the leaf at place, leaf end first, at the front of out. A level has n nodes, from number first on, and
+// on the way up d says how many levels are left, and place which node of the level is on the way.
+pub fn read_path(rows: &[u8], mut d: u32, mut place: usize, out: &mut [u8])
     requires { ⌜ CanRead (now rows) d place (length (now out)) ⌝ }
     ensures { λ _. ⌜
         Puts (now (out .entry)) 0 (flat (pathIn (now (rows .entry)) d place)) (now (out .exit)) (32 * d)
@@ -38,15 +39,13 @@ pub fn read_path(rows: &[u8], d: u32, place: usize, out: &mut [u8])
 {
     let mut first: usize = 0;
     let mut n = width(d);
-    let mut left = d;
-    let mut j = place;
     let mut at: usize = 0;
-    while 0 < left {
-        put_node(copy32(rows, 32 * (first + other(j))), out, at);
+    while 0 < d {
+        put_node(copy32(rows, 32 * (first + other(place))), out, at);
         first += n;
         n = n / 2;
-        j = j / 2;
+        place = place / 2;
         at += 32;
-        left -= 1;
+        d -= 1;
     }
 }

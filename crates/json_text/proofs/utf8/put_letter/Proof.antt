@@ -2,7 +2,7 @@ use borrow.Author.Needs.{needs}
 use native.Mathlib.Omega.{arith}
 use mathlib.Core.Path.{sym, ap}
 use lib.ListN.{length}
-use Rattle.json_text.proofs.Sizes.{utf8-one, utf8-two, utf8-three, utf8-four}
+use Rattle.json_text.proofs.Sizes.{utf8-one, utf8-two}
 use Rattle.json_text.proofs.utf8.put_letter.Statement.{statement}
 use Rattle.json_text.proofs.utf8.put_letter.Tie as tie
 
@@ -29,44 +29,6 @@ returns-2 c =
       sym (c .before .before .before .before .before .tail .ensures),
     ) (c .before .before .put2 .ensures)
 
-put-requires-3 : tie.Need-put-requires-3
-put-requires-3 c κs = omega (
-  arith,
-  ap length
-      (utf8-three (c .before .before .before .before .before .before .before .before .args .c) (omega arith)
-      (omega arith)),
-)
-
-returns-3 : tie.Need-returns-3
-returns-3 c =
-    rw (
-      utf8-three (c .before .before .before .before .before .before .before .before .before .before .before .args .c)
-          (omega arith) (omega arith),
-      sym (c .before .before .before .before .before .before .tail2 .ensures),
-      sym
-          (c .before .before .before .before .before .tail3 .ensures),
-    ) (c .before .before .put3 .ensures)
-
-put-requires-4 : tie.Need-put-requires-4
-put-requires-4 c κs = omega (
-  arith,
-  ap length
-      (utf8-four (c .before .before .before .before .before .before .before .before .before .args .c) (omega arith)),
-)
-
-returns-4 : tie.Need-returns-4
-returns-4 c =
-    rw (
-      utf8-four
-          (c .before .before .before .before .before .before .before .before .before .before .before .before .args .c)
-          (omega arith),
-      sym (c .before .before .before .before .before .before .before .tail4 .ensures),
-      sym
-          (c .before .before .before .before .before .before .tail5 .ensures),
-      sym
-          (c .before .before .before .before .before .tail6 .ensures),
-    ) (c .before .before .put4 .ensures)
-
 pub put-letter-spec : {M : Type 1} → statement M
 put-letter-spec =
     tie.close
@@ -83,20 +45,6 @@ put-letter-spec =
     put-requires-2
     (λ c. search needs)
     returns-2
-    (λ c. search needs)
-    (λ c. search needs)
-    (λ c κs. search needs)
     (λ c κs. search needs)
     (λ c. search needs)
-    put-requires-3
-    (λ c. search needs)
-    returns-3
-    (λ c. search needs)
-    (λ c. search needs)
-    (λ c κs. search needs)
-    (λ c κs. search needs)
-    (λ c κs. search needs)
-    (λ c. search needs)
-    put-requires-4
-    (λ c. search needs)
-    returns-4)
+    (λ c. c .before .before .put-long .ensures))

@@ -12,11 +12,11 @@ use Rattle.tree_build.proofs.ascent.ascend_few.Statement.{statement}
 use Rattle.tree_build.proofs.ascent.ascend_few.Tie as tie
 
 abbrev Inv-loop : tie.InvT-loop
-Inv-loop d wanted place out₀ start row₀ n₀ left₀ j₀ at₀ out row n left j at =
-    Ascending row₀ d wanted place out₀ start few left n row j at out
+Inv-loop left₀ wanted j₀ out₀ at₀ row₀ n₀ left j out at row n =
+    Ascending row₀ left₀ wanted j₀ out₀ at₀ few left n row j at out
 
 abbrev μ-loop : tie.MeasureT-loop
-μ-loop d wanted place out₀ start row₀ n₀ left₀ j₀ at₀ out row n left j at = left
+μ-loop left₀ wanted j₀ out₀ at₀ row₀ n₀ left j out at row n = left
 
 loop-holds : tie.Need-loop-holds Inv-loop μ-loop
 loop-holds c =

@@ -14,11 +14,11 @@ use Rattle.tree_build.proofs.ascent.ascend_many.Statement.{statement}
 use Rattle.tree_build.proofs.ascent.ascend_many.Tie as tie
 
 abbrev Inv-loop : tie.InvT-loop
-Inv-loop d wanted place out₀ row₀ n₀ left₀ j₀ at₀ out row n left j at =
-    Ascending row₀ d wanted place out₀ 0 most left n row j at out × (0 < left)
+Inv-loop left₀ wanted j₀ out₀ row₀ n₀ at₀ left j out row n at =
+    Ascending row₀ left₀ wanted j₀ out₀ 0 most left n row j at out × (0 < left)
 
 abbrev μ-loop : tie.MeasureT-loop
-μ-loop d wanted place out₀ row₀ n₀ left₀ j₀ at₀ out row n left j at = left
+μ-loop left₀ wanted j₀ out₀ row₀ n₀ at₀ left j out row n at = left
 
 loop-holds : tie.Need-loop-holds Inv-loop μ-loop
 loop-holds c =

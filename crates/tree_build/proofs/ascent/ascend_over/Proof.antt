@@ -1,6 +1,5 @@
 -- `tree_build::ascent::ascend_over` meets its contract: the bottom level is a small one or a large one.
 use native.Mathlib.Omega.{arith}
-use Rattle.laws.proofs.Written.{puts-length}
 use Rattle.tree_build.proofs.Ascending.{ascending-first, ascending-rest}
 use borrow.Author.Needs.{needs}
 use Rattle.tree_build.proofs.ascent.ascend_over.Statement.{statement}
@@ -9,21 +8,21 @@ use Rattle.tree_build.proofs.ascent.ascend_over.Tie as tie
 returns : tie.Need-returns
 returns c =
     let at-few = c .before .before in
-    let at-bottom = at-few .before .before .before in
-    let at-width = at-bottom .before .before .before .before in
+    let at-bottom = at-few .before .before in
+    let at-width = at-bottom .before .before .before in
     let s = at-width .before .before in
-    let level = at-bottom .bottom .ensures in
+    let level = at-bottom .bottom-few .ensures in
     ascending-rest (ascending-first (at-width .width .ensures) (s .pre .0 .deep) (omega arith) level (s .pre .1))
     (at-few .ascend-few .ensures)
 
 returns-2 : tie.Need-returns-2
 returns-2 c =
     let at-many = c .before .before in
-    let at-bottom = at-many .before .before .before in
-    let at-width = at-bottom .before .before .before .before in
+    let at-bottom = at-many .before .before in
+    let at-width = at-bottom .before .before .before in
     let s = at-width .before .before in
     let deep = s .pre .0 .deep in
-    let level = at-bottom .bottom2 .ensures in
+    let level = at-bottom .bottom-many .ensures in
     ascending-rest (ascending-first (at-width .width .ensures) deep deep level (s .pre .1))
     (at-many .ascend-many .ensures)
 
@@ -32,13 +31,11 @@ ascend-over-spec =
     tie.close
     (tie.spec
     (λ c κs. search needs)
-    (λ c. search needs)
     (λ c κs. search needs)
     (λ c κs. search needs)
-    (λ c. puts-length (returns c .puts))
+    (λ c. c .before .out .given)
     returns
-    (λ c. search needs)
     (λ c κs. search needs)
     (λ c κs. search needs)
-    (λ c. puts-length (returns-2 c .puts))
+    (λ c. c .before .out2 .given)
     returns-2)

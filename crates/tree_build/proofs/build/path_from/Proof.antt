@@ -1,5 +1,6 @@
 -- `tree_build::build::path_from` meets its contract. Each way out has its law, and what is left in the buffer has one.
 use mathlib.Core.Path.{refl}
+use native.Mathlib.Nat.{lt-of-lt-of-le}
 use Rattle.tree_build.proofs.Leaves.{held-rows}
 use Rattle.tree_build.proofs.BuildingLaws.{path-none, path-short, path-written, from-left}
 use borrow.Author.Needs.{needs}
@@ -21,13 +22,27 @@ returns-2 c =
       rw (c .refuse2 .ensures),
     )
 
+read-path-requires : tie.Need-read-path-requires
+read-path-requires c κs =
+    let fits = c .before in
+    let d = fits .before .depth .ensures in
+    let there = fits .before .before in
+    record {
+      deep = d .1;
+      held = held-rows _ _ (there .before .held-of .ensures .0) (there .if1 .left) (d .0);
+      inside = lt-of-lt-of-le (there .if1 .left) (d .2);
+      enough = fits .if2 .left;
+    }
+
 returns-3 : tie.Need-returns-3
 returns-3 c =
-    let fits = c .before .before .before .before in
-    let there = fits .before .before in (
-      path-written (there .before .held-of .ensures .0) (fits .before .depth .ensures .0) (there .if1 .left) refl
-          (fits .if2 .left),
-      search (from-left, needs),
+    let at-read = c .before .before in
+    let fits = at-read .before .before in
+    let there = fits .before .before in
+    let n = there .before .held-of .ensures .0 in
+    let d = fits .before .depth .ensures .0 in (
+      path-written n d (there .if1 .left) refl (fits .if2 .left),
+      from-left _ _ n (there .if1 .left) d (at-read .read-path .ensures),
     )
 
 pub path-from-spec : {M : Type 1} → statement M
@@ -42,7 +57,7 @@ path-from-spec =
     (λ c. search needs)
     (λ c κs. search needs)
     returns-2
-    (λ c κs. search (held-rows, needs))
+    read-path-requires
     (λ c. search needs)
     (λ c. search needs)
     returns-3)

@@ -13,11 +13,11 @@ use Rattle.tree_build.proofs.siblings.read_path.Statement.{statement}
 use Rattle.tree_build.proofs.siblings.read_path.Tie as tie
 
 abbrev Inv-loop : tie.InvT-loop
-Inv-loop rows d place out₀ first₀ n₀ left₀ j₀ at₀ out first n left j at =
-    (first + 2 * n ≡ 2 * 2 ^ d) × Writing Sibling (laidAt rows d) d place out₀ 0 n left j at out
+Inv-loop rows d₀ place₀ out₀ first₀ n₀ at₀ d place out first n at =
+    (first + 2 * n ≡ 2 * 2 ^ d₀) × Writing Sibling (laidAt rows d₀) d₀ place₀ out₀ 0 n d place at out
 
 abbrev μ-loop : tie.MeasureT-loop
-μ-loop rows d place out₀ first₀ n₀ left₀ j₀ at₀ out first n left j at = left
+μ-loop rows d₀ place₀ out₀ first₀ n₀ at₀ d place out first n at = d
 
 loop-holds : tie.Need-loop-holds Inv-loop μ-loop
 loop-holds c =
