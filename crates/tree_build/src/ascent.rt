@@ -44,13 +44,7 @@ fn ascend_few(
 
 // The same of a large level, from the front of out on: it goes over to a small one as soon as its nodes have place
 // there.
-fn ascend_many(
-    level: Many,
-    mut left: u32,
-    wanted: Wanted,
-    mut j: usize,
-    out: &mut [u8],
-) -> [u8; 32]
+fn ascend_many(level: Many, mut left: u32, wanted: Wanted, mut j: usize, out: &mut [u8]) -> [u8; 32]
     requires { ⌜ (few < 2 ^ left) × (2 ^ left ≤ most) × Fits wanted left j 0 (length (now out)) ⌝ }
     ensures { λ r. ⌜ Ascends level left wanted j (now (out .entry)) 0 (now (out .exit)) r ⌝ }
 {

@@ -1,6 +1,6 @@
 -- `tree_build::build::path_from` meets its contract. Each way out has its law, and what is left in the buffer has one.
 use mathlib.Core.Path.{refl}
-use native.Mathlib.Nat.{lt-of-lt-of-le}
+use native.Mathlib.Omega.{arith}
 use Rattle.tree_build.proofs.Leaves.{held-rows}
 use Rattle.tree_build.proofs.BuildingLaws.{path-none, path-short, path-written, from-left}
 use borrow.Author.Needs.{needs}
@@ -30,7 +30,7 @@ read-path-requires c κs =
     record {
       deep = d .1;
       held = held-rows _ _ (there .before .held-of .ensures .0) (there .if1 .left) (d .0);
-      inside = lt-of-lt-of-le (there .if1 .left) (d .2);
+      inside = omega (arith, there .if1 .left, d .2);
       enough = fits .if2 .left;
     }
 
