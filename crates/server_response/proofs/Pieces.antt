@@ -1,44 +1,46 @@
 -- The two pieces of a response that the writer puts into the buffer, one after the other: they are the packet of its
 -- fields.
-use Prim.Native.Nat.{ℕ, _+_, _≤_}
-use mathlib.Core.Path.{_≡_, refl, sym, ap, _∙_}
+use Prim.Native.Nat.{ℕ, _+_}
+use mathlib.Core.Path.{_≡_, ap, _∙_}
 use mathlib.Core.List.{List, [], _∷_, _++_, append-assoc}
 use native.Mathlib.Omega.{arith}
 use lib.ListN.{length, length-append}
 use Rattle.laws.specs.Numbers.{leBytes}
-use Rattle.laws.specs.Pasted.{pasted}
-use Rattle.laws.proofs.Written.{puts-one, puts-put, puts-as}
 use Rattle.wire_message.specs.Encode.{words, starts, offsets, tags, values, encode}
 use Rattle.wire_message.specs.Tags.{SIG, NONC, TYPE, PATH, SREP, CERT, INDX}
 use Rattle.server_parts.specs.Signed.{srepBytes}
 use Rattle.server_parts.proofs.Pieces.{length-srep}
-use Rattle.wire_packet.specs.Packet.{packetOf}
+use Rattle.wire_packet.specs.Packet.{mark, packetOf}
 use Rattle.wire_packet.proofs.Packets.{length-packet}
 use Rattle.server_response.specs.Response.{Reply, nonceOf, responseFields, responseBytes}
-use Rattle.server_response.specs.Steps.{headBytes, frontBytes, behindBytes, restBytes}
+use Rattle.server_response.specs.Steps.{frontBytes, behindBytes, restBytes}
 
 -- ---- the two pieces, from the left
 
+abbrev pub front-words : ℕ → ℕ → List ℕ
+front-words p c =
+    words
+    ((252 + p + c)
+    ∷ 7
+    ∷ 64
+    ∷ 96
+    ∷ 100
+    ∷ (100 + p)
+    ∷ (192 + p)
+    ∷ (192 + p + c)
+    ∷ SIG
+    ∷ NONC
+    ∷ TYPE
+    ∷ PATH
+    ∷ SREP
+    ∷ CERT
+    ∷ INDX
+    ∷ [])
+
 pub front-is : (signature nonce : List ℕ) (p c : ℕ) → frontBytes signature nonce p c
-    ≡ ((headBytes p c ++ signature) ++ nonce) ++ words (1 ∷ [])
+    ≡ (((mark ++ front-words p c) ++ signature) ++ nonce) ++ words (1 ∷ [])
 unfolding frontBytes
 front-is signature nonce p c = simp append-assoc
-
-pub length-head : (p c : ℕ) → length (headBytes p c) ≡ 68
-unfolding headBytes words leBytes
-length-head p c = refl
-
--- put one after the other, from the front of a buffer
-pub front-put : {d e f g : List ℕ} (o signature nonce : List ℕ) (p c : ℕ) → length signature ≡ 64 → length nonce ≡ 32
-    → 168 ≤ length o → d ≡ pasted o 0 (headBytes p c) → e ≡ pasted d 68 signature → f ≡ pasted e 132 nonce
-    → g ≡ pasted f 164 (words (1 ∷ [])) → g ≡ pasted o 0 (frontBytes signature nonce p c)
-unfolding words leBytes
-front-put o signature nonce p c s64 n32 room d e f g =
-    let w1 = puts-one (headBytes p c) 68 d (omega (arith, length-head p c)) (omega arith) in
-    let w2 = puts-put signature 132 w1 e (omega arith) (omega arith) in
-    let w3 = puts-put nonce 164 w2 f (omega arith) (omega arith) in
-    let w4 = puts-put (words (1 ∷ [])) 168 w3 g refl (omega arith) in
-    puts-as (sym (front-is signature nonce p c)) w4 .is
 
 pub behind-is : (root : List ℕ) (midp radi : ℕ) (cert : List ℕ) (indx : ℕ) → behindBytes root midp radi cert indx
     ≡ (srepBytes root midp radi ++ cert) ++ words (indx ∷ [])
@@ -48,8 +50,7 @@ behind-is root midp radi cert indx = simp append-assoc
 pub length-front : (signature nonce : List ℕ) (p c : ℕ) → length signature ≡ 64 → length nonce ≡ 32
     → length (frontBytes signature nonce p c) ≡ 168
 unfolding words leBytes
-length-front signature nonce p c s64 n32 =
-    ap length (front-is signature nonce p c) ∙ simp (length-append, length-head p c, s64, n32)
+length-front signature nonce p c s64 n32 = ap length (front-is signature nonce p c) ∙ simp (length-append, s64, n32)
 
 pub length-behind : (root : List ℕ) (midp radi : ℕ) (cert : List ℕ) (indx : ℕ) → length root ≡ 32
     → length (behindBytes root midp radi cert indx) ≡ 96 + length cert
@@ -103,7 +104,7 @@ module _ (a : Reply) (ok : Sized a) where
   -- the two pieces
   pub response-is : responseBytes a
       ≡ frontBytes (a .signature) (nonceOf a) p c ++ restBytes (a .path) (a .root) (a .midp) (a .radi) (a .cert) (a .indx)
-  unfolding responseBytes packetOf headBytes frontBytes restBytes behindBytes words leBytes values
+  unfolding responseBytes packetOf frontBytes restBytes behindBytes words leBytes values
   response-is = rw (length-message, message-is) (simp append-assoc)
 
   -- 264 bytes, the path and CERT

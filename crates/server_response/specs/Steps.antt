@@ -28,11 +28,12 @@ testsCode request indx root path midp radi cert =
     ∷ fitCode request midp cert (264 + length path + length cert)
     ∷ [])
 
--- the mark, the length and the header of the message, whose path has p bytes, and CERT c
-unfoldable pub headBytes : ℕ → ℕ → List ℕ
-headBytes p c =
+-- the bytes before the path, of which there are p, and of CERT c: the mark, the length, the header of the message, and
+-- the first three values
+unfoldable pub frontBytes : List ℕ → List ℕ → ℕ → ℕ → List ℕ
+frontBytes signature nonce p c =
     mark
-    ++ words
+    ++ (words
     ((252 + p + c)
     ∷ 7
     ∷ 64
@@ -49,10 +50,7 @@ headBytes p c =
     ∷ CERT
     ∷ INDX
     ∷ [])
-
--- the bytes before the path: these, and the first three values
-unfoldable pub frontBytes : List ℕ → List ℕ → ℕ → ℕ → List ℕ
-frontBytes signature nonce p c = headBytes p c ++ (signature ++ (nonce ++ words (1 ∷ [])))
+    ++ (signature ++ (nonce ++ words (1 ∷ []))))
 
 -- the bytes behind the path
 unfoldable pub behindBytes : List ℕ → ℕ → ℕ → List ℕ → ℕ → List ℕ

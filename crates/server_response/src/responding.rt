@@ -7,7 +7,7 @@ ghost use Rattle.laws.specs.Written.{written};
 ghost use Rattle.wire_request.specs.Answered.{wroteNumber, answered};
 ghost use Rattle.server_response.specs.Refusing.{replyCode};
 ghost use Rattle.server_response.specs.Response.{reply, responseBytes};
-ghost use Rattle.server_response.specs.Steps.{headBytes, frontBytes, behindBytes, restBytes};
+ghost use Rattle.server_response.specs.Steps.{frontBytes, behindBytes, restBytes};
 use super::refusing::tests_code;
 use octets::put;
 use refusal::codes;
@@ -72,20 +72,9 @@ pub fn put_front(dst: &mut [u8], signature: [u8; 64], nonce: [u8; 32], p: u32, c
     requires { ⌜ (168 ≤ length (now dst)) × (p + c ≤ 2000) ⌝ }
     ensures { λ _. ⌜ now (dst .exit) ≡ pasted (now (dst .entry)) 0 (frontBytes signature nonce p c) ⌝ }
 {
-    put_head(dst, p, c);
-    put(dst, 68, &signature);
-    put(dst, 132, &nonce);
-    // A response has TYPE 1.
-    put_words(dst, 164, &[1]);
-}
-
-// The mark and the header: the length of the message; its seven values, of which the later six start at 64, 96, 100,
-// behind the path, behind SREP and behind CERT; and the tags.
-fn put_head(dst: &mut [u8], p: u32, c: u32)
-    requires { ⌜ (68 ≤ length (now dst)) × (p + c ≤ 2000) ⌝ }
-    ensures { λ _. ⌜ now (dst .exit) ≡ pasted (now (dst .entry)) 0 (headBytes p c) ⌝ }
-{
     put(dst, 0, &MARK);
+    // The length of the message; its seven values, of which the later six start at 64, 96, 100, behind the path, behind
+    // SREP and behind CERT; and the tags.
     put_words(
         dst,
         8,
@@ -107,6 +96,10 @@ fn put_head(dst: &mut [u8], p: u32, c: u32)
             INDX,
         ],
     );
+    put(dst, 68, &signature);
+    put(dst, 132, &nonce);
+    // A response has TYPE 1.
+    put_words(dst, 164, &[1]);
 }
 
 // The path, and what stands behind it.
