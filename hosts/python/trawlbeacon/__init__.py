@@ -38,7 +38,7 @@ from .piles import LONGEST_REPORT, MOST_RECORDS, RECORD_LENGTH, Cut, Pair, Pile,
 from .reports import CutText, cut_report, read_report
 from .walks import FEWEST_SERVERS, MOST_SERVERS, Asked, Outcome, Taken, Walk
 
-__version__ = "1.3.0"
+__version__ = "1.3.1"
 
 __all__ = [
     "CLOCK_SERVERS",
