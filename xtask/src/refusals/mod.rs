@@ -27,7 +27,7 @@ pub fn check(tree: &Tree, words: &[&str]) -> Verdict {
         _ => return Err(Wrong::Usage),
     };
     let rows = of_run(tree, said)?;
-    let mut problems = never_right(&rows);
+    let mut problems = [never_right(&rows), shared(&rows)].concat();
     if write {
         whole::put(&tree.path(LIST), list::text(&rows).as_bytes())?;
     } else {
@@ -86,6 +86,19 @@ fn never_right(rows: &[Row]) -> Vec<String> {
         "only shows that the proof no longer fits the code, and no false fact: give the edit \
                 the proof's lines that fit it";
     unfit.map(|row| format!("{}: {} {what}", row.log, row.name)).collect()
+}
+
+/// Two wrong programs that change one function have one error between them, which is no evidence of
+/// either.
+fn shared(rows: &[Row]) -> Vec<String> {
+    let mut first: BTreeMap<&str, &str> = BTreeMap::new();
+    let mut problems = Vec::new();
+    for Row { name, log, .. } in rows {
+        if let Some(other) = first.insert(log, name) {
+            problems.push(format!("{log}: {other} and {name} change one function: try them apart"));
+        }
+    }
+    problems
 }
 
 fn differences(kept: &[(usize, Row)], rows: &[Row], said: &str) -> Vec<String> {

@@ -235,3 +235,15 @@ fn one_of_two_that_only_rests_on_the_other_is_unfit() {
     let problems = found(checked(&scratch, &[]));
     assert!(problems[0].contains("a/up only shows that the proof no longer fits"), "{problems:?}");
 }
+
+#[test]
+fn two_that_change_one_function_are_found() {
+    let scratch = together();
+    let edit = "crates/a/must-fail/both.edit";
+    scratch.alter(edit, "file: src/low/down.rt\nold: y - 1", "file: src/lib.rt\nold: { x");
+    scratch.alter("crates/a/src/lib.rt", "{\n    x + 1", "{ x\n    x + 1");
+    scratch.put(LIST, "a/down proofs/up/Proof.antt false\na/up proofs/up/Proof.antt false\n");
+    let problems = found(checked(&scratch, &[]));
+    assert_eq!(problems.len(), 1, "{problems:?}");
+    assert!(problems[0].ends_with("a/down and a/up change one function: try them apart"));
+}
