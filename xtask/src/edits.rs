@@ -3,20 +3,25 @@
 
 use crate::report::{at, no_words, unless, Verdict};
 use crate::scan::numbered;
-use crate::tree::{Edit, Tree};
+use crate::tree::{Edit, Tree, PROGRAM};
+use std::collections::BTreeSet;
 
 pub fn check(tree: &Tree, words: &[&str]) -> Verdict {
     no_words(words)?;
     let edits = tree.edits();
     let mut problems = Vec::new();
+    let mut named = BTreeSet::new();
     for edit in &edits {
         problems.extend(misfits(tree, edit));
+        if !named.insert(edit.full()) {
+            problems.push(at(&edit.file, 1, &format!("{} has its name twice", edit.full())));
+        }
     }
     unless(problems, format!("{} wrong programs fit the files that they change", edits.len()))
 }
 
-/// What is wrong with the replacements of one wrong program. One that is tried together with others
-/// names the files that it changes itself.
+/// What is wrong with the replacements of one wrong program. One of several names its own files, and
+/// nothing stands before the first of them, since rt would replace that, too.
 fn misfits(tree: &Tree, edit: &Edit) -> Vec<String> {
     let whole = tree.read(&edit.file).unwrap_or_default();
     let before = whole.find(&edit.text).map_or(0, |start| whole[..start].lines().count());
@@ -35,6 +40,9 @@ fn misfits(tree: &Tree, edit: &Edit) -> Vec<String> {
                 problems.push(at(&edit.file, number, &what));
             }
         }
+    }
+    if !edit.alone && !whole.starts_with(PROGRAM) {
+        problems.push(at(&edit.file, 1, "has lines before its first wrong program"));
     }
     if replaced == 0 {
         problems.push(at(&edit.file, before + 1, "has no line 'old: ' and so replaces nothing"));
@@ -97,6 +105,17 @@ mod tests {
         tree.put(EDIT, other);
         let due = [format!("{EDIT}:6: stands 0 times in , and not once: x + 1")];
         assert_eq!(found(check(&tree.tree(), &[])), due);
+    }
+
+    #[test]
+    fn a_name_that_stands_twice_and_lines_before_the_first_are_found() {
+        let tree = right();
+        let one = "file: src/lib.rt\nold: y\nnew: z\n";
+        tree.put("crates/a/must-fail/two.edit", &format!("program: one\n{one}"));
+        assert_eq!(found(check(&tree.tree(), &[])).len(), 1);
+        tree.put("crates/a/must-fail/two.edit", &format!("{one}program: two\n{one}"));
+        let due = "two.edit:1: has lines before its first wrong program";
+        assert!(found(check(&tree.tree(), &[]))[0].ends_with(due));
     }
 
     #[test]

@@ -67,7 +67,8 @@ fn lacking(text: &str, edits: &[Edit], theorems: &[Theorem]) -> Vec<String> {
     let named: BTreeSet<&str> = quoted(text).into_iter().map(|(_, name)| last(name)).collect();
     let edits = edits.iter().filter(|edit| !named.contains(edit.name.as_str()));
     let theorems = theorems.iter().filter(|theorem| !named.contains(theorem.name.as_str()));
-    let edits = edits.map(|edit| at(&edit.file, 1, &format!("{PAGE} lacks this wrong program")));
+    let edits = edits
+        .map(|edit| at(&edit.file, 1, &format!("{PAGE} lacks the wrong program {}", edit.name)));
     let theorems = theorems.map(|theorem| {
         at(&theorem.file, theorem.line, &format!("{PAGE} lacks the theorem {}", theorem.name))
     });
@@ -141,7 +142,8 @@ mod tests {
     fn a_wrong_program_that_the_page_lacks_is_found() {
         let tree = right();
         tree.put("crates/low_1/must-fail/new.edit", "");
-        let due = "crates/low_1/must-fail/new.edit:1: docs/STATEMENTS.md lacks this wrong program";
+        let due =
+            "crates/low_1/must-fail/new.edit:1: docs/STATEMENTS.md lacks the wrong program new";
         assert_eq!(found(check(&tree.tree(), &[])), [due]);
     }
 

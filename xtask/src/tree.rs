@@ -17,29 +17,27 @@ pub struct Edit {
     pub file: String,
     pub tried: String,
     pub text: String,
+    /// Whether it is tried by itself.
+    pub alone: bool,
 }
 
 /// What stands before the name of a wrong program that is tried together with others.
-const PROGRAM: &str = "program: ";
+pub const PROGRAM: &str = "program: ";
 
 impl Edit {
     pub fn full(&self) -> String {
         format!("{}/{}", self.krate, self.name)
     }
 
-    /// Whether it is tried by itself.
-    pub fn is_alone(&self) -> bool {
-        self.full() == self.tried
-    }
-
     /// Those of a file.
     fn of_file(krate: &str, stem: &str, file: &str, text: &str) -> Vec<Edit> {
-        let edit = |name: &str, text: &str| Edit {
+        let edit = |name: &str, text: &str, alone| Edit {
             krate: krate.into(),
             name: name.into(),
             file: file.into(),
             tried: format!("{krate}/{stem}"),
             text: text.into(),
+            alone,
         };
         let mut parts: Vec<(&str, String)> = Vec::new();
         for line in text.lines() {
@@ -50,8 +48,8 @@ impl Edit {
             }
         }
         match parts[..] {
-            [] => vec![edit(stem, text)],
-            _ => parts.iter().map(|(name, part)| edit(name, part)).collect(),
+            [] => vec![edit(stem, text, true)],
+            _ => parts.iter().map(|(name, part)| edit(name, part, false)).collect(),
         }
     }
 }
@@ -208,7 +206,7 @@ mod tests {
         assert_eq!([up.full(), down.full()], ["a/up", "a/down"]);
         assert_eq!([&*up.text, &*down.text], ["# more\nold: 1\n", "# less\n"]);
         assert_eq!([&*up.tried, &*down.tried], ["a/both"; 2]);
-        assert!(!up.is_alone() && !down.is_alone());
+        assert!(!up.alone && !down.alone);
     }
 
     #[test]

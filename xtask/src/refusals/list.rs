@@ -1,4 +1,4 @@
-//! The kept list, a line for each wrong program: its name, the file of its first error, and the
+//! The kept list, a line for each wrong program: its name, the file of its own first error, and the
 //! kind of that error, with blanks between.
 
 use super::kind::Kind;

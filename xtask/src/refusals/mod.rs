@@ -1,9 +1,9 @@
 //! Holds where and why each wrong program is refused to tools/refusals.txt: the file of its first
 //! error, as the saved output of rt names it, and the kind of that error, as its log in
-//! target/must-fail shows it. There it was read that a program is refused for what its first line
+//! target/must-fail shows it. Of several that are tried together it is the first error of each in the
+//! function that it changes. There it was read that a program is refused for what its first line
 //! says. Where a proof moved and another refuses it, that is to be read again; then --write writes
-//! the list anew, of an output that has every wrong program. Of several that are tried together each
-//! must be refused by itself.
+//! the list anew, of an output that has every wrong program.
 
 mod first;
 mod kind;
@@ -69,12 +69,11 @@ fn of_one(
     let place = place.ok_or_else(|| format!("{said}: does not have {tried} as refused"))?;
     let bytes = fs::read(tree.path(&log)).map_err(|why| format!("{log} cannot be read: {why}"))?;
     let text = String::from_utf8_lossy(&bytes);
-    let (file, line, error) = if edit.is_alone() {
+    let (file, line, error) = if edit.alone {
         let (line, error) = first::error(&text);
         (place.to_string(), line, error)
     } else {
-        own::error(tree, edit, &text)
-            .ok_or_else(|| format!("{log}: has no error of the function that {name} changes"))?
+        own::error(tree, edit, &text).map_err(|why| format!("{log}: {why}"))?
     };
     Ok(Row { name, file, kind: Kind::of(&error), log: format!("{log}:{line}") })
 }

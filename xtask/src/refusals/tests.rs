@@ -217,7 +217,7 @@ fn of_two_that_are_tried_together_each_has_its_own_error() {
 #[test]
 fn one_of_two_that_has_no_error_of_its_own_is_found() {
     let log = "target/must-fail/a/both/.log";
-    for (old, new) in [("proofs/up/", "proofs/low/up/"), ("down.rt:3", "down.rt:1")] {
+    for (old, new) in [("proofs/up/", "proofs/low/up/"), ("down.rt:3:1: it", "down.rt:1:1: it")] {
         let scratch = together();
         scratch.alter(log, old, new);
         let problems = found(checked(&scratch, &[]));
@@ -246,4 +246,26 @@ fn two_that_change_one_function_are_found() {
     let problems = found(checked(&scratch, &[]));
     assert_eq!(problems.len(), 1, "{problems:?}");
     assert!(problems[0].ends_with("a/down and a/up change one function: try them apart"));
+}
+
+#[test]
+fn what_changes_more_than_a_function_is_to_be_tried_alone() {
+    let edit = "crates/a/must-fail/both.edit";
+    for (new, why) in [
+        ("old: mod low;\nnew: ;\nprogram: down", "changes code that is in no function"),
+        ("file: src/low/down.rt\nold: fn z() {\nnew: x\nprogram: down", "changes two functions"),
+        (
+            "file: specs/A.antt\nold: x\nnew: y\nprogram: down",
+            "changes what other functions rest on",
+        ),
+    ] {
+        let scratch = together();
+        scratch.alter(edit, "program: down", new);
+        let problems = found(checked(&scratch, &[]));
+        assert_eq!(problems.len(), 1, "{problems:?}");
+        assert!(
+            problems[0].ends_with(&format!("a/up is to be tried alone: it {why}")),
+            "{problems:?}"
+        );
+    }
 }
