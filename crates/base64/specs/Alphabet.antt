@@ -13,7 +13,7 @@ letterOf n =
     pick (ltb n 26) (n + code "A") (pick (ltb n 52) (n - 26 + code "a") (pick (ltb n 62) (n - 52 + code "0")
     (pick (eqb n 62) (code "+") (code "/"))))
 
--- For the private functions: the same as a list, by which `letterOf` is looked up
+-- For the private functions: the letters of 0 to 63, as a list
 abbrev pub letters : List ℕ
 letters = ascii "ABCDEFGHIJKLMNOPQRSTUVWXYZabcdefghijklmnopqrstuvwxyz0123456789+/"
 

@@ -1,5 +1,5 @@
-// The alphabet: RFC 4648, table 1. A letter is read by tests and not by a table, since a table is copied wherever it is
-// named; to write, who names it lends it.
+// The alphabet: RFC 4648, table 1. Letters are read by tests, since a table is copied wherever it is named. `encode`
+// names it once and lends it.
 ghost use mathlib.Core.Path.{_≡_};
 ghost use Prim.Native.Nat.{_≤_, _<_};
 ghost use Rattle.base64.specs.Alphabet.{letters, letterOf, sextetOf};

@@ -104,7 +104,7 @@ fn look_by(
     }
 }
 
-// The same where one of its letters is escaped, or is more than a byte.
+// The same where one of its letters is escaped, or is more than a byte, or where it is no string.
 fn look_at_all(
     s: &[u8],
     k: usize,

@@ -77,8 +77,8 @@ fn quad_escaped(s: &[u8], k: usize) -> Quad
     Quad::Four(base64::group_of(a, b, c, d), k + 24)
 }
 
-// The four characters at a place, each of which stands for itself, or one by one where one does not: such are the pads
-// at a string's end.
+// The four characters at a place, as with pads at a string's end: together where each stands for itself, else one by
+// one.
 fn quad_plain(s: &[u8], k: usize) -> Quad
     requires { ⌜ k < length (now s) ⌝ }
     ensures { λ r. ⌜ QuadOf (now (s .entry)) k r ⌝ }

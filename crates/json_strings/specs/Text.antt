@@ -153,7 +153,7 @@ pub record Alike (s : List ℕ) (at : ℕ) (w : List ℕ) (r : ℕ) : Type 0 whe
   pub on : at ≤ r
   pub another : unescaped (getD s r 0) ≡ true → false ≡ sameList (contentAt s r) (drop (r - at) w)
 
--- and a string at its opening quote that ends before r, each of whose characters stands for itself
+-- ---- For `simple`: the string at its opening quote ends before r, and has a character for each byte.
 pub record Simple (s : List ℕ) (at r : ℕ) : Type 0 where
   pub ends : stringAt s at ≡ Past r
   pub long : r ≡ at + length (contentAt s (at + 1)) + 2

@@ -6,7 +6,8 @@ use lib.ListN.{length, drop}
 use Rattle.laws.specs.Pasted.{part}
 use Rattle.list_write.specs.Lent.{Lent, lent, total}
 
--- servers by their names and addresses, for what does not look at keys and versions; and by their addresses alone
+-- servers by their names and addresses, for what does not look at keys and versions; and by their addresses alone.
+-- Lengths stand in for the versions, of which only the number counts.
 abbrev pub keyless : List ℕ → List ℕ → List ℕ → List ℕ → Lent
 keyless ns nl xs al = lent [] nl ns nl xs al
 

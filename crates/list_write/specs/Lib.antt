@@ -1,4 +1,5 @@
 -- What list_write's contracts cite: what is lent, which lines are good, the text that is written, and the answers.
+-- Facts is for the private functions.
 pub mod Decimal
 pub mod Lines
 pub mod Given

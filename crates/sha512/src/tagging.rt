@@ -1,4 +1,5 @@
-// SHA-512 of a byte and a slice, as leaves and SRV values are. Both are open to all: blocks of zeros take less time.
+// SHA-512 of a byte and a slice, as leaves and SRV values are. Both are open to all, and a block of zeros in a leaf takes
+// less time: never of secret bytes.
 ghost use mathlib.Core.Path.{_≡_};
 ghost use mathlib.Core.List.{_∷_};
 ghost use Rattle.sha512.specs.Computation.{Sha512};

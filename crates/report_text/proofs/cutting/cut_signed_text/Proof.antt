@@ -1,5 +1,4 @@
 -- `report_text::cutting::cut_signed_text` meets its contract.
-use borrow.Author.Needs.{needs}
 use mathlib.Core.Path.{sym}
 use Prim.Native.Nat.{ℕ}
 use lib.ListN.{length-replicate}
