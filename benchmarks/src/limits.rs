@@ -7,7 +7,7 @@ pub struct Limit {
     pub name: &'static str,
     pub highest: f64,
     /// The highest ratio of ordinary runs so far: those of one aarch64, also while others used it;
-    /// of what verifies, and of lists, those of one x86-64. [`UNMET`] where no run held it yet.
+    /// of what verifies, of lists, and of texts by a usual one, those of one x86-64. [`UNMET`] where no run held it yet.
     pub seen: f64,
     /// Of what by what.
     pub what: &'static str,
@@ -95,7 +95,7 @@ pub const LIMITS: &[Limit] = &[
           "as runs"),
     limit("worst_text", 1.5, 1.45, "a text that takes long, read by the independent reader",
           "the goal"),
-    limit("worst_usual", 2.0, 1.72, "a byte of the same by a byte of a usual text",
+    limit("worst_usual", 2.0, 1.91, "a byte of the same by a byte of a usual text",
           "the goal"),
     limit("lists_read", 1.5, 0.97, "the longest list of servers as JSON, read by the independent reader",
           "asked"),
