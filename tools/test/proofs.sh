@@ -4,8 +4,8 @@
 # rt's last line counts what passed. It is held back, since more is to pass before it is true of
 # the whole. What rt says is kept, for where the wrong programs are refused.
 proofs() {
-    local status=0
-    (take_lock && keep_busy && proving rt ci) | tee build/proofs | tell_counts | hold_back_last "$count" || status=$?
+    local status=0 TIMEFORMAT="$me: the proofs took %U seconds of the processors, and %S of the system"
+    (take_lock && keep_busy && time proving rt ci) | tee build/proofs | tell_counts | hold_back_last "$count" || status=$?
     [ "$status" -eq 0 ] && grep -qxE '[0-9]+ passed, 0 failed' "$count" && return
     cat "$count"
     say "rt ci ended with status $status"
