@@ -2,30 +2,17 @@
 use mathlib.Core.List.{List}
 use mathlib.Core.Path.{_≡_, refl, sym, ap, _∙_}
 use Prim.Native.Nat.{ℕ, _≤_, _<_}
-use borrow.Author.Tests.{ne-eqb, eq-eqb, not-false}
+use borrow.Author.Tests.{ne-eqb, eq-eqb}
 use lib.ListN.{length}
 use Rattle.laws.proofs.First.{quiet-of, row-quiet, test-quiet}
-use Rattle.laws.proofs.Same.{same-true}
 use Rattle.refusal.specs.Refusal.{refusals}
 use Rattle.refusal.specs.declared.Refusal.{Refusal}
 use Rattle.tree_build.specs.Leaves.{most}
-use Rattle.server_response.proofs.Certified.{certifies}
-use Rattle.server_batch.specs.Answering.{batchAnswer, otherKey, keysCode, sizesCode, countWrong, roomShort, LeftBy}
+use Rattle.server_batch.specs.Answering.{batchAnswer, sizesCode, countWrong, roomShort, LeftBy}
 use Rattle.server_batch.specs.Batch.{Batch, longest}
-use Rattle.server_batch.specs.Steps.{Enough, Keyed, Left}
+use Rattle.server_batch.specs.Steps.{Enough, Left}
 use Rattle.server_batch.specs.declared.BatchAnswer.the-variants.{Answered, Refused}
 use Rattle.server_batch.proofs.Rooms.{count-right, enough}
-
--- the keys are right
-pub keys-right : (cert seed : List ℕ) (midp radi : ℕ) {x : Refusal} → x ≡ keysCode cert seed midp radi → x .code ≡ 0
-    → Keyed cert seed
-unfolding keysCode otherKey
-keys-right cert seed midp radi e z =
-    let a = row-quiet refusals _ _ (quiet-of refusals e z) in
-    let b = row-quiet refusals _ _ (a .1) in
-    let d = row-quiet refusals _ _ (b .1) in
-    let ours = not-false _ (test-quiet refusals (otherKey seed cert) _ tt (d .0)) in
-    record { certified = certifies cert refl (b .0); is = sym (same-true _ _ ours) }
 
 -- the sizes are right
 pub sizes-right : (n c packets slot rows out room lengths : ℕ) {x : Refusal}

@@ -14,12 +14,7 @@ use Rattle.tree.specs.Tree.{nodeIn, nodesIn, depthOf}
 use Rattle.tree_build.specs.AllRows.{levels, nodesOf, pathIn}
 use Rattle.tree_build.specs.Leaves.{most}
 use Rattle.tree_build.specs.Level.{CanRead}
-use Rattle.ed25519_sign.specs.Signing.{publicOf}
-use Rattle.wire_message.specs.Tags.{PUBK}
-use Rattle.wire_message.specs.Values.{valueOf}
 use Rattle.wire_packet.specs.Request.{requestBad}
-use Rattle.server_response.specs.Facts.{Certifies}
-use Rattle.server_response.specs.Refusing.{deleOf}
 use Rattle.server_response.specs.Response.{reply, responseBytes}
 use Rattle.server_batch.specs.Answering.{signatureOver, outAfter, rowsLeft, outLeft, lengthsLeft}
 use Rattle.server_batch.specs.Batch.{Batch, count, packetIn, meantAt, answers, rootIn}
@@ -122,11 +117,6 @@ pub record Enough (n c packets slot rows out room lengths : ℕ) : Type 0 where
   pub of-out : room * n ≤ out
   pub of-lengths : n ≤ lengths
   pub of-room : 264 + 32 * depthOf n + c ≤ room
-
--- CERT delegates to the public key of the seed
-pub record Keyed (cert seed : List ℕ) : Type 0 where
-  pub certified : Certifies cert
-  pub is : valueOf (deleOf cert) PUBK ≡ publicOf seed
 
 -- what all answers say, where these are the rows of the tree of depth d: its root is their last node
 abbrev pub saidOf : List ℕ → ℕ → List ℕ → ℕ → ℕ → Said

@@ -3,9 +3,10 @@ ghost use mathlib.Core.Path.{_≡_};
 ghost use Prim.Native.Nat.{_+_, _*_, _^_, _≤_, _<_};
 ghost use lib.ListN.{length};
 ghost use Rattle.tree_build.specs.Leaves.{most};
+ghost use Rattle.ed25519_sign.specs.Signing.{publicOf};
 ghost use Rattle.server_batch.specs.Batch.{batch, longest};
 ghost use Rattle.server_batch.specs.Answering.{batchCode, batchAnswer, batchNumber, LeftBy};
-ghost use Rattle.server_batch.specs.Steps.{Enough, Keyed, Left};
+ghost use Rattle.server_batch.specs.Steps.{Enough, Left};
 use super::BatchAnswer;
 use super::fitting::answer_length;
 use super::fitting::shortest;
@@ -15,6 +16,7 @@ use super::measuring::put_lengths;
 use super::refusing::keys_code;
 use super::refusing::sizes_code;
 use super::serving::serve;
+use ed25519_sign::public_key;
 use tree_build::depth;
 
 // The answers to a batch of which nothing is refused. Answers how many there are.
@@ -25,6 +27,7 @@ pub fn answer_all(
     srv: [u8; 32],
     cert: &[u8],
     seed: [u8; 32],
+    key: [u8; 32],
     midp: u64,
     radi: u32,
     rows: &mut [u8],
@@ -37,7 +40,7 @@ pub fn answer_all(
         × (length (now lengths) ≤ most)
         × Enough (length (now lengths)) (length (now cert)) (length (now packets)) slot (length (now rows))
         (length (now out)) room (length (now marks))
-        × Keyed (now cert) seed
+        × (key ≡ publicOf seed)
         ⌝ }
     ensures { λ r. ⌜
         Left (batch (now (packets .entry)) slot (now (lengths .entry)) srv)
@@ -62,6 +65,7 @@ pub fn answer_all(
         k,
         cert,
         seed,
+        key,
         midp,
         radi,
         rows,
@@ -103,7 +107,10 @@ pub fn answer_batch(
         (now (out .exit)) (now («out_lengths» .exit))
         ⌝ }
 {
-    let why = keys_code(cert, seed, midp, radi);
+    // Kept by value from here on, so that what signs is the seed's own key whatever becomes of the caller's bytes.
+    // A signature with another key would give the seed away.
+    let key = public_key(seed);
+    let why = keys_code(cert, key, midp, radi);
     if why.code != 0 {
         return BatchAnswer::Refused(why);
     }
@@ -127,6 +134,7 @@ pub fn answer_batch(
         srv,
         cert,
         seed,
+        key,
         midp,
         radi,
         rows,

@@ -2,7 +2,6 @@
 // signature by the delegated key, and the answers, each at the front of its slot.
 mod answering;
 mod batch;
-mod delegating;
 mod fitting;
 mod laying;
 mod marking;

@@ -1,12 +1,12 @@
 // What is refused, before anything is written.
+ghost use mathlib.Core.List.{List};
 ghost use mathlib.Core.Path.{_≡_};
-ghost use Prim.Native.Nat.{_≤_, _<_};
+ghost use Prim.Native.Nat.{ℕ, _≤_, _<_};
 ghost use Rattle.server_response.specs.Facts.{Certifies};
 ghost use Rattle.tree_build.specs.Leaves.{most};
+ghost use Rattle.ed25519_sign.specs.Signing.{publicOf};
 ghost use Rattle.server_batch.specs.Answering.{otherKey, countWrong, roomShort, keysCode, sizesCode};
-use super::delegating::delegated_key;
 use super::marking::wide;
-use ed25519_sign::public_key;
 use octets::equal;
 use refusal::PASSED;
 use refusal::Refusal;
@@ -18,20 +18,25 @@ use server_response::midp_outside;
 use tree_build::MOST;
 use tree_build::bytes;
 use tree_build::depth;
+use wire_message::tags::DELE;
+use wire_message::tags::PUBK;
+use wire_message::value_of;
+use wire_packet::fields::value32;
 
-// The seed is not that of the key that CERT delegates to.
-fn other_key(seed: [u8; 32], cert: &[u8]) -> bool
+// The key, which is that of the seed, is not the one that CERT delegates to.
+fn other_key(key: [u8; 32], cert: &[u8]) -> bool
     requires { ⌜ Certifies (now cert) ⌝ }
-    ensures { λ r. ⌜ r ≡ otherKey seed (now (cert .entry)) ⌝ }
+    ensures { λ r. ⌜ ((seed : List ℕ) → key ≡ publicOf seed → r ≡ otherKey seed (now (cert .entry))) ⌝ }
 {
-    let ours = public_key(seed);
-    let theirs = delegated_key(cert);
-    !equal(&ours, &theirs)
+    let theirs = value32(value_of(cert, DELE), PUBK);
+    !equal(&key, &theirs)
 }
 
-// Codes 7 for RADI 0; 4 to 7 for CERT and its DELE; 35; 11.
-pub fn keys_code(cert: &[u8], seed: [u8; 32], midp: u64, radi: u32) -> Refusal
-    ensures { λ r. ⌜ r ≡ keysCode (now (cert .entry)) seed midp radi ⌝ }
+// Codes 7 for RADI 0; 4 to 7 for CERT and its DELE; 35; 11. The key is that of the seed.
+pub fn keys_code(cert: &[u8], key: [u8; 32], midp: u64, radi: u32) -> Refusal
+    ensures { λ r. ⌜
+        ((seed : List ℕ) → key ≡ publicOf seed → r ≡ keysCode (now (cert .entry)) seed midp radi)
+        ⌝ }
 {
     let boast = radius_code(radi);
     if boast.code != 0 {
@@ -41,7 +46,7 @@ pub fn keys_code(cert: &[u8], seed: [u8; 32], midp: u64, radi: u32) -> Refusal
     if c.code != 0 {
         return c;
     }
-    if other_key(seed, cert) {
+    if other_key(key, cert) {
         return refuse(codes::OTHER_KEY);
     }
     if midp_outside(midp, cert) {

@@ -5,8 +5,9 @@ ghost use lib.ListN.{length};
 ghost use Rattle.tree.specs.Tree.{depthOf};
 ghost use Rattle.tree_build.specs.AllRows.{nodesOf};
 ghost use Rattle.tree_build.specs.Leaves.{most};
+ghost use Rattle.ed25519_sign.specs.Signing.{publicOf};
 ghost use Rattle.server_batch.specs.Picking.{howMany};
-ghost use Rattle.server_batch.specs.Steps.{stayAt, Held, CanServe, Keyed, Served, saidOf, Whole};
+ghost use Rattle.server_batch.specs.Steps.{stayAt, Held, CanServe, Served, saidOf, Whole};
 use super::Said;
 use super::answering::answer_each;
 use super::saying::sign_root;
@@ -16,12 +17,12 @@ use tree_build::depth;
 use tree_build::fill_rows;
 
 // What all answers say, where these are the rows of the tree of depth d.
-fn say(rows: &[u8], d: u32, cert: &[u8], seed: [u8; 32], midp: u64, radi: u32) -> Said
-    requires { ⌜ (2 ^ d ≤ most) × (32 * nodesOf d ≤ length (now rows)) × Keyed (now cert) seed ⌝ }
+fn say(rows: &[u8], d: u32, seed: [u8; 32], key: [u8; 32], midp: u64, radi: u32) -> Said
+    requires { ⌜ (2 ^ d ≤ most) × (32 * nodesOf d ≤ length (now rows)) × (key ≡ publicOf seed) ⌝ }
     ensures { λ r. ⌜ (r ≡ saidOf (now (rows .entry)) d seed midp radi) × Whole r ⌝ }
 {
     let root = copy32(rows, bytes(d) - 32);
-    let signature = sign_root(cert, seed, root, midp, radi);
+    let signature = sign_root(seed, key, root, midp, radi);
     Said {
         root: root,
         midp: midp,
@@ -40,6 +41,7 @@ pub fn serve(
     k: usize,
     cert: &[u8],
     seed: [u8; 32],
+    key: [u8; 32],
     midp: u64,
     radi: u32,
     rows: &mut [u8],
@@ -50,7 +52,7 @@ pub fn serve(
         Held (now packets) slot (now lengths) (now marks)
         × CanServe (stayAt (now marks) (now lengths) least) k (length (now lengths)) (length (now cert)) least
         (length (now rows)) (length (now out)) room
-        × Keyed (now cert) seed
+        × (key ≡ publicOf seed)
         ⌝ }
     ensures { λ _. ⌜
         Served (now (packets .entry)) slot (now (lengths .entry)) (now (marks .entry)) least k (now (cert .entry)) seed
@@ -59,7 +61,7 @@ pub fn serve(
 {
     let d = depth(k);
     fill_rows(rows, k, d);
-    let said = say(rows, d, cert, seed, midp, radi);
+    let said = say(rows, d, seed, key, midp, radi);
     answer_each(
         packets,
         slot,

@@ -12,16 +12,11 @@ use borrow.Author.Needs.{needs}
 use Rattle.server_batch.proofs.saying.sign_root.Statement.{statement}
 use Rattle.server_batch.proofs.saying.sign_root.Tie as tie
 
-sign-parts-with-requires : tie.Need-sign-parts-with-requires
-sign-parts-with-requires c κs =
-    let k = c .before .before in
-    k .delegated-key .ensures ∙ k .before .before .before .before .before .pre .is
-
 returns : tie.Need-returns
 unfolding signatureOver
 returns c =
-    let p = c .before .before .before .before .before in
-    let s = p .before .before .before in
+    let p = c .before .before .before .before in
+    let s = p .before .before in
     let a = s .args in
     let long = length-srep (a .root) (a .midp) (a .radi) (omega (arith, s .good)) in
     let whole = p .put-srep .ensures ∙ pasted-end (replicate 92 0) (srepBytes (a .root) (a .midp) (a .radi)) 0
@@ -34,8 +29,7 @@ sign-root-spec =
     (tie.spec
     (λ c. search needs)
     (λ c κs. search needs)
+    (λ c. search needs)
+    (λ c. search needs)
     (λ c κs. search needs)
-    (λ c. search needs)
-    (λ c. search needs)
-    sign-parts-with-requires
     returns)
