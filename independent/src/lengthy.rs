@@ -33,6 +33,7 @@ fn of_values(length: usize) -> Vec<(&'static str, Vec<u8>)> {
         ("one name", of("{\"", "a", "\":0}")),
         ("one number", of("{\"a\":", "1", "}")),
         ("an array of numbers", of("{\"a\":[", "0,", "0]}")),
+        ("empty strings", of("{\"a\":[", "\"\",", "\"\"]}")),
         ("members", of("{", "\"a\":0,", "\"a\":0}")),
         ("members with names that are nearly known", of("{", "\"response\":0,", "\"a\":0}")),
         ("members with escaped names", of("{", "\"\\u0072\\u0065\":0,", "\"a\":0}")),
@@ -47,12 +48,14 @@ fn of_entries(length: usize) -> Vec<(&'static str, Vec<u8>)> {
     let first = format!(r#"{{"responses":[{open}"#);
     let packet = format!(r#"{{"responses":[{{"publicKey":"{key}","response":"","request":""#);
     let deep = "[".repeat(12) + &"]".repeat(12) + ",";
+    let escaped = ",\"\\u0072equest\":\"\"";
     let of = |before: &str, piece: &str, after: &str| repeated(before, piece, after, length);
     vec![
         ("members of one entry", of(&first, ",\"a\":0", "}]}")),
         ("arrays 12 deep in one entry", of(&(first.clone() + ",\"a\":["), &deep, "0]}]}")),
         ("rands of the first entry", of(&first, ",\"rand\":0", "}]}")),
         ("a member of an entry many times", of(&first, ",\"request\":\"\"", "}]}")),
+        ("a member of an entry many times, escaped", of(&first, escaped, "}]}")),
         ("good entries", of(&first, &format!("}},{open}"), "}]}")),
         ("empty entries", of("{\"responses\":[{}", ",{}", "]}")),
         ("entries that are none", of("{\"responses\":[0", ",0", "]}")),

@@ -17,7 +17,7 @@ use Rattle.json_tokens.proofs.Picks.{picks}
 use Rattle.json.specs.Value.{memberStep, valueAt, objectOf}
 use Rattle.json.specs.declared.Seen.{Seen}
 use Rattle.json.specs.Facts.{Noted}
-use Rattle.json_strings.specs.Text.{unescaped, contentAt, sameList}
+use Rattle.json_strings.specs.Text.{unescaped, contentAt, sameList, Lettered}
 use Rattle.json_strings.proofs.Content.{content-code}
 use Rattle.json_strings.proofs.Runs.{unit-unescaped}
 use Rattle.json.specs.Members.{named, valuePlace, answerOf, countOf, tally}
@@ -137,21 +137,21 @@ module _ (s w : List ℕ) (k : ℕ) where
   unfolding named pick
   unnamed-other {b} e h = rw (sym e, ne-eqb b 34 h) refl
 
-  by-content : sameList (contentAt s (k + 1)) w ≡ false → named s w k ≡ false
+  by-content : (getD s k 0 ≡ 34 → sameList (contentAt s (k + 1)) w ≡ false) → named s w k ≡ false
   unfolding named pick
-  by-content h = by (eqb (getD s k 0) 34)
+  by-content h = by (eqb (getD s k 0) 34) refl
     where
-      by : (q : Bool) → pick q (sameList (contentAt s (k + 1)) w) false ≡ false
-      by true = h
-      by false = refl
+      by : (q : Bool) → eqb (getD s k 0) 34 ≡ q → pick q (sameList (contentAt s (k + 1)) w) false ≡ false
+      by true e = h (eqb-true (getD s k 0) 34 e)
+      by false e = refl
 
   -- by its first letter
   pub unnamed-first : {b : ℕ} → b ≡ getD s (k + 1) 0 → unescaped b ≡ true → (b ≡ getD w 0 0 → ⊥) → named s w k ≡ false
-  unnamed-first {b} e u h = by-content (rw content (not-same b w (contentAt s (k + 1 + 1)) h))
+  unnamed-first {b} e u h = by-content (λ _. rw content (not-same b w (contentAt s (k + 1 + 1)) h))
     where
       content : contentAt s (k + 1) ≡ b ∷ contentAt s (k + 1 + 1)
       content = rw (sym e) at (content-code s (k + 1) refl (unit-unescaped s (k + 1) (rw e at u)))
 
   -- and by how long it is
-  pub unnamed-long : {n : ℕ} → length (contentAt s (k + 1)) ≡ n → (length w ≡ n → ⊥) → named s w k ≡ false
-  unnamed-long e h = by-content (not-long _ w (λ q. h (sym q ∙ e)))
+  pub unnamed-long : {n : ℕ} → Lettered s k n → (length w ≡ n → ⊥) → named s w k ≡ false
+  unnamed-long z h = by-content (λ q. not-long _ w (λ e. h (sym e ∙ z .long q)))

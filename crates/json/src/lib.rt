@@ -50,10 +50,9 @@ struct Five {
     e: Seen,
 }
 
-// A turn of an object: the place past the member's name, where every letter of it stands for itself, else 0; and the
-// place of its value.
+// A turn of an object: how many letters the member's name has, and the place of its value.
 struct Turn {
-    past: usize,
+    letters: usize,
     value: usize,
     step: Step,
 }

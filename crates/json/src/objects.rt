@@ -1,11 +1,11 @@
 // The members of an object under several names at once, and where it ends, in one walk over it.
 ghost use mathlib.Core.Path.{_≡_};
-ghost use Prim.Native.Nat.{_+_, _<_};
+ghost use Prim.Native.Nat.{_<_};
 ghost use lib.ListN.{length};
 ghost use Rattle.json.specs.Members.{named, valuePlace, answerOf, foundOf};
 ghost use Rattle.json.specs.Value.{valueAt, memberStep, objectOf};
 ghost use Rattle.json.specs.Facts.{Noted};
-ghost use Rattle.json_strings.specs.Text.{stringAt, contentAt, Simple};
+ghost use Rattle.json_strings.specs.Text.{stringAt, endOf, Lettered};
 use super::Five;
 use super::Object;
 use super::Seen;
@@ -14,8 +14,7 @@ use super::names::answer;
 use super::names::is_named;
 use super::names::one_more;
 use super::values::value;
-use json_strings::simple;
-use json_strings::string;
+use json_strings::measured;
 use json_tokens::Skip;
 use json_tokens::Step;
 use json_tokens::after_item;
@@ -56,7 +55,7 @@ fn looked(s: &[u8], k: usize, v: usize, w: &[u8], t: Seen) -> Seen
 
 // The same where its name has n characters: mostly the word has another number of them.
 fn looked_by(s: &[u8], k: usize, v: usize, w: &[u8], t: Seen, n: usize) -> Seen
-    requires { ⌜ length (contentAt (now s) (k + 1)) ≡ n ⌝ }
+    requires { ⌜ Lettered (now s) k n ⌝ }
     ensures { λ r. ⌜ Noted (now (s .entry)) (now (w .entry)) k v t r ⌝ }
 {
     if w.len() != n {
@@ -66,7 +65,7 @@ fn looked_by(s: &[u8], k: usize, v: usize, w: &[u8], t: Seen, n: usize) -> Seen
 }
 
 // The same under each of them.
-fn look_by(
+fn look(
     s: &[u8],
     k: usize,
     v: usize,
@@ -78,7 +77,7 @@ fn look_by(
     e: &[u8],
     n: usize,
 ) -> Five
-    requires { ⌜ length (contentAt (now s) (k + 1)) ≡ n ⌝ }
+    requires { ⌜ Lettered (now s) k n ⌝ }
     ensures { λ r. ⌜ Noted (now (s .entry)) (now (a .entry)) k v (m .a) (r .a) ⌝ }
     ensures { λ r. ⌜ Noted (now (s .entry)) (now (b .entry)) k v (m .b) (r .b) ⌝ }
     ensures { λ r. ⌜ Noted (now (s .entry)) (now (c .entry)) k v (m .c) (r .c) ⌝ }
@@ -104,76 +103,13 @@ fn look_by(
     }
 }
 
-// The same where one of its letters is escaped, or is more than a byte, or where it is no string.
-fn look_at_all(
-    s: &[u8],
-    k: usize,
-    v: usize,
-    m: Five,
-    a: &[u8],
-    b: &[u8],
-    c: &[u8],
-    d: &[u8],
-    e: &[u8],
-) -> Five
-    ensures { λ r. ⌜ Noted (now (s .entry)) (now (a .entry)) k v (m .a) (r .a) ⌝ }
-    ensures { λ r. ⌜ Noted (now (s .entry)) (now (b .entry)) k v (m .b) (r .b) ⌝ }
-    ensures { λ r. ⌜ Noted (now (s .entry)) (now (c .entry)) k v (m .c) (r .c) ⌝ }
-    ensures { λ r. ⌜ Noted (now (s .entry)) (now (d .entry)) k v (m .d) (r .d) ⌝ }
-    ensures { λ r. ⌜ Noted (now (s .entry)) (now (e .entry)) k v (m .e) (r .e) ⌝ }
-{
-    let ma = m.a;
-    let mb = m.b;
-    let mc = m.c;
-    let md = m.d;
-    let me = m.e;
-    let fa = looked(s, k, v, a, ma);
-    let fb = looked(s, k, v, b, mb);
-    let fc = looked(s, k, v, c, mc);
-    let fd = looked(s, k, v, d, md);
-    let fe = looked(s, k, v, e, me);
-    Five {
-        a: fa,
-        b: fb,
-        c: fc,
-        d: fd,
-        e: fe,
-    }
-}
-
-// The member at k under each of the names, by how long its name is.
-fn look(
-    s: &[u8],
-    k: usize,
-    past: usize,
-    v: usize,
-    m: Five,
-    a: &[u8],
-    b: &[u8],
-    c: &[u8],
-    d: &[u8],
-    e: &[u8],
-) -> Five
-    requires { ⌜ ((past ≡ 0 → ⊥) → Simple (now s) k past) ⌝ }
-    ensures { λ r. ⌜ Noted (now (s .entry)) (now (a .entry)) k v (m .a) (r .a) ⌝ }
-    ensures { λ r. ⌜ Noted (now (s .entry)) (now (b .entry)) k v (m .b) (r .b) ⌝ }
-    ensures { λ r. ⌜ Noted (now (s .entry)) (now (c .entry)) k v (m .c) (r .c) ⌝ }
-    ensures { λ r. ⌜ Noted (now (s .entry)) (now (d .entry)) k v (m .d) (r .d) ⌝ }
-    ensures { λ r. ⌜ Noted (now (s .entry)) (now (e .entry)) k v (m .e) (r .e) ⌝ }
-{
-    if past == 0 {
-        return look_at_all(s, k, v, m, a, b, c, d, e);
-    }
-    look_by(s, k, v, m, a, b, c, d, e, past - k - 2)
-}
-
-// Past the name of the member at k, where `simple` has been asked for it.
+// Past the name of the member at k, by the number that says it.
 fn name_end(s: &[u8], k: usize, past: usize) -> Skip
-    requires { ⌜ ((past ≡ 0 → ⊥) → Simple (now s) k past) ⌝ }
+    requires { ⌜ stringAt (now s) k ≡ endOf past ⌝ }
     ensures { λ r. ⌜ r ≡ stringAt (now (s .entry)) k ⌝ }
 {
     if past == 0 {
-        string(s, k)
+        Skip::Bad
     } else {
         Skip::Past(past)
     }
@@ -183,32 +119,32 @@ fn name_end(s: &[u8], k: usize, past: usize) -> Skip
 fn take(s: &[u8], k: usize, depth: usize) -> Turn
     ensures { λ r. ⌜ r .value ≡ valuePlace (now (s .entry)) k ⌝ }
     ensures { λ r. ⌜ r .step ≡ memberStep (now (s .entry)) (valueAt (now (s .entry)) depth) k ⌝ }
-    ensures { λ r. ⌜ ((r .past ≡ 0 → ⊥) → Simple (now (s .entry)) k (r .past)) ⌝ }
+    ensures { λ r. ⌜ Lettered (now (s .entry)) k (r .letters) ⌝ }
 {
-    let past = simple(s, k);
-    let Skip::Past(e) = name_end(s, k, past) else {
+    let name = measured(s, k);
+    let Skip::Past(e) = name_end(s, k, name.past) else {
         return Turn {
-            past,
+            letters: name.letters,
             value: 0,
             step: Step::Wrong,
         };
     };
     let Skip::Past(v) = colon(s, e) else {
         return Turn {
-            past,
+            letters: name.letters,
             value: 0,
             step: Step::Wrong,
         };
     };
     let Skip::Past(f) = value(s, v, depth) else {
         return Turn {
-            past,
+            letters: name.letters,
             value: v,
             step: Step::Wrong,
         };
     };
     Turn {
-        past,
+        letters: name.letters,
         value: v,
         step: after_item(s, f, b'}'),
     }
@@ -258,7 +194,7 @@ pub fn members(
     let mut k = first;
     loop {
         let t = take(s, k, depth);
-        m = look(s, k, t.past, t.value, m, a, b, c, d, e);
+        m = look(s, k, t.value, m, a, b, c, d, e, t.letters);
         let step = t.step;
         match step {
             Step::More(j) => {

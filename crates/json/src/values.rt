@@ -54,12 +54,15 @@ fn again(r: Skip) -> Skip
     }
 }
 
-// A value that holds no other.
+// A value that holds no other. A string that is empty ends at once.
 fn plain(s: &[u8], at: usize) -> Skip
     ensures { λ r. ⌜ r ≡ plainAt (now (s .entry)) at ⌝ }
 {
     let b = byte(s, at);
     if b == b'"' {
+        if byte(s, at + 1) == b'"' {
+            return Skip::Past(at + 2);
+        }
         return again(string(s, at));
     }
     if b == b't' {

@@ -10,13 +10,24 @@ use lib.ListN.{length, getD, drop, drop-of-length-le}
 use lib.Dec.{leb, leb·zero, leb·suc-zero, leb·suc-suc}
 use native.Mathlib.Nat.{add-zero}
 use lib.Seq.{drop-cons, drop-nil, getD-drop}
-use Rattle.laws.specs.Pick.{both}
+use Rattle.laws.specs.Pick.{pick, both}
 use Rattle.json_strings.specs.declared.Unit.{Unit}
 use Rattle.json_strings.specs.declared.Unit.the-variants.{Code, Close, Ill}
-use Rattle.json_tokens.specs.Walk.{starts}
-use Rattle.json_strings.specs.Text.{unitAt, stepOf, unitStep, codesOf, codesAt, contentAt, sameList}
-use Rattle.json_tokens.proofs.Turns.{starts-more, starts-end, starts-wrong, turn-falls}
-use Rattle.json_strings.proofs.Ahead.{forth-unit}
+use Rattle.json_tokens.specs.declared.Skip.the-variants.{Past, Bad}
+use Rattle.json_tokens.specs.Walk.{starts, walked}
+use Rattle.json_strings.specs.Text.{unitAt, stepOf, unitStep, codesOf, codesAt, contentAt, sameList, endOf}
+use Rattle.json_tokens.proofs.Turns.{starts-more, starts-end, starts-wrong, turn-falls, walked-more, walked-end}
+use Rattle.json_tokens.proofs.Turns.{walked-wrong}
+use Rattle.json_strings.proofs.Ahead.{onto-unit, forth-unit}
+
+-- ---- A place that is 0 where there is none.
+pub end-none : {e : ℕ} → e ≡ 0 → Bad ≡ endOf e
+unfolding pick
+end-none h = rw h refl
+
+pub end-past : {e : ℕ} → (e ≡ 0 → ⊥) → Past e ≡ endOf e
+unfolding pick
+end-past {e} h = rw (ne-eqb e 0 h) refl
 
 module _ (s : List ℕ) {u : Unit} (k : ℕ) (e : u ≡ unitAt s k) where
   turn : unitStep s k ≡ stepOf u
@@ -39,6 +50,18 @@ module _ (s : List ℕ) {u : Unit} (k : ℕ) (e : u ≡ unitAt s k) where
   -- a character takes a byte or more
   pub content-falls : {c j : ℕ} → u ≡ Code c j → length s - j < length s - k
   content-falls h = turn-falls (length s) (unitStep s) (forth-unit s) k refl (turn ∙ ap stepOf h)
+
+  -- ---- The same characters, on the way to the end of the string.
+  pub walked-code : {c j : ℕ} → u ≡ Code c j → walked (length s) (unitStep s) j ≡ walked (length s) (unitStep s) k
+  walked-code h = walked-more (length s) (unitStep s) (forth-unit s) k refl (turn ∙ ap stepOf h)
+
+  pub walked-close : {j : ℕ} → u ≡ Close j → walked (length s) (unitStep s) k ≡ endOf j
+  walked-close {j} h =
+      let far : k < j = rw (sym e ∙ h) at (onto-unit s k) in
+      sym (walked-end (length s) (unitStep s) k refl (turn ∙ ap stepOf h)) ∙ end-past (λ z. omega arith)
+
+  pub walked-ill : u ≡ Ill → walked (length s) (unitStep s) k ≡ endOf 0
+  walked-ill h = sym (walked-wrong (length s) (unitStep s) k refl (turn ∙ ap stepOf h)) ∙ end-none refl
 
 -- ---- A name, compared with a word.
 ended : (w : List ℕ) (i : ℕ) → leb (length w) i ≡ sameList [] (drop i w)

@@ -1,20 +1,22 @@
 -- Laws about runs of characters that stand for themselves.
-use Prim.Native.Nat.{ℕ, suc, _+_, _<_}
+use Prim.Native.Nat.{ℕ, suc, _+_, _-_, _≤_, _<_}
 use mathlib.Core.Path.{_≡_, refl, sym, _∙_, ap}
 use mathlib.Core.Bool.{Bool, true, false, not, _&&_, true≢false}
 use mathlib.Core.List.{List}
 use native.Mathlib.Omega.{arith}
 use lib.Dec.{eqb, leb, ltb}
 use lib.ListN.{length, getD}
-use borrow.Author.Tests.{leb-true, leb-false, eqb-true, eqb-false}
+use borrow.Author.Tests.{leb-true, leb-false, eqb-true, eqb-false, ne-eqb}
 use Rattle.laws.specs.Pick.{pick}
 use Rattle.json_strings.specs.declared.Unit.the-variants.{Code, Close}
+use Rattle.json_tokens.specs.declared.Skip.the-variants.{Past}
 use Rattle.json_tokens.specs.declared.Step.the-variants.{More}
 use Rattle.json_tokens.specs.Scan.{pastWhile}
 use Rattle.json_tokens.specs.Walk.{walked}
-use Rattle.json_strings.specs.Text.{unescaped, unitAt, stepOf, unitStep, stringAt, contentAt, Simple}
+use Rattle.json_strings.specs.Text.{unescaped, unitAt, stepOf, unitStep, stringAt, contentAt, endOf}
+use Rattle.json_strings.specs.Text.{Lettered}
 use Rattle.json_tokens.proofs.Picks.{over}
-use Rattle.json_tokens.proofs.While.{while-more, while-stop, while-end, while-same}
+use Rattle.json_tokens.proofs.While.{while-more, while-stop, while-end, while-same, while-ahead}
 use Rattle.json_tokens.proofs.Turns.{walked-more, walked-end}
 use Rattle.json_strings.proofs.Ahead.{forth-unit}
 use Rattle.json_strings.proofs.Content.{content-code, content-close}
@@ -84,13 +86,31 @@ content-run s k e = ap reach e ∙ while-same unescaped s reach one k
     one : (j : ℕ) → unescaped (getD s j 0) ≡ true → reach (j + 1) ≡ reach j
     one j u = rw (content-code s j refl (unit-unescaped s j u)) (omega arith)
 
--- a string that is such a run: b, r and c are what code holds of it
+-- ---- A string by the run that it begins with: b, r and n are what code holds.
+pub run-ahead : {r : ℕ} (s : List ℕ) (k : ℕ) → r ≡ pastWhile unescaped s k → k ≤ r
+run-ahead s k e = omega (arith, e, while-ahead unescaped s k)
+
+pub run-unquoted : {b : ℕ} (s : List ℕ) (at : ℕ) → b ≡ getD s at 0 → (b ≡ 34 → ⊥)
+    → (stringAt s at ≡ endOf 0) × Lettered s at 0
+unfolding stringAt pick
+run-unquoted {b} s at e h = (rw (sym e, ne-eqb b 34 h) refl, record { long = λ q. absurd (h (e ∙ q)) })
+
+pub run-begun : {b r : ℕ} (s : List ℕ) (at : ℕ) → b ≡ getD s at 0 → b ≡ 34 → r ≡ pastWhile unescaped s (at + 1)
+    → stringAt s at ≡ walked (length s) (unitStep s) r
+unfolding stringAt pick
+run-begun s at e h g = rw (sym e ∙ h) (sym (walked-run s (at + 1) g))
+
+pub run-lettered : {r n : ℕ} (s : List ℕ) (at : ℕ) → r ≡ pastWhile unescaped s (at + 1)
+    → r - at - 1 + length (contentAt s r) ≡ n → Lettered s at n
+run-lettered s at g h =
+    record { long = λ _. omega (arith, content-run s (at + 1) g, run-ahead s (at + 1) g, h) }
+
+-- the run is all of it
 pub run-closed : {b r c : ℕ} (s : List ℕ) (at : ℕ) → b ≡ getD s at 0 → b ≡ 34 → r ≡ pastWhile unescaped s (at + 1)
-    → c ≡ getD s r 0 → c ≡ 34 → Simple s at (r + 1)
-unfolding stringAt pick unitStep
+    → c ≡ getD s r 0 → c ≡ 34 → (stringAt s at ≡ Past (r + 1)) × Lettered s at (r - at - 1)
+unfolding unitStep
 run-closed {r = r} s at e h g f i =
-    let q = unit-quoted s r f i in
-    record {
-      ends = rw (sym e ∙ h) (sym (walked-end (length s) (unitStep s) r refl (ap stepOf q) ∙ walked-run s (at + 1) g));
-      long = omega (arith, ap length (content-close s r refl q), content-run s (at + 1) g);
-    }
+    let q = unit-quoted s r f i in (
+      run-begun s at e h g ∙ sym (walked-end (length s) (unitStep s) r refl (ap stepOf q)),
+      run-lettered s at g (omega (arith, ap length (content-close s r refl q))),
+    )

@@ -153,7 +153,10 @@ pub record Alike (s : List ℕ) (at : ℕ) (w : List ℕ) (r : ℕ) : Type 0 whe
   pub on : at ≤ r
   pub another : unescaped (getD s r 0) ≡ true → false ≡ sameList (contentAt s r) (drop (r - at) w)
 
--- ---- For `simple`: the string at its opening quote ends before r, and has a character for each byte.
-pub record Simple (s : List ℕ) (at r : ℕ) : Type 0 where
-  pub ends : stringAt s at ≡ Past r
-  pub long : r ≡ at + length (contentAt s (at + 1)) + 2
+-- ---- For `measured`: the place past a string, where 0 is none
+abbrev pub endOf : ℕ → Skip
+endOf past = pick (eqb past 0) Bad (Past past)
+
+-- the string at its opening quote has n characters
+pub record Lettered (s : List ℕ) (at n : ℕ) : Type 0 where
+  pub long : getD s at 0 ≡ 34 → length (contentAt s (at + 1)) ≡ n

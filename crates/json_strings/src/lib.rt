@@ -8,7 +8,7 @@ mod wides;
 
 pub use escapes::latin;
 pub use strings::holds;
-pub use strings::simple;
+pub use strings::measured;
 pub use strings::string;
 pub use strings::unit_of;
 pub use unescaped::is_unescaped;
@@ -21,4 +21,11 @@ pub enum Unit {
     Code(u32, usize),
     Close(usize),
     Ill,
+}
+
+// Where a string ends, 0 where it does not, and how many characters it has. A number, and no Skip: an enum in a struct is
+// copied with the bytes between its parts.
+pub struct Extent {
+    pub past: usize,
+    pub letters: usize,
 }

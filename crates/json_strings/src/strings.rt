@@ -1,10 +1,12 @@
 // Strings (RFC 8259, section 7).
 ghost use mathlib.Core.Path.{_≡_};
-ghost use Prim.Native.Nat.{_≤_, _<_};
+ghost use Prim.Native.Nat.{_+_, _≤_, _<_};
 ghost use lib.ListN.{length, drop};
 ghost use Rattle.json_tokens.specs.Scan.{pastWhile};
 ghost use Rattle.json_tokens.specs.Walk.{walked};
-ghost use Rattle.json_strings.specs.Text.{unescaped, unitAt, unitStep, stringAt, contentAt, sameList, Alike, Simple};
+ghost use Rattle.json_strings.specs.Text.{unescaped, unitAt, unitStep, stringAt, contentAt, sameList, Alike};
+ghost use Rattle.json_strings.specs.Text.{endOf, Lettered};
+use super::Extent;
 use super::Unit;
 use super::escapes::escape;
 use super::letters::wide;
@@ -63,7 +65,7 @@ fn onward(s: &[u8], k: usize, n: usize) -> usize
     }
 }
 
-// The run of characters at a place that stand for themselves, for `string` and `simple`. A function that lends its slice
+// The run of characters at a place that stand for themselves, for `string` and `measured`. A function that lends its slice
 // to one that is not inlined copies both halves of it at once, and waits where they have just been written apart. This
 // one is inlined, so that the copy is its own.
 fn run_from(s: &[u8], at: usize) -> usize
@@ -72,16 +74,50 @@ fn run_from(s: &[u8], at: usize) -> usize
     unescaped_run(s, at)
 }
 
-// Past a string whose characters all stand for themselves, at its opening quote; 0 for any other.
-pub fn simple(s: &[u8], at: usize) -> usize
-    ensures { λ r. ⌜ ((r ≡ 0 → ⊥) → Simple (now (s .entry)) at r) ⌝ }
+// The end of the string whose characters start at a place, and how many they are beside n that stand before it.
+fn counted(s: &[u8], at: usize, n: usize) -> Extent
+    requires { ⌜ n ≤ at ⌝ }
+    ensures { λ r. ⌜ walked (length (now (s .entry))) (unitStep (now (s .entry))) at ≡ endOf (r .past) ⌝ }
+    ensures { λ r. ⌜ n + length (contentAt (now (s .entry)) at) ≡ r .letters ⌝ }
+{
+    let mut k = at;
+    let mut letters = n;
+    loop {
+        match unit_of(s, k) {
+            Unit::Code(_, j) => {
+                k = j;
+                letters += 1;
+            }
+            Unit::Close(e) => {
+                return Extent { past: e, letters };
+            }
+            Unit::Ill => {
+                return Extent { past: 0, letters };
+            }
+        }
+    }
+}
+
+// A string, at its opening quote, with how many characters it has: what a name is told by. Each is looked at once.
+pub fn measured(s: &[u8], at: usize) -> Extent
+    ensures { λ r. ⌜ stringAt (now (s .entry)) at ≡ endOf (r .past) ⌝ }
+    ensures { λ r. ⌜ Lettered (now (s .entry)) at (r .letters) ⌝ }
 {
     let b = byte(s, at);
     if b != b'"' {
-        return 0;
+        return Extent {
+            past: 0,
+            letters: 0,
+        };
     }
     let k = run_from(s, at + 1);
-    if byte(s, k) == b'"' { k + 1 } else { 0 }
+    if byte(s, k) == b'"' {
+        return Extent {
+            past: k + 1,
+            letters: k - at - 1,
+        };
+    }
+    counted(s, k, k - at - 1)
 }
 
 // A string, at its opening quote.

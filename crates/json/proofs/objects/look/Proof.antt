@@ -1,25 +1,23 @@
 use borrow.Author.Needs.{needs}
-use native.Mathlib.Omega.{arith}
 use Rattle.json.proofs.objects.look.Statement.{statement}
 use Rattle.json.proofs.objects.look.Tie as tie
 
-sub-look-by : tie.Need-sub-look-by
-sub-look-by c = omega (arith, c .before .before .before .before .before .before .before .pre (c .if1 .left) .long)
-
-sub-look-by-2 : tie.Need-sub-look-by-2
-sub-look-by-2 c = omega (arith, c .before .before .before .before .before .before .before .pre (c .if1 .left) .long)
-
-look-by-requires : tie.Need-look-by-requires
-look-by-requires c κs =
-    omega (arith, c .before .before .before .before .before .before .before .pre (c .if1 .left) .long)
+returns : tie.Need-returns
+returns c = (
+  c .before .before .before .before .looked-by .ensures,
+  (
+    c .before .before .before .looked-by2 .ensures,
+    (c .before .before .looked-by3 .ensures, (c .before .looked-by4 .ensures, c .looked-by5 .ensures)),
+  ),
+)
 
 pub look-spec : {M : Type 1} → statement M
 look-spec =
     tie.close
     (tie.spec
-    (λ c κs. search needs)
-    (λ c. c .look-at-all .ensures)
-    sub-look-by
-    sub-look-by-2
-    look-by-requires
-    (λ c. c .look-by .ensures))
+    (λ c κs. c .before .before .before .before .before .before .before .before .before .before .before .pre)
+    (λ c κs. c .before .before .before .before .before .before .before .before .before .before .before .before .pre)
+    (λ c κs. c .before .before .before .before .before .before .before .before .before .before .before .before .before .pre)
+    (λ c κs. c .before .before .before .before .before .before .before .before .before .before .before .before .before .before .pre)
+    (λ c κs. c .before .before .before .before .before .before .before .before .before .before .before .before .before .before .before .pre)
+    returns)

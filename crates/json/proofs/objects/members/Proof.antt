@@ -116,7 +116,7 @@ members-spec =
     returns
     loop-holds
     (λ c κs. search needs)
-    (λ c κs. search needs)
+    (λ c κs. c .take .ensures .1 .1)
     (λ c. search needs)
     loop-less
     loop-again

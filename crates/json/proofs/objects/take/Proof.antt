@@ -11,7 +11,7 @@ returns : tie.Need-returns
 unfolding valuePlace placeOf memberStep
 returns c = (
   ap placeOf (then-bad (pastColon _) (c .before .before .name-end .ensures) (c .enum-told .given .1)),
-  (search (picks, needs) depth 7, c .before .before .before .simple .ensures),
+  (search (picks, needs) depth 7, c .before .before .before .measured .ensures .1),
 )
 
 returns-2 : tie.Need-returns-2
@@ -21,7 +21,7 @@ returns-2 c = (
       (then-past (pastColon _) (c .before .before .before .before .before .before .name-end .ensures)
       (c .before .before .before .before .e .given .1) (sym (c .enum-told2 .given .1)
       ∙ c .before .before .colon .ensures)),
-  (search (picks, needs) depth 7, c .before .before .before .before .before .before .before .simple .ensures),
+  (search (picks, needs) depth 7, c .before .before .before .before .before .before .before .measured .ensures .1),
 )
 
 returns-3 : tie.Need-returns-3
@@ -30,7 +30,7 @@ returns-3 c = (
   ap placeOf
       (then-past (pastColon _) (c .before .before .before .before .before .before .before .before .before .before .name-end .ensures) (c .before .before .before .before .before .before .before .before .e .given .1)
       (sym (c .before .before .before .before .v .given .1) ∙ c .before .before .before .before .before .before .colon .ensures)),
-  (search (picks, needs) depth 7, c .before .before .before .before .before .before .before .before .before .before .before .simple .ensures),
+  (search (picks, needs) depth 7, c .before .before .before .before .before .before .before .before .before .before .before .measured .ensures .1),
 )
 
 returns-4 : tie.Need-returns-4
@@ -39,7 +39,7 @@ returns-4 c = (
   ap placeOf
       (then-past (pastColon _) (c .before .before .before .before .before .before .before .before .before .before .before .before .name-end .ensures) (c .before .before .before .before .before .before .before .before .before .before .e .given .1)
       (sym (c .before .before .before .before .before .before .v .given .1) ∙ c .before .before .before .before .before .before .before .before .colon .ensures)),
-  (search (picks, needs) depth 7, c .before .before .before .before .before .before .before .before .before .before .before .before .before .simple .ensures),
+  (search (picks, needs) depth 7, c .before .before .before .before .before .before .before .before .before .before .before .before .before .measured .ensures .1),
 )
 
 pub take-spec : {M : Type 1} → statement M
@@ -47,7 +47,7 @@ take-spec =
     tie.close
     (tie.spec
     (λ c κs. search needs)
-    (λ c κs. c .simple .ensures)
+    (λ c κs. c .measured .ensures .0)
     (λ c. search needs)
     (λ c. search needs)
     returns

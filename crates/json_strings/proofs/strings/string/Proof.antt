@@ -1,13 +1,12 @@
 use borrow.Author.Needs.{needs}
 use native.Mathlib.Omega.{arith}
 use Prim.Native.Nat.{_-_}
-use mathlib.Core.Path.{_≡_, refl, sym, _∙_}
+use mathlib.Core.Path.{_≡_, sym, _∙_}
 use lib.ListN.{length}
-use Rattle.laws.specs.Pick.{pick}
 use Rattle.json_strings.specs.Text.{unitStep, stringAt}
 use Rattle.json_tokens.specs.Walk.{walked}
 use Rattle.json_strings.proofs.Ahead.{forth-unit}
-use Rattle.json_strings.proofs.Runs.{walked-run, run-closed}
+use Rattle.json_strings.proofs.Runs.{run-begun, run-closed}
 use Rattle.json_strings.proofs.Units.{units}
 use Rattle.json_tokens.proofs.Turns.{walked-more, turn-ahead, turn-falls, walked-end, walked-wrong}
 use Rattle.json_strings.proofs.strings.string.Statement.{statement}
@@ -29,13 +28,12 @@ add-run-from c = search (units, needs)
 returns-2 : tie.Need-returns-2 Inv-loop μ-loop
 returns-2 c =
     sym (run-closed _ _ (c .before .before .before .before .byte .ensures) (c .before .before .before .if1 .left)
-    (c .before .before .run-from .ensures) (c .before .byte2 .ensures) (c .if2 .taken) .ends)
+    (c .before .before .run-from .ensures) (c .before .byte2 .ensures) (c .if2 .taken) .0)
 
 loop-holds : tie.Need-loop-holds Inv-loop μ-loop
-unfolding stringAt pick
 loop-holds c =
-    let b = c .before .before .before .before .byte .ensures in
-    walked-run _ _ (c .before .before .run-from .ensures) ∙ rw (sym b ∙ c .before .before .before .if1 .left) refl
+    sym (run-begun _ _ (c .before .before .before .before .byte .ensures) (c .before .before .before .if1 .left)
+    (c .before .before .run-from .ensures))
 
 onward-requires : tie.Need-onward-requires Inv-loop μ-loop
 onward-requires c κs =
