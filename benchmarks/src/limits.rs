@@ -7,17 +7,13 @@ pub struct Limit {
     pub name: &'static str,
     pub highest: f64,
     /// The highest ratio of ordinary runs so far: those of one aarch64, also while others used it;
-    /// of what verifies, of lists, and of texts by a usual one, those of one x86-64. [`UNMET`] where no run held it yet.
+    /// of what verifies, of lists, and of texts by a usual one, those of one x86-64.
     pub seen: f64,
     /// Of what by what.
     pub what: &'static str,
     /// Why it is this one.
     pub why: &'static str,
 }
-
-/// What stands for the highest ratio where the limit is asked for and above it is all that was seen:
-/// the run fails there until ours is faster.
-const UNMET: f64 = 0.0;
 
 /// How much of what was seen a limit is at the least: it must have room for machines that it was not
 /// made on.
@@ -105,9 +101,9 @@ pub const LIMITS: &[Limit] = &[
           "the goal"),
     limit("texts_written", 0.33 + RUNS, 0.33, "JSON written by the independent writer",
           "as runs"),
-    limit("daemon", 2.0, UNMET, "an answer of trawld by an echo, by the server's own time",
+    limit("daemon", 2.0, 1.70, "an answer of trawld by an echo, by the server's own time",
           "asked: half as many answers as echoes at the least"),
-    limit("daemon_rate", 2.0, UNMET, "echoes a second by answers of trawld a second",
+    limit("daemon_rate", 2.0, 1.5, "echoes a second by answers of trawld a second",
           "asked: the same, by the clock on the wall"),
     limit("doubled", 2.5, 2.4, "twice the bytes by once the bytes",
           "nothing grows faster than the bytes; 0.5 is for caches and the clock"),
