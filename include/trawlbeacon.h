@@ -261,7 +261,7 @@ typedef uint64_t tb_size;
  * signature takes 5,016. hosts/c/stack.c measures it. */
 #define TB_SIGN_STACK 8192
 
-/* Bytes of stack that are enough for tb_answer_batch. On x86-64 it takes at most 102,848.
+/* Bytes of stack that are enough for tb_answer_batch. On x86-64 it takes at most 102,800.
  * hosts/c/stack.c measures it. */
 #define TB_BATCH_STACK 131072
 
