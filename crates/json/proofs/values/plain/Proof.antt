@@ -70,8 +70,11 @@ plain-spec =
     (λ c κs. search needs)
     (λ c. search (picks, needs))
     (λ c κs. search needs)
-    (λ c. omega (arith, inside (c .before .before .before .before .before .args .s .now) (c .before .byte2 .ensures)
-    (c .if2 .taken) tt))
+    (λ c. omega (
+      arith,
+      inside (c .before .before .before .before .before .args .s .now) (c .before .byte2 .ensures)
+          (c .if2 .taken) tt,
+    ))
     returns
     (λ c κs. search needs)
     (λ c κs. search needs)
