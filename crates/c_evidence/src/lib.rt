@@ -1,5 +1,7 @@
 // What C is told of the evidence, which is piles, reports and walks, and of a response's two signatures: structs and
 // answers as in `c_packets`. Beside a refusal stand zeros, but for the place of a record. No function has a `requires`.
+#![tactic(auto)]
+
 mod piling;
 mod publishing;
 mod signing;
@@ -12,7 +14,7 @@ pub use walking::{asked_told, took_told};
 
 // What `tb_judge` answers: what is said of one record, with its place.
 #[repr(C)]
-#[derive(Drop)]
+#[derive(Clone, Copy)]
 pub struct TbJudged {
     pub code: u32,
     pub radi: u32,
@@ -29,7 +31,7 @@ pub struct TbJudged {
 // What `tb_check_report` answers: the place of the record that is to blame for the code, or the two records that
 // contradict.
 #[repr(C)]
-#[derive(Drop)]
+#[derive(Clone, Copy)]
 pub struct TbReported {
     pub code: u32,
     pub place: u64,
@@ -40,7 +42,7 @@ pub struct TbReported {
 
 // What `tb_cut_run` answers: the places of the first and the last record of the run.
 #[repr(C)]
-#[derive(Drop)]
+#[derive(Clone, Copy)]
 pub struct TbCut {
     pub code: u32,
     pub first: u64,
@@ -49,7 +51,7 @@ pub struct TbCut {
 
 // What `tb_read_report` answers: how many records stand at the front of the buffer.
 #[repr(C)]
-#[derive(Drop)]
+#[derive(Clone, Copy)]
 pub struct TbRecords {
     pub code: u32,
     pub records: u64,
@@ -58,7 +60,7 @@ pub struct TbRecords {
 // What `tb_write_report` and `tb_write_signed_report` answer: the place of the record that is to blame for the code, or
 // how long the text is.
 #[repr(C)]
-#[derive(Drop)]
+#[derive(Clone, Copy)]
 pub struct TbPublished {
     pub code: u32,
     pub place: u64,
@@ -69,7 +71,7 @@ pub struct TbPublished {
 // What `tb_cut_text` and `tb_cut_signed_text` answer: the places of the first and the last record of the run, and how
 // long its text is.
 #[repr(C)]
-#[derive(Drop)]
+#[derive(Clone, Copy)]
 pub struct TbForwarded {
     pub code: u32,
     pub first: u64,
@@ -79,7 +81,7 @@ pub struct TbForwarded {
 
 // What `tb_walk_ask` answers: which server is asked next, and with which nonce.
 #[repr(C)]
-#[derive(Drop)]
+#[derive(Clone, Copy)]
 pub struct TbAsked {
     pub code: u32,
     pub server: u64,
@@ -89,7 +91,7 @@ pub struct TbAsked {
 // What `tb_walk_take` and `tb_walk_take_signed` answer: how the walk stands, at its end the two records that
 // contradict, and the window of the response that was taken.
 #[repr(C)]
-#[derive(Drop)]
+#[derive(Clone, Copy)]
 pub struct TbTook {
     pub code: u32,
     pub outcome: u32,

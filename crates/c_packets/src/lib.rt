@@ -3,6 +3,8 @@
 // `c_evidence` has the structs of piles. No function has a `requires`. Each struct has the header's name, `tb_request`
 // for `TbRequest`. Its code is document 01's number, 0 where nothing was refused, and `at` the byte place that it
 // carries, 0 where it carries none; what else stands beside a refusal is zeros.
+#![tactic(auto)]
+
 mod batching;
 mod building;
 mod clocking;
@@ -23,7 +25,7 @@ pub use writing::wrote_told;
 
 // What `tb_read_request` answers.
 #[repr(C)]
-#[derive(Drop)]
+#[derive(Clone, Copy)]
 pub struct TbRequest {
     pub code: u32,
     pub with_srv: u32,
@@ -34,7 +36,7 @@ pub struct TbRequest {
 
 // What `tb_read_response` answers.
 #[repr(C)]
-#[derive(Drop)]
+#[derive(Clone, Copy)]
 pub struct TbResponse {
     pub code: u32,
     pub indx: u32,
@@ -47,7 +49,7 @@ pub struct TbResponse {
 
 // What `tb_signed_parts` answers.
 #[repr(C)]
-#[derive(Drop)]
+#[derive(Clone, Copy)]
 pub struct TbParts {
     pub code: u32,
     pub at: u64,
@@ -58,7 +60,7 @@ pub struct TbParts {
 
 // What the writers of bytes answer: how many they wrote.
 #[repr(C)]
-#[derive(Drop)]
+#[derive(Clone, Copy)]
 pub struct TbWrote {
     pub code: u32,
     pub at: u64,
@@ -67,7 +69,7 @@ pub struct TbWrote {
 
 // What `tb_answer_batch` answers: how many packets were answered.
 #[repr(C)]
-#[derive(Drop)]
+#[derive(Clone, Copy)]
 pub struct TbBatch {
     pub code: u32,
     pub at: u64,
@@ -76,7 +78,7 @@ pub struct TbBatch {
 
 // What `tb_check_response` answers.
 #[repr(C)]
-#[derive(Drop)]
+#[derive(Clone, Copy)]
 pub struct TbVerdict {
     pub code: u32,
     pub radi: u32,
@@ -91,7 +93,7 @@ pub struct TbVerdict {
 
 // What `tb_root` answers.
 #[repr(C)]
-#[derive(Drop)]
+#[derive(Clone, Copy)]
 pub struct TbRooted {
     pub code: u32,
     pub depth: u32,
@@ -100,7 +102,7 @@ pub struct TbRooted {
 
 // What `tb_path` and `tb_path_from` answer.
 #[repr(C)]
-#[derive(Drop)]
+#[derive(Clone, Copy)]
 pub struct TbPlaced {
     pub code: u32,
     pub indx: u32,
@@ -109,7 +111,7 @@ pub struct TbPlaced {
 
 // What `tb_rows` answers.
 #[repr(C)]
-#[derive(Drop)]
+#[derive(Clone, Copy)]
 pub struct TbLaid {
     pub code: u32,
     pub depth: u32,
@@ -118,7 +120,7 @@ pub struct TbLaid {
 
 // What `tb_find_server` answers: the list, 0 for the owner's and 1 for the shipped, and where the record begins in it.
 #[repr(C)]
-#[derive(Drop)]
+#[derive(Clone, Copy)]
 pub struct TbFound {
     pub code: u32,
     pub list: u32,
@@ -127,7 +129,7 @@ pub struct TbFound {
 
 // What `tb_old_window` answers.
 #[repr(C)]
-#[derive(Drop)]
+#[derive(Clone, Copy)]
 pub struct TbOld {
     pub code: u32,
     pub low: u64,
@@ -136,7 +138,7 @@ pub struct TbOld {
 
 // What `tb_clock_now` answers.
 #[repr(C)]
-#[derive(Drop)]
+#[derive(Clone, Copy)]
 pub struct TbTime {
     pub code: u32,
     pub stopped: u32,

@@ -2,6 +2,8 @@
 // length, an array as a pointer, an answer as a struct by value. No function asks anything of the bytes it is lent.
 // What a caller must see to (no null pointer, lengths that are true, an out or a state that is initialised and overlaps
 // no input) stands in include/trawlbeacon.h.
+#![tactic(auto)]
+
 mod batching;
 mod building;
 mod clocking;

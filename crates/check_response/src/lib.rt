@@ -1,5 +1,7 @@
 // The response check (draft 19, section 5.4): a response passes exactly when every check holds, and then its window
 // and its delegated key come out.
+#![tactic(auto)]
+
 mod agreement;
 mod checking;
 mod downgrading;
@@ -11,7 +13,7 @@ pub use windows::low_end;
 
 // What a valid response says of the time: MIDP and RADI, and the ends of its window, which stop at 0 and at 2^64 - 1;
 // and from when to when its key is trusted, MINT and MAXT.
-#[derive(Drop)]
+#[derive(Clone, Copy)]
 pub struct Window {
     pub midp: u64,
     pub radi: u32,
@@ -23,7 +25,7 @@ pub struct Window {
 
 // Why a response is refused, or its window where it passes. The refusal comes first, so that the value that has only
 // zeros is no valid verdict.
-#[derive(Drop)]
+#[derive(Clone, Copy)]
 pub enum Verdict {
     Refused(Refusal),
     Valid(Window),
@@ -31,7 +33,7 @@ pub enum Verdict {
 
 // What the check answers: the verdict, and beside it the delegated key, PUBK, which is 32 zero bytes on a refusal. An
 // enum can hold no array.
-#[derive(Drop)]
+#[derive(Clone, Copy)]
 pub struct Checked {
     pub verdict: Verdict,
     pub pubk: [u8; 32],

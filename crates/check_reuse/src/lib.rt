@@ -1,6 +1,8 @@
 // What a console asks of answers that it kept: whether a window may still be used, and whether two answers come from
 // one delegation. An answer is told by its code, 0 where it is valid, and by what the question reads of it, so that
 // nobody has to make up the rest of one.
+#![tactic(auto)]
+
 ghost use Rattle.std.specs.Prelude.{◌≡◌};
 ghost use Rattle.check_reuse.specs.Reuse.{may_use, same_dele, same_delegation};
 
@@ -8,7 +10,7 @@ use octets::equal;
 
 // What an answer hands out of DELE (draft 19, 5.2.6): the delegated key, and the first and the last second for which it
 // is trusted.
-#[derive(Drop)]
+#[derive(Clone, Copy)]
 pub struct Delegation {
     pub pubk: [u8; 32],
     pub mint: u64,

@@ -2,6 +2,8 @@
 // long-term key, and that of the response under the PUBK of its DELE. `check_signed` is the response check that needs
 // no answers. It answers what `check_response` answers when it is given these two. All take any bytes. Signatures are
 // looked at last, and only where nothing cheaper refuses: a damaged packet costs no verification.
+#![tactic(auto)]
+
 mod checking;
 mod verifying;
 
@@ -9,7 +11,7 @@ pub use checking::check_signed;
 pub use verifying::answers;
 
 // Whether the signature of the delegation verifies, and whether that of the response does.
-#[derive(Drop)]
+#[derive(Clone, Copy)]
 pub struct Verified {
     pub delegation: bool,
     pub signature: bool,

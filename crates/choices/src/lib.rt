@@ -1,5 +1,7 @@
 // One of two, chosen with no branch and no address that hangs on the choice; and the veil, without which the compiler
 // makes branches of such choices again.
+#![tactic(auto)]
+
 ghost use Rattle.std.specs.Prelude.{◌≡◌, cond, ◌<◌, eqb};
 
 // b where the bit is 1, and a where it is 0.

@@ -1,6 +1,8 @@
 // The time, though some servers lie. The state keeps the two newest windows of each of 8 servers, with when, by the
 // host's own clock, each was asked for and received. It is the caller's, handed in and handed back; any state at all
 // may come in.
+#![tactic(auto)]
+
 mod keeping;
 mod reading;
 mod telling;
@@ -12,7 +14,7 @@ pub use telling::time_at;
 // The state: how far the host's own clock may go wrong, in parts per million, and the windows that are kept, of which
 // 2 s and 2 s + 1 are the newest of server s and the one before it. Each field is an array of its own, so that a host
 // can hold the state.
-#[derive(Drop)]
+#[derive(Clone, Copy)]
 pub struct Clock {
     pub drift: u32,
     pub low: [u64; 16],
@@ -23,7 +25,7 @@ pub struct Clock {
 }
 
 // What a start, and a window that is taken, answer: a refusal or none, and the state for the next call.
-#[derive(Drop)]
+#[derive(Clone, Copy)]
 pub struct Updated {
     pub refusal: Refusal,
     pub clock: Clock,
@@ -32,7 +34,7 @@ pub struct Updated {
 // The time at a moment: its two ends, in microseconds since 1970, whether the high one stopped at 2^64 - 1, and how
 // many servers were counted. `agree` and `suspects` are sets of these, in which server s counts 2^s: those whose span
 // meets the time, and those whose span does not.
-#[derive(Drop)]
+#[derive(Clone, Copy)]
 pub struct Time {
     pub low: u64,
     pub high: u64,
@@ -43,7 +45,7 @@ pub struct Time {
 }
 
 // What is said of a moment.
-#[derive(Drop)]
+#[derive(Clone, Copy)]
 pub enum Answer {
     Refused(Refusal),
     Given(Time),

@@ -1,5 +1,7 @@
 // Where servers agree (Marzullo 1984): the least and the greatest point that lies in the spans of enough of them, and
 // who is suspect.
+#![tactic(auto)]
+
 mod agreeing;
 mod counting;
 mod gathering;
@@ -10,7 +12,7 @@ use refusal::Refusal;
 // What the servers agree on: the two ends, in microseconds since 1970, and how many servers were counted. `agree` and
 // `suspects` are sets of these, in which server s counts 2^s: those whose span meets what lies between the ends, and
 // those whose span does not.
-#[derive(Drop)]
+#[derive(Clone, Copy)]
 pub struct Agreed {
     pub from: u64,
     pub to: u64,
@@ -19,7 +21,7 @@ pub struct Agreed {
     pub suspects: u64,
 }
 
-#[derive(Drop)]
+#[derive(Clone, Copy)]
 pub enum Agreement {
     Refused(Refusal),
     Found(Agreed),

@@ -1,6 +1,8 @@
 // What a window that was kept says of a later moment, by a clock of the host's that may go wrong a little (draft 19,
 // section 6). Ends of windows are seconds since 1970, moments are microseconds of the host's own clock, and the ends of
 // spans are microseconds since 1970.
+#![tactic(auto)]
+
 mod drifting;
 mod numbers;
 mod spanning;
@@ -11,7 +13,7 @@ pub use spanning::{is_used, server_span};
 
 // A window that was kept: its ends and the last second at which it may be used, in seconds since 1970; and when its
 // request was first sent and its response received, in microseconds of the host's own clock.
-#[derive(Drop)]
+#[derive(Clone, Copy)]
 pub struct Kept {
     pub low: u64,
     pub high: u64,
@@ -21,7 +23,7 @@ pub struct Kept {
 }
 
 // What a window, or a server, says of a moment: whether it is counted, and between which points the time is then.
-#[derive(Drop)]
+#[derive(Clone, Copy)]
 pub struct Span {
     pub counted: bool,
     pub low: u64,

@@ -7,20 +7,20 @@ ghost use Rattle.laws.specs.Written.{Puts};
 ghost use Rattle.console.specs.Text.{record_lines, records_text, verdict_text};
 
 use console_lines::{put_labelled, put_record, put_run, put_word};
-use libc::STDOUT_FILENO;
 use pile::{RECORD, judge};
 use pile_report::{Taken, cut_run};
 use refusal::codes;
+use std::io::Print;
 
 // The length of sixteen records, the most that a pile has.
 const LONGEST: usize = 16 * RECORD;
 
 // Tells of any pile and any answers. The page has room for sixteen records, and is written at once.
-pub fn tell<'a>(pile: &'a [u8], answers: &'a [u8]) {
+pub fn tell<'a, R: Print>(rt: &R, pile: &'a [u8], answers: &'a [u8]) -> std::io::Result<()> {
     let taken = taken_from(pile, answers);
     let mut page = [0u8; 2048];
     let n = put_verdict(pile, answers, taken, &mut page);
-    io::write_all(STDOUT_FILENO, &page[..n]);
+    rt.write_all(&page[..n])
 }
 
 // What the cutter answers. Its buffer has room for the longest pile, so that it is never short.

@@ -1,4 +1,6 @@
 // The lines that the programs print (document 01, "Examples"), each put into a buffer behind the ones before it.
+#![tactic(auto)]
+
 mod lines;
 mod pieces;
 

@@ -1,4 +1,6 @@
 // The curve edwards25519 (RFC 8032, 5.1) and its points in extended coordinates.
+#![tactic(auto)]
+
 mod adding;
 mod comparing;
 mod constants;
@@ -15,7 +17,7 @@ pub use finishing::{with_t, without_t};
 pub use rows::{opposite, opposite_thin, row_of};
 
 // A point: x = X/Z, y = Y/Z, x y = T/Z.
-#[derive(Drop)]
+#[derive(Clone, Copy)]
 pub struct Point {
     pub x: Fe,
     pub y: Fe,
@@ -24,7 +26,7 @@ pub struct Point {
 }
 
 // A point without its T, which a doubling does not need.
-#[derive(Drop)]
+#[derive(Clone, Copy)]
 pub struct Flat {
     pub x: Fe,
     pub y: Fe,
@@ -32,7 +34,7 @@ pub struct Flat {
 }
 
 // E, F, G and H, of which a point's coordinates are products.
-#[derive(Drop)]
+#[derive(Clone, Copy)]
 pub struct Ends {
     pub e: Fe,
     pub f: Fe,
@@ -41,7 +43,7 @@ pub struct Ends {
 }
 
 // What an addition takes of its second point: Y - X, Y + X, 2 Z and 2 d T.
-#[derive(Drop)]
+#[derive(Clone, Copy)]
 pub struct Addend {
     pub minus: Fe,
     pub plus: Fe,
@@ -50,7 +52,7 @@ pub struct Addend {
 }
 
 // The same of a point with Z = 1, whose 2 Z need not be said.
-#[derive(Drop)]
+#[derive(Clone, Copy)]
 pub struct Thin {
     pub minus: Fe,
     pub plus: Fe,

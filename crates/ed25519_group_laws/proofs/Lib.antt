@@ -3,8 +3,8 @@
 -- definitions. Fractions and Associative: sums of three points in either order are the same; Group and Times: the
 -- points are a group, and what holds of multiples there. Standing, Adding and Doubling: what RFC 8032's formulas give
 -- stands for such sums; Multiples, Equality and Decoded: so do multiples, equality is that of points, and what is
--- decoded stands for itself; Opposites: so do opposites. TimesL, PrimeOrder and Order: [L]B is neutral, L is prime, and
--- so the order of the base point.
+-- decoded stands for itself; Opposites: so do opposites. TimesL, PrimeOrder, Dividing and Order: [L]B is neutral, L is prime,
+-- and so the order of the base point.
 pub mod Modulo
 pub mod Division
 pub mod Curve
@@ -25,4 +25,5 @@ pub mod Decoded
 pub mod Opposites
 pub mod TimesL
 pub mod PrimeOrder
+pub mod Dividing
 pub mod Order

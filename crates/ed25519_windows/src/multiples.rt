@@ -4,7 +4,8 @@ ghost use Rattle.ed25519_windows.specs.Windows.{Rows, Turned};
 
 use ed25519_curve::{Addend, Thin, opposite, opposite_thin, row_of, summed, with_t, zero_point};
 
-// The rows of P, 3P, .. 15P, of P's own row.
+// The rows of P, 3P, .. 15P, of P's own row. What it needs meanwhile is not to lie on its caller's stack.
+#[inline(never)]
 pub fn multiples(r: Addend) -> [Addend; 8]
     requires { Even r }
     ensures { Rows r result 8 }

@@ -1,4 +1,6 @@
 // H, the first 32 bytes of SHA-512 (draft 19, 5.1.4), over what Roughtime hashes.
+#![tactic(auto)]
+
 ghost use Rattle.std.specs.Prelude.{◌≡◌, [], ◌∷◌, take};
 ghost use Rattle.sha512.specs.State.{state_of};
 ghost use Rattle.hash.specs.Hashes.{leaf_of, parent_of, empty_place, srv_of, link_of, hash_of};

@@ -8,10 +8,10 @@ use lib.ListN.{length, drop}
 use Rattle.laws.specs.Pasted.{pasted, fronted}
 use Rattle.laws.proofs.Filled.{Filled, filled-first, filled_next, filled-fit, filled-last}
 use Rattle.json_strings.specs.Text.{content_at}
-use Rattle.base64.specs.declared.Group.{Group}
-use Rattle.base64.specs.declared.Group.TheVariants.{Three, Two, One}
-use Rattle.base64.specs.declared.Group.TheVariants.{Bad as BadGroup}
-use Rattle.base64.specs.Decode.{Decoded, bytes, none, onto, with_group, group_of, decode64}
+use Rattle.base64_strict.specs.declared.Group.{Group}
+use Rattle.base64_strict.specs.declared.Group.TheVariants.{Three, Two, One}
+use Rattle.base64_strict.specs.declared.Group.TheVariants.{Bad as BadGroup}
+use Rattle.base64_strict.specs.Decode.{Decoded, bytes, none, onto, with_group, group_of, decode64}
 use Rattle.json_base64.specs.declared.Size.{Size}
 use Rattle.json_base64.specs.declared.Size.TheVariants.{Of, Bad}
 use Rattle.json_base64.specs.Sized.{size_of, good, plain, Grouped, Begun}

@@ -11,12 +11,12 @@ use Rattle.json_tokens.specs.Scan.{Passes}
 use Rattle.json_strings.specs.Text.{unescaped, content_at}
 use Rattle.json_strings.proofs.Content.{content-code, content-falls}
 use Rattle.json_strings.proofs.Runs.{unit-unescaped}
-use Rattle.base64.specs.declared.Group.{Group}
-use Rattle.base64.specs.declared.Group.TheVariants.{Three}
-use Rattle.base64.specs.Alphabet.{sextet_of, is_letter}
-use Rattle.base64.specs.Decode.{group_of, decode64, high, middle, low}
-use Rattle.base64.proofs.Tables.{letter-ranged}
-use Rattle.base64.proofs.Decodes.{group-letters}
+use Rattle.base64_strict.specs.declared.Group.{Group}
+use Rattle.base64_strict.specs.declared.Group.TheVariants.{Three}
+use Rattle.base64_strict.specs.Alphabet.{sextet_of, is_letter}
+use Rattle.base64_strict.specs.Decode.{group_of, decode64, high, middle, low}
+use Rattle.base64_strict.proofs.Tables.{letter-ranged}
+use Rattle.base64_strict.proofs.Decodes.{group-letters}
 use Rattle.json_base64.specs.Sized.{size_of, Reads, Grouped, Lettered}
 use Rattle.json_base64.proofs.Quads.{grouped, size-three}
 

@@ -8,11 +8,11 @@ use lib.ListN.{length, length-append}
 use Rattle.json_strings.specs.Text.{content_at, latin_at}
 use Rattle.json_strings.proofs.Content.{content-code, content-falls}
 use Rattle.json_strings.proofs.TwoDigits.{latin-unit}
-use Rattle.base64.specs.declared.Group.{Group}
-use Rattle.base64.specs.declared.Group.TheVariants.{Three, Two, One}
-use Rattle.base64.specs.declared.Group.TheVariants.{Bad as BadGroup}
-use Rattle.base64.specs.Decode.{Decoded, bytes, none, onto, with_group, group_of, decode64}
-use Rattle.base64.proofs.Decodes.{decode-group}
+use Rattle.base64_strict.specs.declared.Group.{Group}
+use Rattle.base64_strict.specs.declared.Group.TheVariants.{Three, Two, One}
+use Rattle.base64_strict.specs.declared.Group.TheVariants.{Bad as BadGroup}
+use Rattle.base64_strict.specs.Decode.{Decoded, bytes, none, onto, with_group, group_of, decode64}
+use Rattle.base64_strict.proofs.Decodes.{decode-group}
 use Rattle.json_base64.specs.declared.Size.{Size}
 use Rattle.json_base64.specs.declared.Size.TheVariants.{Of, Bad}
 use Rattle.json_base64.specs.Sized.{size_of, empty, Reads, Grouped}

@@ -2,11 +2,11 @@
 use Rattle.std.specs.Prelude.{ℕ, ◌+◌, ◌*◌, ◌-◌, ◌≤◌, ◌<◌, ◌≡◌, Bool, true, false, List, [], ◌∷◌, ◌++◌, length}
 use Rattle.json_tokens.specs.Scan.{Passes}
 use Rattle.json_strings.specs.Text.{content_at}
-use Rattle.base64.specs.Alphabet.{is_letter}
+use Rattle.base64_strict.specs.Alphabet.{is_letter}
 use Rattle.laws.specs.Pasted.{pasted}
-use Rattle.base64.specs.declared.Group.{Group}
-use Rattle.base64.specs.declared.Group.TheVariants.{Three}
-use Rattle.base64.specs.Decode.{Decoded, bytes, none, group_of, decode64}
+use Rattle.base64_strict.specs.declared.Group.{Group}
+use Rattle.base64_strict.specs.declared.Group.TheVariants.{Three}
+use Rattle.base64_strict.specs.Decode.{Decoded, bytes, none, group_of, decode64}
 use Rattle.json_base64.specs.declared.Size.{Size}
 use Rattle.json_base64.specs.declared.Size.TheVariants.{Of, Bad}
 use Rattle.json_base64.specs.declared.Letter.{Letter}

@@ -1,7 +1,7 @@
 // The bytes that a string stands for, written out.
 ghost use Rattle.std.specs.Prelude.{◌≡◌, ◌+◌, ◌*◌, ◌≤◌, length, true};
 ghost use Rattle.json_strings.specs.Text.{content_at};
-ghost use Rattle.base64.specs.Decode.{decode64};
+ghost use Rattle.base64_strict.specs.Decode.{decode64};
 ghost use Rattle.laws.specs.Pasted.{fronted};
 ghost use Rattle.json_base64.specs.Sized.{good, plain, Lettered, Tripled, Begun};
 
@@ -9,7 +9,7 @@ use super::groups::quad_of;
 use super::letters::groups;
 use super::sizing::size_of;
 use super::{Quad, Size};
-use base64::Group;
+use base64_strict::Group;
 use octets::put;
 
 // The bytes of the four letters at a place, from index n of out on.
@@ -17,7 +17,7 @@ fn put_three(s: &[u8], k: usize, out: &mut [u8], n: usize)
     requires { Lettered s.now k 1 × (n + 3 ≤ length out.old) }
     ensures { Tripled s.now k out.old n out.new }
 {
-    let t = base64::triple_of(s[k], s[k + 1], s[k + 2], s[k + 3]);
+    let t = base64_strict::triple_of(s[k], s[k + 1], s[k + 2], s[k + 3]);
     let three = [t.x, t.y, t.z];
     put(out, n, &three);
 }

@@ -46,7 +46,7 @@ fn quad_singly(s: &[u8], k: usize) -> Quad
     let Letter::Is(d, n) = letter_at(s, m) else {
         return Quad::Fewer;
     };
-    Quad::Four(base64::group_of(a, b, c, d), n)
+    Quad::Four(base64_strict::group_of(a, b, c, d), n)
 }
 
 // The four letters at a place.
@@ -54,7 +54,10 @@ fn quad_together(s: &[u8], k: usize) -> Quad
     requires { Lettered s.now k 1 }
     ensures { QuadOf s.now k result }
 {
-    Quad::Four(base64::three_of(s[k], s[k + 1], s[k + 2], s[k + 3]), k + 4)
+    Quad::Four(
+        base64_strict::three_of(s[k], s[k + 1], s[k + 2], s[k + 3]),
+        k + 4,
+    )
 }
 
 // The four characters at a place, each written as \u00 and two digits, or one by one where one is not.
@@ -69,7 +72,7 @@ fn quad_escaped(s: &[u8], k: usize) -> Quad
     if (a == 256) | (b == 256) | (c == 256) | (d == 256) {
         return quad_singly(s, k);
     }
-    Quad::Four(base64::group_of(a, b, c, d), k + 24)
+    Quad::Four(base64_strict::group_of(a, b, c, d), k + 24)
 }
 
 // The four characters at a place, as with pads at a string's end: together where each stands for itself, else one by
@@ -84,7 +87,7 @@ fn quad_plain(s: &[u8], k: usize) -> Quad
     let d = byte(s, k + 3);
     if is_unescaped(a) & is_unescaped(b) & is_unescaped(c) & is_unescaped(d) {
         return Quad::Four(
-            base64::group_of(a as u32, b as u32, c as u32, d as u32),
+            base64_strict::group_of(a as u32, b as u32, c as u32, d as u32),
             k + 4,
         );
     }

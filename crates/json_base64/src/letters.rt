@@ -2,7 +2,7 @@
 ghost use Rattle.std.specs.Prelude.{◌≡◌, true};
 ghost use Rattle.json_base64.specs.Sized.{Lettered};
 
-use base64::is_letter;
+use base64_strict::is_letter;
 
 // Whether the four bytes at a place are letters.
 pub fn four(s: &[u8], at: usize) -> bool

@@ -1,13 +1,13 @@
 // How many bytes a string stands for.
 ghost use Rattle.std.specs.Prelude.{◌≡◌, ◌+◌};
 ghost use Rattle.json_strings.specs.Text.{content_at};
-ghost use Rattle.base64.specs.Decode.{decode64};
+ghost use Rattle.base64_strict.specs.Decode.{decode64};
 ghost use Rattle.json_base64.specs.Sized.{size_of};
 
 use super::groups::{at_end, quad_of};
 use super::letters::groups;
 use super::{Quad, Size};
-use base64::Group;
+use base64_strict::Group;
 
 // How many bytes the string whose characters start at a place stands for.
 pub fn size_of(s: &[u8], at: usize) -> Size

@@ -12,9 +12,9 @@ use Rattle.json_tokens.specs.declared.Skip.TheVariants.{Past, Bad}
 use Rattle.json_tokens.specs.Scan.{after, past_colon}
 use Rattle.json_tokens.specs.Number.{number_at}
 use Rattle.json_strings.specs.Text.{string_at, content_at}
-use Rattle.json.specs.Value.{item_step, member_step, value_at}
-use Rattle.json.specs.Members.{members_of, place_of, value_place}
-use Rattle.json.proofs.Ahead.{forth-items, forth-members}
+use Rattle.json_values.specs.Value.{item_step, member_step, value_at}
+use Rattle.json_values.specs.Members.{members_of, place_of, value_place}
+use Rattle.json_values.proofs.Ahead.{forth-items, forth-members}
 use Rattle.report_read.specs.Entry.{elements_of}
 use Rattle.json_laws.specs.Rules.{these, join, left, right}
 use Rattle.json_laws.specs.Abnf

@@ -13,9 +13,9 @@ use Rattle.json_tokens.specs.declared.Skip.TheVariants.{Past, Bad}
 use Rattle.json_tokens.specs.declared.Step.{Step}
 use Rattle.json_tokens.specs.Scan.{then, then_step, starts_with, blank, past_while, after, past_colon}
 use Rattle.json_strings.specs.Text.{string_at}
-use Rattle.json.specs.Value.{literal_at, plain_at, item_step, member_step, array_of, object_of, value_by, value_at, ends_at}
-use Rattle.json.specs.Value.{is_text}
-use Rattle.json.proofs.Ahead.{forth-items, forth-members}
+use Rattle.json_values.specs.Value.{literal_at, plain_at, item_step, member_step, array_of, object_of, value_by, value_at, ends_at}
+use Rattle.json_values.specs.Value.{is_text}
+use Rattle.json_values.proofs.Ahead.{forth-items, forth-members}
 use Rattle.json_laws.specs.Rules.{Rule, octets, these, within, join, left, right, absent, present}
 use Rattle.json_laws.specs.Abnf
 use Rattle.json_laws.proofs.Rest.{Rest, Passes, passes, front, if-true, if-is, if-not, rest-front, rest-past}

@@ -12,7 +12,7 @@ use Rattle.json_tokens.specs.declared.Skip.TheVariants.{Past, Bad}
 use Rattle.json_tokens.specs.Scan.{then, digit, run, past_while}
 use Rattle.json_tokens.specs.Number.{some_digits, past_minus, past_sign, whole_at, integer_at, fraction_at, signed_at, exponent_at}
 use Rattle.json_tokens.specs.Number.{number_at}
-use Rattle.json_laws.specs.Rules.{Rule, these, within, ◌·◌, join, ◌/◌, left, right, more, 1*◌, optional, absent}
+use Rattle.json_laws.specs.Rules.{Rule, these, within, ◌·◌, join, ◌∣◌, left, right, more, 1*◌, optional, absent}
 use Rattle.json_laws.specs.Rules.{present}
 use Rattle.json_laws.specs.Abnf
 use Rattle.json_laws.proofs.Rest.{Passes, passes, front, if-true, if-false, if-is, if-not, rest-front, rest-past}
@@ -101,7 +101,7 @@ module _ (s : List ℕ) where
   fraction-reads k x t (present (join {y = y} these d)) c h =
       if-is (Passes s t) (Past k) (rest-front h) (some-reads (k + 1) y t d c.digit (rest-next h))
 
-  signed_reads : Reads s (optional (Abnf.minus / Abnf.plus) · 1* Abnf.DIGIT) NoDigit (signed_at s)
+  signed_reads : Reads s (optional (Abnf.minus ∣ Abnf.plus) · 1* Abnf.DIGIT) NoDigit (signed_at s)
   unfolding signed_at past_sign either Abnf.minus Abnf.plus
   signed_reads k x t (join {y = y} absent d) c h =
       let f = rest-front h in

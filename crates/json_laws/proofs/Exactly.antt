@@ -13,8 +13,8 @@ use Rattle.json_tokens.specs.Number.{some_digits, past_minus, past_sign, whole_a
 use Rattle.json_tokens.specs.Number.{number_at}
 use Rattle.json_strings.specs.Text.{escape_of, nibble_of, nibble_at, hex_at, escape_at, least_second, most_second, second_at, tail_at}
 use Rattle.json_strings.specs.Text.{long_at, wide_at, unit_at, unit_step, string_at}
-use Rattle.json.specs.Value.{literal_at, plain_at, item_step, member_step, array_of, object_of, value_by, value_at, ends_at}
-use Rattle.json.specs.Value.{is_text}
+use Rattle.json_values.specs.Value.{literal_at, plain_at, item_step, member_step, array_of, object_of, value_by, value_at, ends_at}
+use Rattle.json_values.specs.Value.{is_text}
 use Rattle.json_laws.specs.Rules.{these, join, left, right, none as nothing, absent}
 use Rattle.json_laws.specs.Abnf
 use Rattle.json_laws.proofs.Spans.{both-parts}

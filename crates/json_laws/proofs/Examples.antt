@@ -14,9 +14,9 @@ use Rattle.json_tokens.specs.Number.{number_at}
 use Rattle.json_strings.specs.Text.{escape_of, nibble_of, nibble_at, hex_at, escape_at, least_second, most_second, second_at, tail_at}
 use Rattle.json_strings.specs.Text.{more_bits, two_at, three_at, four_at, long_at, wide_at, unit_at, unit_step, string_at, codes_at}
 use Rattle.json_strings.specs.Text.{content_at}
-use Rattle.json.specs.Value.{literal_at, plain_at, item_step, member_step, array_of, object_of, value_by, value_at, ends_at}
-use Rattle.json.specs.Value.{is_text}
-use Rattle.json.specs.Members.{members_of, place_of, value_place}
+use Rattle.json_values.specs.Value.{literal_at, plain_at, item_step, member_step, array_of, object_of, value_by, value_at, ends_at}
+use Rattle.json_values.specs.Value.{is_text}
+use Rattle.json_values.specs.Members.{members_of, place_of, value_place}
 use Rattle.report_read.specs.Entry.{elements_of}
 use Rattle.json_laws.specs.Abnf
 use Rattle.json_laws.specs.Tree.{Json, Member, members, elements, is_high, is_low, pair_of, paired, text_tree, Named}

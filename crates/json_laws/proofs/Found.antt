@@ -7,9 +7,9 @@ use native.Mathlib.Omega.{arith}
 use borrow.Author.Tests.{eq-eqb}
 use Rattle.laws.specs.Pick.{pick}
 use Rattle.json_strings.specs.Text.{content_at, same_list}
-use Rattle.json.specs.declared.Found.{Found}
-use Rattle.json.specs.declared.Found.TheVariants.{At as Stands, Nothing, Twice}
-use Rattle.json.specs.Members.{members_of, named, value_place, answer_of, count_of, tally, found_of}
+use Rattle.json_values.specs.declared.Found.{Found}
+use Rattle.json_values.specs.declared.Found.TheVariants.{At as Stands, Nothing, Twice}
+use Rattle.json_values.specs.Members.{members_of, named, value_place, answer_of, count_of, tally, found_of}
 use Rattle.json_laws.specs.Tree.{Json, Member, Named, no_member, this-one, another}
 use Rattle.json_laws.proofs.At.{At, MemberAt, Each, none, one}
 use Rattle.json_laws.proofs.Paired.{narrow, same-paired, is_same, same-is}
@@ -85,6 +85,8 @@ module _ (s : List ℕ) (d : ℕ) (w : List ℕ) (plain : narrow w ≡ true) whe
       → Finds s d (tally s w 1 v ks) (t ∷ values_named w ms)
   unfolding tally answer_of count_of pick values_named
   with-one v t [] [] a none = finds-one a
+  with-one v t [] (m ∷ ms) a e = elim e [ ]
+  with-one v t (k ∷ ks) [] a e = elim e [ ]
   with-one v t (k ∷ ks) (m ∷ ms) a (one p r) = by (with-one v t ks ms a r) (named s w k) refl
     where
       by : Finds s d (tally s w 1 v ks) (t ∷ values_named w ms) → (b : Bool) → named s w k ≡ b
@@ -98,6 +100,8 @@ module _ (s : List ℕ) (d : ℕ) (w : List ℕ) (plain : narrow w ≡ true) whe
       → Finds s d (tally s w 0 v ks) (values_named w ms)
   unfolding tally answer_of count_of pick values_named
   with_none v [] [] none = finds-none
+  with_none v [] (m ∷ ms) e = elim e [ ]
+  with_none v (k ∷ ks) [] e = elim e [ ]
   with_none v (k ∷ ks) (m ∷ ms) (one p r) = by (with_none v ks ms r) (named s w k) refl
     where
       by : Finds s d (tally s w 0 v ks) (values_named w ms) → (b : Bool) → named s w k ≡ b

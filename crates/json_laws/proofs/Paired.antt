@@ -10,10 +10,10 @@ use borrow.Author.Tests.{eq-eqb, ne_eqb, eqb-true, leb-true, ltb-true, le-ltb, l
 use lib.Dec.{eqb, ltb}
 use Rattle.laws.specs.Pick.{pick, both}
 use Rattle.json_strings.specs.Text.{same_list}
-use Rattle.base64.specs.declared.Group.{Group}
-use Rattle.base64.specs.declared.Group.TheVariants.{Three, Two, One, Bad}
-use Rattle.base64.specs.Alphabet.{sextet_of}
-use Rattle.base64.specs.Decode.{none, two_of, three_of, group_of, with_group, decode64}
+use Rattle.base64_strict.specs.declared.Group.{Group}
+use Rattle.base64_strict.specs.declared.Group.TheVariants.{Three, Two, One, Bad}
+use Rattle.base64_strict.specs.Alphabet.{sextet_of}
+use Rattle.base64_strict.specs.Decode.{none, two_of, three_of, group_of, with_group, decode64}
 use Rattle.json_laws.specs.Tree.{is_high, is_low, pair_of, paired}
 use Rattle.json_laws.proofs.Spans.{of-pick-cases, both-parts}
 
@@ -121,12 +121,15 @@ module _ (a b c d : ℕ) where
 
 none-behind : (g : Group) (x : List ℕ) → Wide x → with_group g x none ≡ none
 none-behind (Three p q r) x w = refl
+none-behind (Two p q) [] w = elim w [ ]
 none-behind (Two p q) (c ∷ x) w = refl
+none-behind (One p) [] w = elim w [ ]
 none-behind (One p) (c ∷ x) w = refl
 none-behind Bad x w = refl
 
 wide-none : (x : List ℕ) → Wide x → decode64 x ≡ none
 unfolding decode64
+wide-none [] w = elim w [ ]
 wide-none (a ∷ []) w = refl
 wide-none (a ∷ b ∷ []) w = refl
 wide-none (a ∷ b ∷ c ∷ []) w = refl

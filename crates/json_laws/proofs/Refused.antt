@@ -5,7 +5,7 @@ use mathlib.Core.Path.{◌≡◌, refl}
 use mathlib.Core.Bool.{Bool, true, false}
 use mathlib.Core.List.{List}
 use Rattle.laws.specs.Pick.{pick}
-use Rattle.json.specs.Value.{is_text}
+use Rattle.json_values.specs.Value.{is_text}
 use Rattle.report_read.specs.Entry.{list_place, entries_from, entries_of}
 use Rattle.report_read.specs.Read.{read_number, read_of}
 use Rattle.json_laws.specs.Abnf

@@ -18,7 +18,7 @@ use Rattle.json_tokens.specs.Scan.{then, blank, run, past_while}
 use Rattle.json_tokens.specs.Walk.{walked}
 use Rattle.json_tokens.proofs.While.{while-within}
 use Rattle.json_tokens.proofs.Turns.{Forth, walked_more, walked_end}
-use Rattle.json_laws.specs.Rules.{Rule, octet, these, ◌·◌, join, ◌/◌, left, right, *◌, none, more}
+use Rattle.json_laws.specs.Rules.{Rule, octet, these, ◌·◌, join, ◌∣◌, left, right, *◌, none, more}
 use Rattle.json_laws.specs.Abnf
 
 -- from k on stands x, to the end
@@ -139,7 +139,7 @@ unfolding pick
 trim-no c l e = rw e refl
 
 abbrev pub Blank : Rule
-Blank = octet 0x20 / octet 0x09 / octet 0x0A / octet 0x0D
+Blank = octet 0x20 ∣ octet 0x09 ∣ octet 0x0A ∣ octet 0x0D
 
 pub blank-one : (x : List ℕ) → Blank x → One blank x
 unfolding either

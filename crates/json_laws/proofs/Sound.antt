@@ -10,8 +10,8 @@ use lib.Seq.{drop-drop, drop-length}
 use Rattle.laws.specs.Pick.{both}
 use Rattle.json_tokens.specs.declared.Skip.{Skip}
 use Rattle.json_tokens.specs.Scan.{starts_with, blank, past_while, after, past_colon}
-use Rattle.json.specs.Value.{literal_at, plain_at, item_step, member_step, array_of, object_of, value_by, value_at, ends_at}
-use Rattle.json.specs.Value.{is_text}
+use Rattle.json_values.specs.Value.{literal_at, plain_at, item_step, member_step, array_of, object_of, value_by, value_at, ends_at}
+use Rattle.json_values.specs.Value.{is_text}
 use Rattle.json_laws.specs.Rules.{Rule, octets, these, ◌·◌, join, left, right, *◌, none, more, optional, absent}
 use Rattle.json_laws.specs.Rules.{present}
 use Rattle.json_laws.specs.Abnf

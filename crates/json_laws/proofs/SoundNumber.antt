@@ -14,14 +14,14 @@ use Rattle.json_tokens.specs.Scan.{blank, digit, run, past_while}
 use Rattle.json_tokens.specs.Number.{some_digits, past_minus, past_sign, whole_at, integer_at, fraction_at, signed_at, exponent_at}
 use Rattle.json_tokens.specs.Number.{number_at}
 use Rattle.json_tokens.proofs.Stands.{Stands, stands_at_lem}
-use Rattle.json_laws.specs.Rules.{Rule, octet, within, ◌·◌, join, ◌/◌, left, right, 1*◌, optional, absent, present}
+use Rattle.json_laws.specs.Rules.{Rule, octet, within, ◌·◌, join, ◌∣◌, left, right, 1*◌, optional, absent, present}
 use Rattle.json_laws.specs.Abnf
 use Rattle.json_laws.proofs.Spans.{of-pick-cases, both-parts, Spans, Sound, past, bad, octet-is, spans-nothing}
 use Rattle.json_laws.proofs.Spans.{spans-octet, spans-by, sound-by, sound-join, sound-then, run-some, run-spans}
 use Rattle.json_laws.proofs.Spans.{while-spans}
 
 abbrev Blank : Rule
-Blank = octet 0x20 / octet 0x09 / octet 0x0A / octet 0x0D
+Blank = octet 0x20 ∣ octet 0x09 ∣ octet 0x0A ∣ octet 0x0D
 
 is-blank : (c : ℕ) → blank c ≡ true → Blank (c ∷ [])
 unfolding either
@@ -59,12 +59,12 @@ module _ (s : List ℕ) where
       of-pick-cases (λ e. Spans (optional Abnf.minus) s k e) _
       (λ t. spans-by (λ x. present) (spans-octet k 0x2D (omega arith) (eqb-true _ _ t))) (λ t. spans-nothing k absent)
 
-  spans-sign : (k : ℕ) → Spans (optional (Abnf.minus / Abnf.plus)) s k (past_sign s k)
+  spans-sign : (k : ℕ) → Spans (optional (Abnf.minus ∣ Abnf.plus)) s k (past_sign s k)
   unfolding past_sign pick either Abnf.minus Abnf.plus
   spans-sign k = by (eqb (get_or s k 0) 43) (eqb (get_or s k 0) 45) refl refl
     where
       by : (p q : Bool) → eqb (get_or s k 0) 43 ≡ p → eqb (get_or s k 0) 45 ≡ q
-          → Spans (optional (Abnf.minus / Abnf.plus)) s k (pick (either p q) (k + 1) k)
+          → Spans (optional (Abnf.minus ∣ Abnf.plus)) s k (pick (either p q) (k + 1) k)
       by true q e f = spans-by (λ x p. present (right p)) (spans-octet k 0x2B (omega arith) (eqb-true _ _ e))
       by false true e f = spans-by (λ x p. present (left p)) (spans-octet k 0x2D (omega arith) (eqb-true _ _ f))
       by false false e f = spans-nothing k absent
@@ -101,7 +101,7 @@ module _ (s : List ℕ) where
       (sound-digits (k + 1))))
       (λ t. past (spans-nothing k absent))
 
-  sound-signed : (k : ℕ) → Sound (optional (Abnf.minus / Abnf.plus) · 1* Abnf.DIGIT) s k (signed_at s k)
+  sound-signed : (k : ℕ) → Sound (optional (Abnf.minus ∣ Abnf.plus) · 1* Abnf.DIGIT) s k (signed_at s k)
   unfolding signed_at
   sound-signed k = sound-join (spans-sign k) (sound-digits (past_sign s k))
 

@@ -12,7 +12,7 @@ use Rattle.json_strings.specs.declared.Unit.{Unit}
 use Rattle.json_strings.specs.declared.Unit.TheVariants.{Code, Ill}
 use Rattle.json_strings.specs.Text.{escape_of, nibble_of, nibble_at, hex_at, escape_at, least_second, most_second, second_at, tail_at}
 use Rattle.json_strings.specs.Text.{long_at, wide_at, unit_at, step_of, unit_step, string_at}
-use Rattle.json_laws.specs.Rules.{Rule, octet, range, within, ◌·◌, join, ◌/◌, left, right, *◌, none, more}
+use Rattle.json_laws.specs.Rules.{Rule, octet, range, within, ◌·◌, join, ◌∣◌, left, right, *◌, none, more}
 use Rattle.json_laws.specs.Abnf
 use Rattle.json_laws.proofs.Spans.{of-pick-cases, both-parts, Spans, Sound, bad, Turns, further, ending, wrong}
 use Rattle.json_laws.proofs.Spans.{octet-is, spans-byte, spans-octet, spans-range, spans-join, spans-by}
@@ -42,7 +42,7 @@ Four = Abnf.HEXDIG · Abnf.HEXDIG · Abnf.HEXDIG · Abnf.HEXDIG
 -- what follows a backslash, but for u
 abbrev Escaped : Rule
 Escaped =
-    octet 0x22 / octet 0x5C / octet 0x2F / octet 0x62 / octet 0x66 / octet 0x6E / octet 0x72 / octet 0x74 /
+    octet 0x22 ∣ octet 0x5C ∣ octet 0x2F ∣ octet 0x62 ∣ octet 0x66 ∣ octet 0x6E ∣ octet 0x72 ∣ octet 0x74 ∣
     (octet 0x75 · Four)
 
 -- A, where the number n is not m

@@ -9,7 +9,7 @@ use Rattle.laws.specs.Pick.{pick}
 use Rattle.json_tokens.specs.Scan.{blank, past_while}
 use Rattle.json_tokens.specs.Number.{number_at}
 use Rattle.json_strings.specs.Text.{content_at}
-use Rattle.json.specs.Members.{members_of, value_place}
+use Rattle.json_values.specs.Members.{members_of, value_place}
 use Rattle.report_read.specs.Entry.{elements_of}
 use Rattle.json_laws.specs.Rules.{join}
 use Rattle.json_laws.specs.Abnf

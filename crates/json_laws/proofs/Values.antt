@@ -11,7 +11,7 @@ use Rattle.json_tokens.specs.declared.Skip.{Skip}
 use Rattle.json_tokens.specs.declared.Skip.TheVariants.{Past}
 use Rattle.json_tokens.specs.Number.{number_at}
 use Rattle.json_strings.specs.Text.{content_at}
-use Rattle.json.specs.Members.{members_of}
+use Rattle.json_values.specs.Members.{members_of}
 use Rattle.report_read.specs.Entry.{elements_of}
 use Rattle.json_laws.specs.Abnf
 use Rattle.json_laws.specs.Tree.{Json, Member, members, elements, paired}
@@ -133,7 +133,7 @@ module _ {s : List ℕ} {d k : ℕ} where
       → (get_or s k 0 ≡ 34) × (paired (content_at s (k + 1)) ≡ x)
   string-at {x} a = by (at-shows a)
     where
-      by : Shows s k d (Json.string x) → (get_or s k 0 ≡ 34) × (paired (content_at s (k + 1)) ≡ x)
+      by : {e : ℕ} → Shows s k e (Json.string x) → (get_or s k 0 ≡ 34) × (paired (content_at s (k + 1)) ≡ x)
       by (a-string e g) = (e, g)
 
   -- digits or a minus sign come first, and the reader of numbers ends where the text of the number does
@@ -141,5 +141,5 @@ module _ {s : List ℕ} {d k : ℕ} where
       → (45 ≤ get_or s k 0) × (get_or s k 0 ≤ 57) × (text_to s k (number_at s k) ≡ x)
   number-at {x} a = by (at-shows a)
     where
-      by : Shows s k d (Json.number x) → (45 ≤ get_or s k 0) × (get_or s k 0 ≤ 57) × (text_to s k (number_at s k) ≡ x)
+      by : {e : ℕ} → Shows s k e (Json.number x) → (45 ≤ get_or s k 0) × (get_or s k 0 ≤ 57) × (text_to s k (number_at s k) ≡ x)
       by (a-number l h g) = (l, h, g)

@@ -1,7 +1,7 @@
 -- RFC 8259's grammar, line by line, under the RFC's names, with the RFC's own line above each. A name stands after
 -- those that it uses: sections 6 and 7 come before 3 to 5, and JSON-text comes last.
 use Rattle.std.specs.Prelude.{ℕ, suc, [], ◌∷◌}
-use Rattle.json_laws.specs.Rules.{Rule, octet, octets, range, ◌·◌, ◌/◌, *◌, 1*◌, optional}
+use Rattle.json_laws.specs.Rules.{Rule, octet, octets, range, ◌·◌, ◌∣◌, *◌, 1*◌, optional}
 
 -- ---- RFC 8259, section 2, without JSON-text.
 
@@ -10,7 +10,7 @@ use Rattle.json_laws.specs.Rules.{Rule, octet, octets, range, ◌·◌, ◌/◌,
 --         %x0A /   ; Line feed or New line
 --         %x0D )   ; Carriage return
 unfoldable pub ws : Rule
-ws = * (octet 0x20 / octet 0x09 / octet 0x0A / octet 0x0D)
+ws = * (octet 0x20 ∣ octet 0x09 ∣ octet 0x0A ∣ octet 0x0D)
 
 -- begin-array = ws %x5B ws   ; [ left square bracket
 unfoldable pub begin-array : Rule
@@ -44,7 +44,7 @@ DIGIT = range 0x30 0x39
 
 -- HEXDIG = DIGIT / "A" / "B" / "C" / "D" / "E" / "F"
 unfoldable pub HEXDIG : Rule
-HEXDIG = DIGIT / range 0x41 0x46 / range 0x61 0x66
+HEXDIG = DIGIT ∣ range 0x41 0x46 ∣ range 0x61 0x66
 
 -- ---- RFC 8259, section 6.
 
@@ -58,7 +58,7 @@ digit1-9 = range 0x31 0x39
 
 -- e = %x65 / %x45   ; e E
 unfoldable pub e : Rule
-e = octet 0x65 / octet 0x45
+e = octet 0x65 ∣ octet 0x45
 
 -- minus = %x2D   ; -
 unfoldable pub minus : Rule
@@ -74,7 +74,7 @@ zero = octet 0x30
 
 -- exp = e [ minus / plus ] 1*DIGIT
 unfoldable pub exp : Rule
-exp = e · optional (minus / plus) · 1* DIGIT
+exp = e · optional (minus ∣ plus) · 1* DIGIT
 
 -- frac = decimal-point 1*DIGIT
 unfoldable pub frac : Rule
@@ -82,7 +82,7 @@ frac = decimal-point · 1* DIGIT
 
 -- int = zero / ( digit1-9 *DIGIT )
 unfoldable pub int : Rule
-int = zero / (digit1-9 · * DIGIT)
+int = zero ∣ (digit1-9 · * DIGIT)
 
 -- number = [ minus ] int [ frac ] [ exp ]
 unfoldable pub number : Rule
@@ -102,14 +102,14 @@ UTF8-2 = range 0xC2 0xDF · UTF8-tail
 --          %xED %x80-9F UTF8-tail / %xEE-EF 2( UTF8-tail )
 unfoldable pub UTF8-3 : Rule
 UTF8-3 =
-    (octet 0xE0 · range 0xA0 0xBF · UTF8-tail) / (range 0xE1 0xEC · UTF8-tail · UTF8-tail) /
-    (octet 0xED · range 0x80 0x9F · UTF8-tail) / (range 0xEE 0xEF · UTF8-tail · UTF8-tail)
+    (octet 0xE0 · range 0xA0 0xBF · UTF8-tail) ∣ (range 0xE1 0xEC · UTF8-tail · UTF8-tail) ∣
+    (octet 0xED · range 0x80 0x9F · UTF8-tail) ∣ (range 0xEE 0xEF · UTF8-tail · UTF8-tail)
 
 -- UTF8-4 = %xF0 %x90-BF 2( UTF8-tail ) / %xF1-F3 3( UTF8-tail ) /
 --          %xF4 %x80-8F 2( UTF8-tail )
 unfoldable pub UTF8-4 : Rule
 UTF8-4 =
-    (octet 0xF0 · range 0x90 0xBF · UTF8-tail · UTF8-tail) / (range 0xF1 0xF3 · UTF8-tail · UTF8-tail · UTF8-tail) /
+    (octet 0xF0 · range 0x90 0xBF · UTF8-tail · UTF8-tail) ∣ (range 0xF1 0xF3 · UTF8-tail · UTF8-tail · UTF8-tail) ∣
     (octet 0xF4 · range 0x80 0x8F · UTF8-tail · UTF8-tail)
 
 -- ---- RFC 8259, section 7.
@@ -125,7 +125,7 @@ quotation-mark = octet 0x22
 -- unescaped = %x20-21 / %x23-5B / %x5D-10FFFF
 -- of characters: one above %x7F stands as its octets, so that %x80-10FFFF is UTF8-2 / UTF8-3 / UTF8-4
 unfoldable pub unescaped : Rule
-unescaped = range 0x20 0x21 / range 0x23 0x5B / range 0x5D 0x7F / UTF8-2 / UTF8-3 / UTF8-4
+unescaped = range 0x20 0x21 ∣ range 0x23 0x5B ∣ range 0x5D 0x7F ∣ UTF8-2 ∣ UTF8-3 ∣ UTF8-4
 
 -- char = unescaped /
 --     escape (
@@ -140,8 +140,8 @@ unescaped = range 0x20 0x21 / range 0x23 0x5B / range 0x5D 0x7F / UTF8-2 / UTF8-
 --         %x75 4HEXDIG )  ; uXXXX                U+XXXX
 unfoldable pub char : Rule
 char =
-    unescaped / (escape · (octet 0x22 / octet 0x5C / octet 0x2F / octet 0x62 / octet 0x66 / octet 0x6E /
-    octet 0x72 / octet 0x74 / (octet 0x75 · HEXDIG · HEXDIG · HEXDIG · HEXDIG)))
+    unescaped ∣ (escape · (octet 0x22 ∣ octet 0x5C ∣ octet 0x2F ∣ octet 0x62 ∣ octet 0x66 ∣ octet 0x6E ∣
+    octet 0x72 ∣ octet 0x74 ∣ (octet 0x75 · HEXDIG · HEXDIG · HEXDIG · HEXDIG)))
 
 -- string = quotation-mark *char quotation-mark
 unfoldable pub string : Rule
@@ -176,8 +176,8 @@ array value = begin-array · optional (value · * (value-separator · value)) ·
 -- value = false / null / true / object / array / number / string
 -- with at most d objects and arrays one within another, the outermost counted
 unfoldable pub value : ℕ → Rule
-value ℕ.zero = false / null / true / number / string
-value (suc d) = false / null / true / object (value d) / array (value d) / number / string
+value ℕ.zero = false ∣ null ∣ true ∣ number ∣ string
+value (suc d) = false ∣ null ∣ true ∣ object (value d) ∣ array (value d) ∣ number ∣ string
 
 -- ---- RFC 8259, section 2.
 

@@ -2,7 +2,7 @@
 use Rattle.std.specs.Prelude.{ℕ, ◌≤◌, List, [], ◌∷◌, ◌++◌}
 
 infixr 70 ◌·◌
-infixr 60 ◌/◌
+infixr 60 ◌∣◌
 infix 80 *◌
 infix 80 1*◌
 abbrev pub Rule : Type 1
@@ -21,9 +21,9 @@ pub data ◌·◌ (P Q : Rule) : List ℕ → Type 0 where
   join : {x y : List ℕ} → P x → Q y → (P · Q) (x ++ y)
 
 -- 3.2, alternatives: Rule1 / Rule2
-pub data ◌/◌ (P Q : Rule) : List ℕ → Type 0 where
-  left : {x : List ℕ} → P x → (P / Q) x
-  right : {x : List ℕ} → Q x → (P / Q) x
+pub data ◌∣◌ (P Q : Rule) : List ℕ → Type 0 where
+  left : {x : List ℕ} → P x → (P ∣ Q) x
+  right : {x : List ℕ} → Q x → (P ∣ Q) x
 
 -- 3.4, value range alternatives: %x30-39
 pub data range (low high : ℕ) : List ℕ → Type 0 where

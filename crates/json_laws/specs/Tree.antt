@@ -82,21 +82,21 @@ unit_of x (right (join these (right (right (right (right (right (right (right (l
 -- %x75 4HEXDIG )  ; uXXXX                U+XXXX
 unit_of x (right (join these (right (right (right (right (right (right (right (right
     (join these (join {x = a} p (join {x = b} q (join {x = c} {y = d} r t)))))))))))))) =
-    hexOf a p * 0x1000 + hexOf b q * 0x100 + hexOf c r * 0x10 + hexOf d t
+    hex_of a p * 0x1000 + hex_of b q * 0x100 + hex_of c r * 0x10 + hex_of d t
 
-abbrev pub unitsOf : {x : List ℕ} → (* Abnf.char) x → List ℕ
-unitsOf none = []
-unitsOf (more {x = x} c m) = unit_of x c ∷ unitsOf m
+abbrev pub units_of : {x : List ℕ} → (* Abnf.char) x → List ℕ
+units_of none = []
+units_of (more {x = x} c m) = unit_of x c ∷ units_of m
 
 -- "To escape an extended character that is not in the Basic Multilingual Plane, the character is represented as a
 -- 12-character sequence, encoding the UTF-16 surrogate pair": a half of D800 to DBFF with one of DC00 to DFFF behind it
 -- is one character (RFC 2781, section 2.2). A half alone stays the number that it is (section 8.2). Octets stand for no
 -- half (RFC 3629, section 3), so that only escapes pair.
-unfoldable pub isHigh : ℕ → Bool
-isHigh a = both (leb 0xD800 a) (leb a 0xDBFF)
+unfoldable pub is_high : ℕ → Bool
+is_high a = both (leb 0xD800 a) (leb a 0xDBFF)
 
-unfoldable pub isLow : ℕ → Bool
-isLow a = both (leb 0xDC00 a) (leb a 0xDFFF)
+unfoldable pub is_low : ℕ → Bool
+is_low a = both (leb 0xDC00 a) (leb a 0xDFFF)
 
 unfoldable pub pair_of : ℕ → ℕ → ℕ
 pair_of a b = 0x10000 + (a - 0xD800) * 0x400 + (b - 0xDC00)
@@ -104,40 +104,40 @@ pair_of a b = 0x10000 + (a - 0xD800) * 0x400 + (b - 0xDC00)
 unfoldable pub paired : List ℕ → List ℕ
 paired [] = []
 paired (a ∷ []) = a ∷ []
-paired (a ∷ b ∷ x) = pick (both (isHigh a) (isLow b)) (pair_of a b ∷ paired x) (a ∷ paired (b ∷ x))
+paired (a ∷ b ∷ x) = pick (both (is_high a) (is_low b)) (pair_of a b ∷ paired x) (a ∷ paired (b ∷ x))
 
 -- string = quotation-mark *char quotation-mark
-unfoldable pub stringOf : (x : List ℕ) → Abnf.string x → List ℕ
+unfoldable pub string_of : (x : List ℕ) → Abnf.string x → List ℕ
 unfolding Abnf.string
-stringOf x (join p (join m q)) = paired (unitsOf m)
+string_of x (join p (join m q)) = paired (units_of m)
 
 -- ---- Sections 4 and 5: what stands in [ P *( value-separator P ) ], where f says it of a P.
 module _ {P : Rule} {A : Type 0} (f : (x : List ℕ) → P x → A) where
-  abbrev pub furtherIn : {x : List ℕ} → (* (Abnf.value-separator · P)) x → List A
-  furtherIn none = []
-  furtherIn (more (join {y = y} c p) m) = f y p ∷ furtherIn m
+  abbrev pub further_in : {x : List ℕ} → (* (Abnf.value-separator · P)) x → List A
+  further_in none = []
+  further_in (more (join {y = y} c p) m) = f y p ∷ further_in m
 
-  abbrev pub listIn : {x : List ℕ} → optional (P · * (Abnf.value-separator · P)) x → List A
-  listIn absent = []
-  listIn (present (join {x = x} p m)) = f x p ∷ furtherIn m
+  abbrev pub list_in : {x : List ℕ} → optional (P · * (Abnf.value-separator · P)) x → List A
+  list_in absent = []
+  list_in (present (join {x = x} p m)) = f x p ∷ further_in m
 
   -- the same between brackets
   abbrev pub parts_in : {B E : Rule} {x : List ℕ} → (B · optional (P · * (Abnf.value-separator · P)) · E) x → List A
-  parts_in (join b (join m e)) = listIn m
+  parts_in (join b (join m e)) = list_in m
 
 module _ {W : Rule} (f : (x : List ℕ) → W x → Json) where
   -- member = string name-separator value
-  unfoldable pub memberOf : (x : List ℕ) → Abnf.member W x → Member
+  unfoldable pub member_of : (x : List ℕ) → Abnf.member W x → Member
   unfolding Abnf.member
-  memberOf x (join {x = q} a (join {y = v} n w)) = record { name = stringOf q a; value = f v w }
+  member_of x (join {x = q} a (join {y = v} n w)) = record { name = string_of q a; value = f v w }
 
-  unfoldable pub membersIn : (x : List ℕ) → Abnf.object W x → List Member
+  unfoldable pub members_in : (x : List ℕ) → Abnf.object W x → List Member
   unfolding Abnf.object
-  membersIn x o = parts_in memberOf o
+  members_in x o = parts_in member_of o
 
-  unfoldable pub elementsIn : (x : List ℕ) → Abnf.array W x → List Json
+  unfoldable pub elements_in : (x : List ℕ) → Abnf.array W x → List Json
   unfolding Abnf.array
-  elementsIn x a = parts_in f a
+  elements_in x a = parts_in f a
 
 -- ---- Section 3: value = false / null / true / object / array / number / string
 unfoldable pub tree_of : (d : ℕ) (x : List ℕ) → Abnf.value d x → Json
@@ -146,19 +146,19 @@ tree_of ℕ.zero x (left v) = false
 tree_of ℕ.zero x (right (left v)) = null
 tree_of ℕ.zero x (right (right (left v))) = true
 tree_of ℕ.zero x (right (right (right (left v)))) = number x
-tree_of ℕ.zero x (right (right (right (right v)))) = string (stringOf x v)
+tree_of ℕ.zero x (right (right (right (right v)))) = string (string_of x v)
 tree_of (suc d) x (left v) = false
 tree_of (suc d) x (right (left v)) = null
 tree_of (suc d) x (right (right (left v))) = true
-tree_of (suc d) x (right (right (right (left v)))) = object (members (membersIn (λ y. tree_of d y) x v))
-tree_of (suc d) x (right (right (right (right (left v))))) = array (elements (elementsIn (λ y. tree_of d y) x v))
+tree_of (suc d) x (right (right (right (left v)))) = object (members (members_in (λ y. tree_of d y) x v))
+tree_of (suc d) x (right (right (right (right (left v))))) = array (elements (elements_in (λ y. tree_of d y) x v))
 tree_of (suc d) x (right (right (right (right (right (left v)))))) = number x
-tree_of (suc d) x (right (right (right (right (right (right v)))))) = string (stringOf x v)
+tree_of (suc d) x (right (right (right (right (right (right v)))))) = string (string_of x v)
 
 -- ---- Section 2: JSON-text = ws value ws
-unfoldable pub textTree : (d : ℕ) (x : List ℕ) → Abnf.JSON-text d x → Json
+unfoldable pub text_tree : (d : ℕ) (x : List ℕ) → Abnf.JSON-text d x → Json
 unfolding Abnf.JSON-text
-textTree d x (join w (join {x = v} p u)) = tree_of d v p
+text_tree d x (join w (join {x = v} p u)) = tree_of d v p
 
 -- ---- Section 4: among members, the values of those of a name, in order; names "SHOULD be unique", and need not be.
 pub data Named (w : List ℕ) : List Member → List Json → Type 0 where

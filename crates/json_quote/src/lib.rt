@@ -1,5 +1,7 @@
 // Texts written as strings of JSON (RFC 8259, section 7): which octets are UTF-8, how much room a string takes, and the
 // string itself.
+#![tactic(auto)]
+
 mod quoting;
 mod spending;
 mod utf8;
@@ -10,7 +12,7 @@ pub use utf8::is_utf8;
 
 // What is left of a buffer's room once something is put there; or that it is too short. Room is taken off piece by
 // piece, since the sum of many lengths may be no number of 64 bits.
-#[derive(Drop)]
+#[derive(Clone, Copy)]
 pub enum Room {
     Left(usize),
     Short,

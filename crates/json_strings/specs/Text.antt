@@ -12,8 +12,8 @@ use Rattle.laws.specs.Pick.{pick, either, both}
 use Rattle.json_tokens.specs.Walk.{walked, starts}
 
 -- what \" \\ \/ \b \f \n \r \t stand for, by their numbers in section 7's table; 0 for any other letter
-unfoldable pub escapeOf : ℕ → ℕ
-escapeOf b =
+unfoldable pub escape_of : ℕ → ℕ
+escape_of b =
     pick (eqb b (code "\"")) 0x22 (pick (eqb b (code "\\")) 0x5C (pick (eqb b (code "/")) 0x2F
     (pick (eqb b (code "b")) 0x08 (pick (eqb b (code "f")) 0x0C (pick (eqb b (code "n")) 0x0A
     (pick (eqb b (code "r")) 0x0D (pick (eqb b (code "t")) 0x09 0)))))))

@@ -1,5 +1,7 @@
 // The strings of JSON texts (RFC 8259, section 7), read where they lie: their characters one after the other, the place
 // past a string, and whether it holds a word.
+#![tactic(auto)]
+
 mod escapes;
 mod letters;
 mod strings;
@@ -13,7 +15,7 @@ pub use wides::hex_code;
 
 // What stands at a place within a string: a character by its number, with the place past it; the closing quote; or what
 // no string may hold.
-#[derive(Drop)]
+#[derive(Clone, Copy)]
 pub enum Unit {
     Code(u32, usize),
     Close(usize),
@@ -22,7 +24,7 @@ pub enum Unit {
 
 // Where a string ends, 0 where it does not, and how many characters it has. A number, and no Skip: an enum in a struct is
 // copied with the bytes between its parts.
-#[derive(Drop)]
+#[derive(Clone, Copy)]
 pub struct Extent {
     pub past: usize,
     pub letters: usize,

@@ -35,7 +35,7 @@ pub fn unit_of(s: &[u8], at: usize) -> Unit
 
 // One turn of a string.
 fn unit_step(s: &[u8], at: usize) -> Step
-    ensures { result ≡ unitStep s.now at }
+    ensures { result ≡ unit_step s.now at }
 {
     match unit_of(s, at) {
         Unit::Code(_, k) => Step::More(k),
@@ -47,8 +47,8 @@ fn unit_step(s: &[u8], at: usize) -> Step
 // Where to go on after the character from k to n: past the run that it begins, of characters of one byte or of others.
 fn onward(s: &[u8], k: usize, n: usize) -> usize
     requires { k < n }
-    ensures { (walked (length s.now) (unitStep s.now) result
-        ≡ walked (length s.now) (unitStep s.now) n)
+    ensures { (walked (length s.now) (unit_step s.now) result
+        ≡ walked (length s.now) (unit_step s.now) n)
         × (n ≤ result) }
 {
     if n - k == 1 {
@@ -62,7 +62,7 @@ fn onward(s: &[u8], k: usize, n: usize) -> usize
 // to one that is not inlined copies both halves of it at once, and waits where they have just been written apart. This
 // one is inlined, so that the copy is its own.
 fn run_from(s: &[u8], at: usize) -> usize
-    ensures { result ≡ pastWhile unescaped s.now at }
+    ensures { result ≡ past_while unescaped s.now at }
 {
     unescaped_run(s, at)
 }
@@ -70,8 +70,8 @@ fn run_from(s: &[u8], at: usize) -> usize
 // The end of the string whose characters start at a place, and how many they are beside n that stand before it.
 fn counted(s: &[u8], at: usize, n: usize) -> Extent
     requires { n ≤ at }
-    ensures at_value { walked (length s.now) (unitStep s.now) at ≡ end_of result.past }
-    ensures at_value_2 { n + length (contentAt s.now at) ≡ result.letters }
+    ensures at_value { walked (length s.now) (unit_step s.now) at ≡ end_of result.past }
+    ensures at_value_2 { n + length (content_at s.now at) ≡ result.letters }
 {
     let mut k = at;
     let mut letters = n;
@@ -93,7 +93,7 @@ fn counted(s: &[u8], at: usize, n: usize) -> Extent
 
 // A string, at its opening quote, with how many characters it has: what a name is told by. Each is looked at once.
 pub fn measured(s: &[u8], at: usize) -> Extent
-    ensures at_value { stringAt s.now at ≡ end_of result.past }
+    ensures at_value { string_at s.now at ≡ end_of result.past }
     ensures lettered { Lettered s.now at result.letters }
 {
     let b = byte(s, at);
@@ -115,7 +115,7 @@ pub fn measured(s: &[u8], at: usize) -> Extent
 
 // A string, at its opening quote.
 pub fn string(s: &[u8], at: usize) -> Skip
-    ensures { result ≡ stringAt s.now at }
+    ensures { result ≡ string_at s.now at }
 {
     let b = byte(s, at);
     if b != b'"' {
@@ -162,7 +162,7 @@ fn alike(s: &[u8], at: usize, w: &[u8]) -> usize
 
 // The string whose characters start at a place holds the word from an index on, unescaped.
 fn holds_rest(s: &[u8], at: usize, w: &[u8], from: usize) -> bool
-    ensures { result ≡ same_list (contentAt s.now at) (drop from w.now) }
+    ensures { result ≡ same_list (content_at s.now at) (drop from w.now) }
 {
     let mut k = at;
     let mut i = from;
@@ -191,7 +191,7 @@ fn holds_rest(s: &[u8], at: usize, w: &[u8], from: usize) -> bool
 // The string whose characters start at a place holds the word, unescaped. That it ends, or goes on otherwise, is mostly
 // seen by one byte.
 pub fn holds(s: &[u8], at: usize, w: &[u8]) -> bool
-    ensures { result ≡ same_list (contentAt s.now at) w.now }
+    ensures { result ≡ same_list (content_at s.now at) w.now }
 {
     let k = alike(s, at, w);
     let b = byte(s, k);

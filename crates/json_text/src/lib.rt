@@ -1,5 +1,7 @@
 // The texts that the strings of a JSON text hold, as octets: characters stand there as UTF-8 or are escaped, one above
 // U+FFFF as two surrogates (RFC 8259, section 7). A surrogate that is alone is no character, and such a string no text.
+#![tactic(auto)]
+
 mod bare;
 mod characters;
 mod surrogates;
@@ -10,14 +12,14 @@ pub use bare::is_unicode;
 pub use texts::{fill, put_text, text_size};
 
 // How many octets the text of a string has, if it is one.
-#[derive(Drop)]
+#[derive(Clone, Copy)]
 pub enum TextSize {
     Of(usize),
     Bad,
 }
 
 // A character, with the place past it; the string's end; or a surrogate that is alone.
-#[derive(Drop)]
+#[derive(Clone, Copy)]
 pub enum Letter {
     Is(u32, usize),
     Stop,

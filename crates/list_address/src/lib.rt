@@ -1,5 +1,7 @@
 // The addresses of servers and the URLs in a list of servers (draft 19, section 8.3): a host and a port, and https.
 // Each test is of a whole byte string. Nothing is resolved, and nothing is asked of the network.
+#![tactic(auto)]
+
 mod address;
 mod chars;
 mod decimal;
@@ -15,7 +17,7 @@ pub use address::is_address;
 pub use https::is_https;
 
 // The bytes that a scan goes over.
-#[derive(Drop)]
+#[derive(Clone, Copy)]
 enum Kind {
     Digit,
     Hex,
@@ -25,7 +27,7 @@ enum Kind {
 }
 
 // What a part between dots or colons is.
-#[derive(Drop)]
+#[derive(Clone, Copy)]
 enum Part {
     Octet,
     Label,
@@ -33,7 +35,7 @@ enum Part {
 }
 
 // Parts in a row, of which each but the last is right: how many stand before the last, and where the last starts.
-#[derive(Drop)]
+#[derive(Clone, Copy)]
 enum Line {
     Last(usize, usize),
     Wrong,

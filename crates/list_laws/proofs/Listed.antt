@@ -16,10 +16,10 @@ use Rattle.json_tokens.specs.declared.Skip.TheVariants.{Past, Bad}
 use Rattle.json_tokens.specs.Scan.{past_while, blank}
 use Rattle.json_strings.specs.Text.{same_list}
 use Rattle.json_text.specs.Octets.{Text, plain}
-use Rattle.json.specs.declared.Found.{Found}
-use Rattle.json.specs.declared.Found.TheVariants.{At as Stands, Nothing}
-use Rattle.json.specs.Value.{is_text}
-use Rattle.json.specs.Members.{members_of, found_of}
+use Rattle.json_values.specs.declared.Found.{Found}
+use Rattle.json_values.specs.declared.Found.TheVariants.{At as Stands, Nothing}
+use Rattle.json_values.specs.Value.{is_text}
+use Rattle.json_values.specs.Members.{members_of, found_of}
 use Rattle.report_read.specs.Entry.{string_of, is64, held, list_of as array_of}
 use Rattle.list_address.specs.Address.{is_address}
 use Rattle.list_address.specs.Https.{is_https}
@@ -144,6 +144,8 @@ module _ (s : List ℕ) where
   addresses-found [] [] no_place h = no_address
   addresses-found (k ∷ ks) (t ∷ ts) (a-place v r) h =
       let p = both-parts _ _ h in an-address (address-found k t v p.0) (addresses-found ks ts r p.1)
+  addresses-found [] (t ∷ ts) x4 h = elim x4 [ ]
+  addresses-found (k ∷ ks) [] x4 h = elim x4 [ ]
 
   addresses-stand : (ks : List ℕ) (ts : List Json) (l : List Address) → Each (At s 12) ks ts → AddressObjects ts l
       → (all_addresses s ks ≡ true) × (addresses_at s ks ≡ l)
@@ -153,6 +155,10 @@ module _ (s : List ℕ) where
       let p = address-stands k t a v o in
       let q = addresses-stand ks ts l r more in
       (rw (p.0, q.0) refl, ap₂ (λ (x : Address) (y : List Address). x ∷ y) p.1 q.1)
+  addresses-stand [] [] (a ∷ l) _ x7 = elim x7 [ ]
+  addresses-stand [] (t ∷ ts) l x5 _ = elim x5 [ ]
+  addresses-stand (k ∷ ks) [] l x5 _ = elim x5 [ ]
+  addresses-stand (k ∷ ks) (t ∷ ts) [] _ x9 = elim x9 [ ]
 
   -- ---- A server object.
   server-found : (k : ℕ) (t : Json) → At s 14 k t → server_good s k ≡ true → ServerObject t (spelt (server_at s k))
@@ -211,6 +217,8 @@ module _ (s : List ℕ) where
   servers-found [] [] no_place h = no-server
   servers-found (k ∷ ks) (t ∷ ts) (a-place v r) h =
       let p = both-parts _ _ h in a-server (server-found k t v p.0) (servers-found ks ts r p.1)
+  servers-found [] (t ∷ ts) x4 h = elim x4 [ ]
+  servers-found (k ∷ ks) [] x4 h = elim x4 [ ]
 
   servers-stand : (ks : List ℕ) (ts : List Json) (l : List Server) → Each (At s 14) ks ts → ServerObjects ts l
       → (all_servers s ks ≡ true) × (spelt_all (servers_at s ks) ≡ l)
@@ -220,6 +228,10 @@ module _ (s : List ℕ) where
       let p = server-stands k t x v o in
       let q = servers-stand ks ts l r more in
       (rw (p.0, q.0) refl, ap₂ (λ (a : Server) (b : List Server). a ∷ b) p.1 q.1)
+  servers-stand [] [] (x ∷ l) _ x8 = elim x8 [ ]
+  servers-stand [] (t ∷ ts) l x5 _ = elim x5 [ ]
+  servers-stand (k ∷ ks) [] l x5 _ = elim x5 [ ]
+  servers-stand (k ∷ ks) (t ∷ ts) [] _ x9 = elim x9 [ ]
 
   -- ---- URLs.
   urls-found : (ks : List ℕ) (ts : List Json) → Each (At s 14) ks ts → all_urls s ks ≡ true → Urls ts (urls_at s ks)
@@ -227,6 +239,8 @@ module _ (s : List ℕ) where
   urls-found [] [] no_place h = no-url
   urls-found (k ∷ ks) (t ∷ ts) (a-place v r) h =
       let p = both-parts _ _ h in a-url (tested-found is_https t (finds-one v) p.0) (urls-found ks ts r p.1)
+  urls-found [] (t ∷ ts) x4 h = elim x4 [ ]
+  urls-found (k ∷ ks) [] x4 h = elim x4 [ ]
 
   urls-stand : (ks : List ℕ) (ts : List Json) (xs : List (List ℕ)) → Each (At s 14) ks ts → Urls ts xs
       → (all_urls s ks ≡ true) × (urls_at s ks ≡ xs)
@@ -236,6 +250,10 @@ module _ (s : List ℕ) where
       let p = tested-stands is_https {f = Stands k} o (finds-one v) in
       let q = urls-stand ks ts xs r more in
       (rw (p.0, q.0) refl, ap₂ (λ (a : List ℕ) (b : List (List ℕ)). a ∷ b) (ap plain p.1) q.1)
+  urls-stand [] [] (x ∷ xs) _ x8 = elim x8 [ ]
+  urls-stand [] (t ∷ ts) xs x5 _ = elim x5 [ ]
+  urls-stand (k ∷ ks) [] xs x5 _ = elim x5 [ ]
+  urls-stand (k ∷ ks) (t ∷ ts) [] _ x9 = elim x9 [ ]
 
   sources-found : {f : Found} {l : List Json} {ms : List Member} → Finds s 15 f l → Named sources_name ms l
       → sources_good s f ≡ true → Sources ms (urls_at s (source_places s f))

@@ -16,8 +16,8 @@ use Rattle.json_strings.specs.Text.{same_list}
 use Rattle.json_strings.proofs.Plain.{Each}
 use Rattle.json_strings.proofs.Plain.{none as no_char, one as a-char}
 use Rattle.json_quote.specs.Quoted.{quoted}
-use Rattle.base64.specs.Encode.{encode64}
-use Rattle.base64.proofs.Codec.{decode-encode}
+use Rattle.base64_strict.specs.Encode.{encode64}
+use Rattle.base64_strict.proofs.Codec.{decode-encode}
 use Rattle.report_write.proofs.Letters.{each-encode}
 use Rattle.json_laws.specs.Abnf
 use Rattle.json_laws.specs.Tree.{Json, Member, members, elements, paired, Named, no_member, this-one, another}

@@ -15,10 +15,10 @@ use Rattle.json_tokens.specs.Number.{number_at}
 use Rattle.json_strings.specs.Text.{content_at, same_list}
 use Rattle.json_text.specs.Octets.{Text, octets, none, encoded, joined, text_of, plain, is_high as high, is_low as low}
 use Rattle.json_text.specs.Octets.{paired as pair}
-use Rattle.json.specs.declared.Found.{Found}
-use Rattle.json.specs.declared.Found.TheVariants.{At as Stands, Nothing, Twice}
-use Rattle.json.specs.Value.{plain_at, value_by, value_at}
-use Rattle.base64.specs.Decode.{Decoded, bytes, decode64, none as no_code}
+use Rattle.json_values.specs.declared.Found.{Found}
+use Rattle.json_values.specs.declared.Found.TheVariants.{At as Stands, Nothing, Twice}
+use Rattle.json_values.specs.Value.{plain_at, value_by, value_at}
+use Rattle.base64_strict.specs.Decode.{Decoded, bytes, decode64, none as no_code}
 use Rattle.report_read.specs.Entry.{string_of, decoded_at, is64, held, list_of as array_of}
 use Rattle.list_read.specs.Server.{text_in, text_by, is_some, unmarked, whole_of, up_to, version_by, content_in, is_there}
 use Rattle.list_read.specs.Server.{key_by, passes, places_in, is_word}

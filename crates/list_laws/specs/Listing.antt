@@ -3,8 +3,8 @@
 use Rattle.std.specs.Prelude.{ℕ, ◌≤◌, ◌≡◌, Bool, true, false, List, [], ◌∷◌, length}
 use Rattle.laws.specs.Ascii.{ascii}
 use Rattle.json_text.specs.Octets.{Text, octets, none, encoded}
-use Rattle.json.specs.Value.{deepest}
-use Rattle.base64.specs.Decode.{bytes, decode64}
+use Rattle.json_values.specs.Value.{deepest}
+use Rattle.base64_strict.specs.Decode.{bytes, decode64}
 use Rattle.list_address.specs.Address.{is_address}
 use Rattle.list_address.specs.Https.{is_https}
 use Rattle.list_read.specs.Server.{Address, Server, name_name, version_name, scheme_name, key_name, addresses_name}

@@ -20,7 +20,7 @@ use Rattle.json_strings.specs.Text.{content_at}
 use Rattle.json_text.specs.declared.TextSize.{TextSize}
 use Rattle.json_text.specs.declared.TextSize.TheVariants.{Of, Bad}
 use Rattle.json_text.specs.Octets.{Text, octets, none, text_of, plain, size_of}
-use Rattle.json.specs.declared.Found.{Found}
+use Rattle.json_values.specs.declared.Found.{Found}
 use Rattle.report_read.specs.Entry.{string_of}
 use Rattle.list_read.specs.declared.Survey.{Survey}
 use Rattle.list_read.specs.Server.{text_in, text_by, is_word, of_address, address_at, address_name, protocol_name}

@@ -11,9 +11,9 @@ use lib.ListN.{length, get_or, take}
 use Rattle.laws.specs.Pick.{pick}
 use Rattle.json_tokens.specs.declared.Skip.TheVariants.{Past, Bad}
 use Rattle.json_tokens.proofs.Picks.{inside}
-use Rattle.json.specs.declared.Found.{Found}
-use Rattle.json.specs.declared.Found.TheVariants.{Nothing, Twice}
-use Rattle.json.specs.declared.Found.TheVariants.{At as FoundAt}
+use Rattle.json_values.specs.declared.Found.{Found}
+use Rattle.json_values.specs.declared.Found.TheVariants.{Nothing, Twice}
+use Rattle.json_values.specs.declared.Found.TheVariants.{At as FoundAt}
 use Rattle.report_read.specs.Entry.{list_of as array_of}
 use Rattle.list_read.specs.declared.Element.TheVariants.{At, Done}
 use Rattle.list_parts.specs.Parts.{nth}

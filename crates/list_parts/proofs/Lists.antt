@@ -10,9 +10,9 @@ use lib.ListN.{length, get_or, take, length-take}
 use Rattle.laws.specs.Pick.{pick, both}
 use Rattle.json_tokens.proofs.Picks.{inside}
 use Rattle.json_text.specs.Octets.{Text, octets, none, plain}
-use Rattle.json.specs.declared.Found.{Found}
-use Rattle.json.specs.declared.Found.TheVariants.{Nothing, Twice}
-use Rattle.json.specs.declared.Found.TheVariants.{At as FoundAt}
+use Rattle.json_values.specs.declared.Found.{Found}
+use Rattle.json_values.specs.declared.Found.TheVariants.{Nothing, Twice}
+use Rattle.json_values.specs.declared.Found.TheVariants.{At as FoundAt}
 use Rattle.report_read.specs.Entry.{list_of as array_of}
 use Rattle.list_read.specs.declared.Element.{Element}
 use Rattle.list_read.specs.declared.Element.TheVariants.{At, Done}

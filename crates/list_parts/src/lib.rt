@@ -1,5 +1,7 @@
 // Parts of a server list in the public format (draft 19, section 8.3), by their places, which count from 0: the name
 // and the addresses of a server that can be asked, a source, and where reports go. Each is put into a buffer as octets.
+#![tactic(auto)]
+
 mod parts;
 mod places;
 mod strings;
@@ -8,14 +10,14 @@ pub use parts::{list_reports, list_source, server_address, server_name};
 use refusal::Refusal;
 
 // How many octets of a part stand at the front of the buffer, or why there are none.
-#[derive(Drop)]
+#[derive(Clone, Copy)]
 pub enum Part {
     Octets(usize),
     Refused(Refusal),
 }
 
 // The same of an address, by the protocol over which it is asked.
-#[derive(Drop)]
+#[derive(Clone, Copy)]
 pub enum Addressed {
     Udp(usize),
     Tcp(usize),

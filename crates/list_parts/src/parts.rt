@@ -10,7 +10,7 @@ ghost use Rattle.list_parts.specs.Parts.{address_of, tcp_of, put_of, addressed_b
 use super::places::{member_item, server_place};
 use super::strings::{put_address, put_string};
 use super::{Addressed, Part};
-use json::{Found, find};
+use json_values::{Found, find};
 use list_read::{Element, IN_ADDRESSES, IN_SERVER, IN_SERVERS, survey_of};
 use refusal::{codes, refuse};
 

@@ -4,8 +4,8 @@ ghost use Rattle.report_read.specs.Entry.{elements_of, list_of};
 ghost use Rattle.list_read.specs.Server.{places_in};
 ghost use Rattle.list_parts.specs.Facts.{item_in};
 
-use json::Found;
 use json_tokens::Skip;
+use json_values::Found;
 use list_read::{Element, Survey, array_place, first_item, next_item};
 
 // Of the servers that can be asked the i-th, by the place of its object.

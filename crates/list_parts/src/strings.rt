@@ -6,9 +6,9 @@ ghost use Rattle.list_read.specs.Server.{text_by, of_address, address_at, addres
 ghost use Rattle.list_parts.specs.Parts.{put_of, part_number, addressed_by, addressed_number};
 
 use super::{Addressed, Part};
-use json::{Found, find};
 use json_text::{TextSize, put_text, text_size};
 use json_tokens::Skip;
+use json_values::{Found, find};
 use list_read::{IN_ADDRESS, is_word, string_place};
 use refusal::{codes, refuse};
 

@@ -22,8 +22,8 @@ use Rattle.json_tokens.proofs.Turns.{Ahead}
 use Rattle.json_tokens.proofs.While.{while-more, while-ahead, while-within, while-end}
 use Rattle.json_strings.specs.Text.{same_list}
 use Rattle.json_text.specs.Octets.{octets, none, plain}
-use Rattle.json.specs.declared.Found.{Found}
-use Rattle.json.specs.declared.Found.TheVariants.{At, Nothing, Twice}
+use Rattle.json_values.specs.declared.Found.{Found}
+use Rattle.json_values.specs.declared.Found.TheVariants.{At, Nothing, Twice}
 use Rattle.list_read.specs.Server.{is_mark, unmarked, whole_of, up_to, version_by, is_some}
 
 -- ---- Where a number ends: what holds of the end of its integer, and of the end of any digits further on, holds of its

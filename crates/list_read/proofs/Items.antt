@@ -14,9 +14,9 @@ use Rattle.json_tokens.specs.declared.Step.{Step}
 use Rattle.json_tokens.specs.declared.Step.TheVariants.{More, End, Wrong}
 use Rattle.json_tokens.specs.Scan.{past_while, blank, then_step, after}
 use Rattle.json_tokens.specs.Walk.{starts}
-use Rattle.json.specs.Value.{value_at, item_step}
+use Rattle.json_values.specs.Value.{value_at, item_step}
 use Rattle.json_tokens.proofs.Turns.{Forth, starts_more, starts-end, starts-wrong}
-use Rattle.json.proofs.Ahead.{forth-items}
+use Rattle.json_values.proofs.Ahead.{forth-items}
 use Rattle.json_tokens.proofs.While.{while-ahead}
 use Rattle.report_read.specs.Entry.{elements_of}
 use Rattle.list_read.specs.declared.Element.{Element}

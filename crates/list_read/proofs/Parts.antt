@@ -22,12 +22,12 @@ use Rattle.json_text.proofs.NoEscapes.{plain-text}
 use Rattle.json_text.specs.declared.TextSize.{TextSize}
 use Rattle.json_text.specs.declared.TextSize.TheVariants.{Of}
 use Rattle.json_text.specs.declared.TextSize.TheVariants.{Bad as NoText}
-use Rattle.json.specs.declared.Found.{Found}
-use Rattle.json.specs.declared.Found.TheVariants.{At, Nothing, Twice}
-use Rattle.json.specs.Members.{found_of}
-use Rattle.json.specs.Value.{value_at, object_of}
-use Rattle.json.proofs.Ahead.{value-is, object-is}
-use Rattle.base64.specs.Decode.{decode64}
+use Rattle.json_values.specs.declared.Found.{Found}
+use Rattle.json_values.specs.declared.Found.TheVariants.{At, Nothing, Twice}
+use Rattle.json_values.specs.Members.{found_of}
+use Rattle.json_values.specs.Value.{value_at, object_of}
+use Rattle.json_values.proofs.Ahead.{value-is, object-is}
+use Rattle.base64_strict.specs.Decode.{decode64}
 use Rattle.json_base64.specs.declared.Size.{Size}
 use Rattle.json_base64.specs.declared.Size.TheVariants.{Of as Bytes}
 use Rattle.json_base64.specs.declared.Size.TheVariants.{Bad as NoSize}

@@ -20,9 +20,9 @@ use Rattle.hash.proofs.Lengths.{length-srv}
 use Rattle.json_tokens.specs.declared.Skip.{Skip}
 use Rattle.json_tokens.specs.declared.Skip.TheVariants.{Past, Bad}
 use Rattle.json_strings.specs.Text.{content_at}
-use Rattle.json.specs.declared.Found.{Found}
-use Rattle.json.specs.Members.{found_of}
-use Rattle.base64.specs.Decode.{decode64}
+use Rattle.json_values.specs.declared.Found.{Found}
+use Rattle.json_values.specs.Members.{found_of}
+use Rattle.base64_strict.specs.Decode.{decode64}
 use Rattle.json_base64.specs.Sized.{plain}
 use Rattle.json_tokens.proofs.Picks.{inside}
 use Rattle.report_read.specs.Entry.{string_of, held}

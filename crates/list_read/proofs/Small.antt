@@ -11,9 +11,9 @@ use borrow.Author.Tests.{eq-eqb, ne_eqb, lt-ltb, le-ltb, not-true, not-false}
 use Rattle.laws.specs.Pick.{pick, either, both}
 use Rattle.json_tokens.specs.declared.Skip.{Skip}
 use Rattle.json_tokens.specs.declared.Skip.TheVariants.{Past, Bad}
-use Rattle.json.specs.declared.Found.{Found}
-use Rattle.json.specs.declared.Found.TheVariants.{At, Nothing, Twice}
-use Rattle.base64.specs.Decode.{Decoded, bytes, none}
+use Rattle.json_values.specs.declared.Found.{Found}
+use Rattle.json_values.specs.declared.Found.TheVariants.{At, Nothing, Twice}
+use Rattle.base64_strict.specs.Decode.{Decoded, bytes, none}
 use Rattle.json_base64.specs.declared.Size.{Size}
 use Rattle.json_base64.specs.declared.Size.TheVariants.{Of}
 use Rattle.json_base64.specs.declared.Size.TheVariants.{Bad as NoSize}

@@ -11,10 +11,10 @@ use Rattle.laws.specs.Pick.{pick, both}
 use Rattle.json_tokens.specs.declared.Skip.{Skip}
 use Rattle.json_tokens.specs.declared.Skip.TheVariants.{Past, Bad}
 use Rattle.json_tokens.specs.Scan.{blank, past_while, past_blanks}
-use Rattle.json.specs.Value.{object_of, value_at, ends_at, deepest, is_text}
-use Rattle.json.specs.declared.Found.{Found}
-use Rattle.json.specs.declared.Found.TheVariants.{At, Nothing, Twice}
-use Rattle.json.specs.Members.{found_of}
+use Rattle.json_values.specs.Value.{object_of, value_at, ends_at, deepest, is_text}
+use Rattle.json_values.specs.declared.Found.{Found}
+use Rattle.json_values.specs.declared.Found.TheVariants.{At, Nothing, Twice}
+use Rattle.json_values.specs.Members.{found_of}
 use Rattle.report_read.specs.Entry.{elements_of}
 use Rattle.report_read.specs.Entry.{list_of as array_of}
 use Rattle.list_read.specs.declared.Tally.{Tally}

@@ -12,8 +12,8 @@ use Rattle.json_tokens.specs.declared.Step.TheVariants.{More, End}
 use Rattle.json_tokens.specs.declared.Step.TheVariants.{Wrong as StepWrong}
 use Rattle.json_tokens.specs.Scan.{then_step, after}
 use Rattle.json_tokens.specs.Walk.{starts}
-use Rattle.json.specs.Value.{value_at, item_step}
-use Rattle.json.specs.declared.Found.{Found}
+use Rattle.json_values.specs.Value.{value_at, item_step}
+use Rattle.json_values.specs.declared.Found.{Found}
 use Rattle.json_strings.specs.Text.{same_list}
 use Rattle.json_text.specs.Octets.{plain}
 use Rattle.report_read.specs.Entry.{string_of, elements_of, is64, held}

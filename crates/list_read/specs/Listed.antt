@@ -8,10 +8,10 @@ use Rattle.json_tokens.specs.declared.Skip.{Skip}
 use Rattle.json_tokens.specs.declared.Skip.TheVariants.{Past, Bad}
 use Rattle.json_tokens.specs.Scan.{past_blanks}
 use Rattle.json_text.specs.Octets.{Text, plain}
-use Rattle.json.specs.declared.Found.{Found}
-use Rattle.json.specs.declared.Found.TheVariants.{At, Nothing, Twice}
-use Rattle.json.specs.Value.{is_text}
-use Rattle.json.specs.Members.{found_of}
+use Rattle.json_values.specs.declared.Found.{Found}
+use Rattle.json_values.specs.declared.Found.TheVariants.{At, Nothing, Twice}
+use Rattle.json_values.specs.Value.{is_text}
+use Rattle.json_values.specs.Members.{found_of}
 use Rattle.report_read.specs.Entry.{list_of as array_of}
 use Rattle.list_address.specs.Https.{is_https}
 use Rattle.list_read.specs.Server.{Server, in_root, in_servers, passes, text_by, is_there, places_in}

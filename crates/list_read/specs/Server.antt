@@ -11,11 +11,11 @@ use Rattle.json_tokens.specs.declared.Skip.TheVariants.{Past, Bad}
 use Rattle.json_tokens.specs.Number.{number_at}
 use Rattle.json_strings.specs.Text.{content_at, same_list}
 use Rattle.json_text.specs.Octets.{Text, octets, none, text_of, plain}
-use Rattle.json.specs.declared.Found.{Found}
-use Rattle.json.specs.declared.Found.TheVariants.{At, Nothing, Twice}
-use Rattle.json.specs.Value.{deepest}
-use Rattle.json.specs.Members.{found_of}
-use Rattle.base64.specs.Decode.{Decoded}
+use Rattle.json_values.specs.declared.Found.{Found}
+use Rattle.json_values.specs.declared.Found.TheVariants.{At, Nothing, Twice}
+use Rattle.json_values.specs.Value.{deepest}
+use Rattle.json_values.specs.Members.{found_of}
+use Rattle.base64_strict.specs.Decode.{Decoded}
 use Rattle.report_read.specs.Entry.{string_of, decoded_at, elements_of, is64, held}
 use Rattle.report_read.specs.Entry.{list_of as array_of}
 use Rattle.list_address.specs.Address.{is_address}

@@ -8,8 +8,8 @@ use super::elements::{first_item, next_past};
 use super::texts::is_sort;
 use super::values::{is_word, string_place};
 use super::{Count, Element, IN_ADDRESS, IN_ADDRESSES, SeenAddress, Sort};
-use json::members;
 use json_tokens::{Skip, byte};
+use json_values::members;
 
 // One of the two protocols.
 fn is_protocol(s: &[u8], x: Skip) -> bool

@@ -3,8 +3,8 @@ ghost use Rattle.std.specs.Prelude.{◌≡◌, ◌+◌, ◌<◌, length};
 ghost use Rattle.list_read.specs.Facts.{past_item, Opens, Turns};
 
 use super::Element;
-use json::item;
 use json_tokens::{Skip, Step, after_item, blanks, byte};
+use json_values::item;
 
 // The first element of the list at a place, or that it has none; its elements nest at most so deep.
 pub fn first_item(s: &[u8], v: usize, depth: usize) -> Element

@@ -1,5 +1,7 @@
 // Server lists in the public format (draft 19, section 8.3), read into the records of a server list. The text is walked
 // where it lies.
+#![tactic(auto)]
+
 mod addresses;
 mod elements;
 mod reading;
@@ -11,8 +13,8 @@ mod values;
 mod versions;
 
 pub use elements::{first_item, next_item};
-use json::{DEPTH, Found};
 use json_tokens::Skip;
+use json_values::{DEPTH, Found};
 pub use reading::read_servers;
 use refusal::Refusal;
 pub use surveys::survey_of;
@@ -37,35 +39,35 @@ pub const IN_ADDRESS: usize = DEPTH - 5;
 const LONGEST: usize = 2048;
 
 // An element of a list by its place, or that there is none left.
-#[derive(Drop)]
+#[derive(Clone, Copy)]
 pub enum Element {
     At(usize),
     Done,
 }
 
 // What a text is looked at for.
-#[derive(Drop)]
+#[derive(Clone, Copy)]
 enum Sort {
     Place,
     Url,
 }
 
 // What is seen of an address object: where it ends, if it is good.
-#[derive(Drop)]
+#[derive(Clone, Copy)]
 enum SeenAddress {
     Wrong,
     Right(Skip),
 }
 
 // How many elements a list has, or that one is wrong.
-#[derive(Drop)]
+#[derive(Clone, Copy)]
 enum Count {
     Of(usize),
     Bad,
 }
 
 // What is seen of a server object: whether it can be asked, whether it has too many addresses, and where it ends.
-#[derive(Drop)]
+#[derive(Clone, Copy)]
 enum Seen {
     Wrong,
     Right(bool, bool, Skip),
@@ -73,7 +75,7 @@ enum Seen {
 
 // What is counted of server objects: whether all are good, how many there are, how many can be asked, whether one has
 // too many addresses, and the places of those that can be asked.
-#[derive(Drop)]
+#[derive(Clone, Copy)]
 struct Tally {
     good: bool,
     count: usize,
@@ -84,7 +86,7 @@ struct Tally {
 
 // What a list says: the number of its refusal, 0 where it has none; how many servers can be asked, at which places, and
 // how many are passed over; where it says its sources, and where reports go.
-#[derive(Drop)]
+#[derive(Clone, Copy)]
 pub struct Survey {
     pub code: u8,
     pub asked: usize,
@@ -95,7 +97,7 @@ pub struct Survey {
 }
 
 // How many records stand at the front of the buffer and how many servers were passed over, or why there are none.
-#[derive(Drop)]
+#[derive(Clone, Copy)]
 pub enum Servers {
     Records(usize, usize),
     Refused(Refusal),

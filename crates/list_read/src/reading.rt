@@ -11,9 +11,9 @@ use super::surveys::survey_of;
 use super::values::string_place;
 use super::{IN_SERVER, Servers};
 use hash::srv_value;
-use json::find;
 use json_base64::decode;
 use json_tokens::Skip;
+use json_values::find;
 use octets::put;
 use refusal::{codes, refuse};
 

@@ -8,9 +8,9 @@ use super::texts::has_text;
 use super::values::{array_place, is_word, key_size, string_place};
 use super::versions::{is_integer, is_ours};
 use super::{Count, IN_SERVER, Seen};
-use json::{Found, members};
 use json_base64::Size;
 use json_tokens::{Skip, byte};
+use json_values::{Found, members};
 
 // How many addresses a member has, if it is a list and each is good.
 fn addresses_of(s: &[u8], f: Found) -> Count

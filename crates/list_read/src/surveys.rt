@@ -1,6 +1,6 @@
 // A list, surveyed.
 ghost use Rattle.std.specs.Prelude.{◌≡◌, ◌<◌, length};
-ghost use Rattle.json.specs.Value.{ends_at};
+ghost use Rattle.json_values.specs.Value.{ends_at};
 ghost use Rattle.report_read.specs.Entry.{elements_of};
 ghost use Rattle.list_read.specs.Server.{in_servers};
 ghost use Rattle.list_read.specs.Listed.{all_urls, sources_good, reports_good};
@@ -11,8 +11,8 @@ use super::tallies::tally;
 use super::texts::is_sort;
 use super::values::array_place;
 use super::{Element, IN_ROOT, IN_SERVERS, Sort, Survey};
-use json::{Found, members};
 use json_tokens::{Skip, blanks, byte};
+use json_values::{Found, members};
 use refusal::codes;
 
 // Each element of the list at a place is a URL.

@@ -7,10 +7,10 @@ ghost use Rattle.list_read.specs.Facts.{of_sort};
 
 use super::values::string_place;
 use super::{LONGEST, Sort};
-use json::Found;
 use json_strings::unescaped_run;
 use json_text::{TextSize, fill, is_unicode, text_size};
 use json_tokens::{Skip, byte};
+use json_values::Found;
 use list_address::{is_address, is_https};
 
 // A member is a string of Unicode characters.

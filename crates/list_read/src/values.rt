@@ -3,10 +3,10 @@ ghost use Rattle.std.specs.Prelude.{◌≡◌, ◌+◌};
 ghost use Rattle.report_read.specs.Entry.{string_of, list_of, size_in};
 ghost use Rattle.list_read.specs.Server.{is_word, key_by};
 
-use json::Found;
 use json_base64::{Size, size_of};
 use json_strings::holds;
 use json_tokens::{Skip, byte};
+use json_values::Found;
 
 // The characters of the string that a member holds.
 pub fn string_place(s: &[u8], f: Found) -> Skip

@@ -7,8 +7,8 @@ ghost use Rattle.json_strings.specs.Text.{same_list};
 ghost use Rattle.json_text.specs.Octets.{plain};
 ghost use Rattle.list_read.specs.Server.{is_mark, unmarked, is_some, up_to, version_by};
 
-use json::Found;
 use json_tokens::{Skip, byte, number};
+use json_values::Found;
 
 // The first byte of a fraction or of an exponent.
 fn is_mark(b: u8) -> bool

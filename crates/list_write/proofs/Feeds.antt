@@ -17,6 +17,7 @@ use Rattle.list_write.specs.Lines.{all_good}
 
 size-some : (l : List ℕ) → 0 < length l → 0 < line_size l
 unfolding line_size pick
+size-some [] h = elim h [ ]
 size-some (x ∷ xs) h = by (eqb x 10)
   where
     by : (t : Bool) → 0 < pick t 1 (suc (line_size xs))
@@ -34,6 +35,7 @@ size-most (x ∷ xs) = by (eqb x 10) (size-most xs)
 
 lines-some : (l : List ℕ) → 0 < length l → lines_of l ≡ take (line_size l) l ∷ lines_of (drop (line_size l) l)
 unfolding lines_of line_size pick on_line
+lines-some [] h = elim h [ ]
 lines-some (x ∷ []) h = by (eqb x 10)
   where
     by : (t : Bool)

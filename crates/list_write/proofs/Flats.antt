@@ -4,7 +4,7 @@ use mathlib.Core.Path.{◌≡◌, refl, sym, ◌∙◌, ap}
 use mathlib.Core.List.{List, [], ◌∷◌, ◌++◌, append-nil}
 use native.Mathlib.Omega.{arith}
 use lib.ListN.{length, take, drop, length-append, drop_of_length-le}
-use Rattle.base64.specs.Encode.{encode64}
+use Rattle.base64_strict.specs.Encode.{encode64}
 use Rattle.laws.specs.Pasted.{pasted, fronted}
 use Rattle.laws.proofs.Pasted.{part-back, length_part}
 use Rattle.laws.specs.Flat.{flat}

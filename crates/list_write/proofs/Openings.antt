@@ -6,8 +6,8 @@ use mathlib.Core.List.{List, [], ◌∷◌}
 use native.Mathlib.Omega.{arith}
 use lib.ListN.{length, take, drop, length-take}
 use borrow.Author.Tests.{eq-eqb, ne_eqb}
-use Rattle.base64.specs.Encode.{encode64}
-use Rattle.base64.proofs.Encodes.{encode-length}
+use Rattle.base64_strict.specs.Encode.{encode64}
+use Rattle.base64_strict.proofs.Encodes.{encode-length}
 use Rattle.laws.specs.Ascii.{ascii}
 use Rattle.laws.specs.Flat.{flat}
 use Rattle.laws.specs.Pick.{pick}

@@ -12,6 +12,7 @@ use Rattle.list_write.specs.Decimal.{decimal_in, decimal, Spelt}
 
 -- what is left once a place is set: that value, and what stood behind it
 pub drop-set : (l : List ℕ) (i v : ℕ) → i < length l → drop i (set l i v) ≡ v ∷ drop (suc i) l
+drop-set [] i v h = elim h [ ]
 drop-set (x ∷ l) zero v h = refl
 drop-set (x ∷ l) (suc i) v h = drop-set l i v (omega arith)
 

@@ -1,7 +1,7 @@
 -- The text of a server list as we write it (draft 19, section 8.3): no blanks, the members in the order in which that
 -- section names them.
 use Rattle.std.specs.Prelude.{ℕ, Bool, true, false, List, [], ◌∷◌, eqb, length, take, drop}
-use Rattle.base64.specs.Encode.{encode64}
+use Rattle.base64_strict.specs.Encode.{encode64}
 use Rattle.laws.specs.Ascii.{ascii}
 use Rattle.laws.specs.Flat.{flat}
 use Rattle.laws.specs.Pick.{pick}

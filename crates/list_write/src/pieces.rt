@@ -1,12 +1,12 @@
 // Pieces of a text, put one behind the other. Each function answers the index at which its piece ends.
 ghost use Rattle.std.specs.Prelude.{[], ◌∷◌, ◌≡◌, ◌+◌, ◌≤◌, length};
-ghost use Rattle.base64.specs.Encode.{encode64};
+ghost use Rattle.base64_strict.specs.Encode.{encode64};
 ghost use Rattle.laws.specs.Written.{Puts};
 ghost use Rattle.list_write.specs.Decimal.{decimal};
 ghost use Rattle.list_write.specs.Texts.{separator};
 
 use super::decimal::digits_of;
-use base64::encode;
+use base64_strict::encode;
 use octets::put;
 
 // A word.

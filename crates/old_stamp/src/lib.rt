@@ -1,5 +1,7 @@
 // Timestamps of the 2021 draft (source document 002), out of old captures (request P12): the ends of a stamp's window,
 // and no more.
+#![tactic(auto)]
+
 mod ends;
 mod reading;
 
@@ -8,14 +10,14 @@ use refusal::Refusal;
 
 // The ends of an old stamp's window, in seconds since 1970. It is a type of its own, and no crate that checks
 // responses, piles or reports is above this one: an old window enters none of them.
-#[derive(Drop)]
+#[derive(Clone, Copy)]
 pub struct OldWindow {
     pub low: u64,
     pub high: u64,
 }
 
 // Why an old stamp is refused, or its window. The refusal comes first, as in a verdict.
-#[derive(Drop)]
+#[derive(Clone, Copy)]
 pub enum Stamped {
     Refused(Refusal),
     Within(OldWindow),

@@ -2,6 +2,8 @@
 // the one before.
 // `pile_code`, `judge`, `linked` and `first_rand_zero` take any bytes and any place.
 // `verdict_at` and the parts of a record are for the crates above, which have asked whether the pile is good.
+#![tactic(auto)]
+
 mod damage;
 mod judging;
 pub mod layout;
@@ -21,7 +23,7 @@ pub use records::{
 
 // What is said of one record: its place, from 0, its window or its refusal, and the delegated key, 32 zero bytes on a
 // refusal.
-#[derive(Drop)]
+#[derive(Clone, Copy)]
 pub struct Judgement {
     pub place: usize,
     pub verdict: Verdict,

@@ -2,6 +2,8 @@
 // Ed25519, that of CERT under the key that stands in the record. Each check answers what the one with lent answers does
 // when it is given these. All take any bytes. Signatures are looked at last, and only where nothing cheaper refuses: a
 // damaged record costs no verification.
+#![tactic(auto)]
+
 mod cutting;
 mod gathering;
 mod judging;

@@ -1,5 +1,7 @@
 // Contradiction in one pass. Of the windows so far only the largest MIDP - RADI is kept: a window contradicts an
 // earlier one exactly where its MIDP + RADI is below that.
+#![tactic(auto)]
+
 mod keeping;
 mod passing;
 
@@ -8,13 +10,13 @@ pub use passing::{any_contradiction, pile_contradicts};
 
 // What is kept of the windows so far: the largest MIDP - RADI, and 0 where there is none above 0. Any number at all is
 // what is kept of some windows.
-#[derive(Drop)]
+#[derive(Clone, Copy)]
 pub struct Tally {
     pub most: u64,
 }
 
 // What one window more makes of it, and whether that window contradicts an earlier one.
-#[derive(Drop)]
+#[derive(Clone, Copy)]
 pub struct Tallied {
     pub tally: Tally,
     pub contradicts: bool,

@@ -43,6 +43,7 @@ one-big (e ∷ es) h =
     by more false a false b h = big-later (more h)
 
 not-both : {es : List Entry} → Small es → Big es → ⊥
+not-both all_small_lem b = elim b [ ]
 not-both (small-then q a s) (big-request b) = omega (arith, q, b)
 not-both (small-then q a s) (big-response b) = omega (arith, a, b)
 not-both (small-then q a s) (big-later b) = not-both s b

@@ -12,10 +12,10 @@ use Rattle.laws.specs.Pick.{pick, either, both}
 use Rattle.json_tokens.specs.declared.Skip.TheVariants.{Past, Bad}
 use Rattle.json_tokens.specs.Scan.{past_while, blank}
 use Rattle.json_strings.specs.Text.{content_at}
-use Rattle.json.specs.declared.Found.{Found}
-use Rattle.json.specs.Value.{is_text}
-use Rattle.json.specs.Members.{members_of, found_of}
-use Rattle.base64.specs.Decode.{Decoded, bytes, none, decode64}
+use Rattle.json_values.specs.declared.Found.{Found}
+use Rattle.json_values.specs.Value.{is_text}
+use Rattle.json_values.specs.Members.{members_of, found_of}
+use Rattle.base64_strict.specs.Decode.{Decoded, bytes, none, decode64}
 use Rattle.report_read.specs.Entry.{Entry, Entries, these, unread, rand_name, key_name, request_name, response_name}
 use Rattle.report_read.specs.Entry.{responses_name, string_of, text_place, decoded_at, member_of, is64, held, is32, rand_good}
 use Rattle.report_read.specs.Entry.{has_all, entry_at, elements_of, all_of, entries_at, list_of, list_place, entries_from, entries_of}
@@ -158,6 +158,8 @@ module _ (s : List ℕ) where
       → ResponseObjects first ts (entries_at s first ks)
   unfolding all_of entries_at
   the-objects first [] [] no_place h = no_more
+  the-objects first [] (t ∷ ts) v h = elim v [ ]
+  the-objects first (k ∷ ks) [] v h = elim v [ ]
   the-objects first (k ∷ ks) (t ∷ ts) (a-place v r) h =
       let p = both-parts _ _ h in then-more (an-object first k t v p.0) (the-objects false ks ts r p.1)
 
@@ -165,6 +167,10 @@ module _ (s : List ℕ) where
       → ResponseObjects first ts es → (all_of s first ks ≡ true) × (entries_at s first ks ≡ es)
   unfolding all_of entries_at both
   objects-are first [] [] [] no_place no_more = (refl, refl)
+  objects-are first [] [] (e ∷ es) v o = elim o [ ]
+  objects-are first [] (t ∷ ts) es v o = elim v [ ]
+  objects-are first (k ∷ ks) [] es v o = elim v [ ]
+  objects-are first (k ∷ ks) (t ∷ ts) [] v o = elim o [ ]
   objects-are first (k ∷ ks) (t ∷ ts) (e ∷ es) (a-place v r) (then-more o more) =
       let p = response-is first k t e v o in
       let q = objects-are false ks ts es r more in

@@ -1,8 +1,8 @@
 -- Which texts are reports, and of which entries, in the words of draft 19, section 8.4.1, and of request P7: sentences
 -- on the tree of values that a text means by RFC 8259 (json_laws: specs/Abnf, specs/Tree). No reader is named here.
 use Rattle.std.specs.Prelude.{ℕ, ◌*◌, ◌≤◌, ◌<◌, ◌≡◌, Bool, true, false, List, [], ◌∷◌, length, replicate}
-use Rattle.json.specs.Value.{deepest}
-use Rattle.base64.specs.Decode.{bytes, decode64}
+use Rattle.json_values.specs.Value.{deepest}
+use Rattle.base64_strict.specs.Decode.{bytes, decode64}
 use Rattle.pile.specs.Layout.{RECORD, AREA}
 use Rattle.report_read.specs.Entry.{Entry, rand_name, key_name, request_name, response_name, responses_name}
 use Rattle.json_laws.specs.Abnf.{JSON-text}

@@ -11,7 +11,7 @@ use Rattle.laws.specs.Pasted.{pasted, fronted}
 use Rattle.laws.proofs.Pasted.{pasted-two, drop-replicate}
 use Rattle.laws.proofs.Numbers.{length-le_bytes}
 use Rattle.json_strings.specs.Text.{content_at}
-use Rattle.base64.specs.Decode.{Decoded, bytes, none, decode64}
+use Rattle.base64_strict.specs.Decode.{Decoded, bytes, none, decode64}
 use Rattle.json_base64.specs.Sized.{good, plain}
 use Rattle.report_read.specs.declared.Spot.{Spot}
 use Rattle.report_read.specs.Entry.{Entry, member_of, held, is64, is32, rand_good, has_all, entry_at, rand_name, key_name}

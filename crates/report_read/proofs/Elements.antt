@@ -11,9 +11,9 @@ use Rattle.json_tokens.specs.declared.Step.TheVariants.{More, End}
 use Rattle.json_tokens.specs.Scan.{past_while, blank}
 use Rattle.json_tokens.specs.declared.Skip.TheVariants.{Past}
 use Rattle.json_tokens.specs.Walk.{starts, walked}
-use Rattle.json.specs.Value.{value_at, item_step, array_of}
+use Rattle.json_values.specs.Value.{value_at, item_step, array_of}
 use Rattle.json_tokens.proofs.Turns.{starts_more, starts-end}
-use Rattle.json.proofs.Ahead.{forth-items}
+use Rattle.json_values.proofs.Ahead.{forth-items}
 use Rattle.report_read.specs.Entry.{in_list, elements_of}
 use Rattle.report_read.specs.Ready.{from}
 

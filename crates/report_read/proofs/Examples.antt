@@ -11,11 +11,11 @@ use Rattle.json_tokens.specs.Number.{some_digits, past_minus, past_sign, whole_a
 use Rattle.json_tokens.specs.Number.{number_at}
 use Rattle.json_strings.specs.Text.{escape_of, nibble_of, nibble_at, hex_at, escape_at, least_second, most_second, second_at, tail_at}
 use Rattle.json_strings.specs.Text.{long_at, wide_at, unit_at, unit_step, string_at, codes_at, content_at, same_list}
-use Rattle.json.specs.Value.{literal_at, plain_at, item_step, member_step, array_of, object_of, value_by, value_at, ends_at}
-use Rattle.json.specs.Value.{is_text}
-use Rattle.json.specs.Members.{members_of, named, place_of, value_place, answer_of, count_of, tally, found_of}
-use Rattle.base64.specs.Alphabet.{sextet_of}
-use Rattle.base64.specs.Decode.{one_of, two_of, three_of, group_of, decode64}
+use Rattle.json_values.specs.Value.{literal_at, plain_at, item_step, member_step, array_of, object_of, value_by, value_at, ends_at}
+use Rattle.json_values.specs.Value.{is_text}
+use Rattle.json_values.specs.Members.{members_of, named, place_of, value_place, answer_of, count_of, tally, found_of}
+use Rattle.base64_strict.specs.Alphabet.{sextet_of}
+use Rattle.base64_strict.specs.Decode.{one_of, two_of, three_of, group_of, decode64}
 use Rattle.report_read.specs.Entry.{string_of, text_place, member_of, is64, held, is32, rand_good, has_all, entry_at}
 use Rattle.report_read.specs.Entry.{elements_of, all_of, entries_at, list_of, list_place, entries_from, entries_of}
 use Rattle.report_read.specs.Read.{read_number, is_big, any_big, read_of}

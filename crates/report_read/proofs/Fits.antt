@@ -9,10 +9,10 @@ use borrow.Author.Tests.{eqb-true, eq-eqb}
 use Rattle.laws.specs.Pick.{pick, both}
 use Rattle.json_tokens.specs.declared.Skip.{Skip}
 use Rattle.json_tokens.specs.declared.Skip.TheVariants.{Past, Bad}
-use Rattle.json.specs.declared.Found.{Found}
-use Rattle.json.specs.Value.{value_at, object_of}
-use Rattle.json.specs.Members.{found_of}
-use Rattle.json.proofs.Ahead.{value-is, object-is}
+use Rattle.json_values.specs.declared.Found.{Found}
+use Rattle.json_values.specs.Value.{value_at, object_of}
+use Rattle.json_values.specs.Members.{found_of}
+use Rattle.json_values.proofs.Ahead.{value-is, object-is}
 use Rattle.report_read.specs.declared.Spot.{Spot}
 use Rattle.report_read.specs.Entry.{rand_name, key_name, request_name, response_name, in_list, in_entry, string_of, text_place}
 use Rattle.report_read.specs.Entry.{decoded_at, member_of, is64, rand_good, has_all}

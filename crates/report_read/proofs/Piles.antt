@@ -15,7 +15,7 @@ use Rattle.laws.specs.Written.{written}
 use Rattle.laws.proofs.Picks.{hit, miss, hit-eq, miss-eq}
 use Rattle.laws.proofs.Filled.{Filled, filled-first, filled_next, filled-fit, filled-last}
 use Rattle.json_tokens.proofs.Picks.{inside}
-use Rattle.base64.specs.Decode.{Decoded, bytes, none}
+use Rattle.base64_strict.specs.Decode.{Decoded, bytes, none}
 use Rattle.refusal.specs.Refusal.{refusal}
 use Rattle.report_read.specs.declared.Read.TheVariants.{Records, Refused}
 use Rattle.report_read.specs.declared.Spot.{Spot}

@@ -17,8 +17,8 @@ use Rattle.json_tokens.specs.Scan.{past_while, blank, after, then_step}
 use Rattle.json_tokens.specs.Walk.{walked}
 use Rattle.json_tokens.proofs.Picks.{inside}
 use Rattle.json_tokens.proofs.Turns.{walked_more, walked_end, walked-wrong, turn-falls, turn-ahead}
-use Rattle.json.specs.Value.{value_at, item_step, array_of}
-use Rattle.json.proofs.Ahead.{forth-items}
+use Rattle.json_values.specs.Value.{value_at, item_step, array_of}
+use Rattle.json_values.proofs.Ahead.{forth-items}
 use Rattle.report_read.specs.declared.Spot.{Spot}
 use Rattle.report_read.specs.declared.Kept.{Kept}
 use Rattle.report_read.specs.Entry.{in_list, request_name, response_name, member_of, held, has_all, entry_at, elements_of, all_of}

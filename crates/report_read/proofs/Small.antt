@@ -10,10 +10,10 @@ use borrow.Author.Tests.{eq-eqb, ne_eqb}
 use Rattle.laws.specs.Pick.{pick, either}
 use Rattle.json_tokens.specs.declared.Skip.{Skip}
 use Rattle.json_tokens.specs.declared.Skip.TheVariants.{Past, Bad}
-use Rattle.json.specs.declared.Found.{Found}
-use Rattle.json.specs.declared.Found.TheVariants.{At, Nothing, Twice}
+use Rattle.json_values.specs.declared.Found.{Found}
+use Rattle.json_values.specs.declared.Found.TheVariants.{At, Nothing, Twice}
 use Rattle.json_strings.specs.Text.{content_at}
-use Rattle.base64.specs.Decode.{Decoded, bytes, none, decode64}
+use Rattle.base64_strict.specs.Decode.{Decoded, bytes, none, decode64}
 use Rattle.json_base64.specs.declared.Size.{Size}
 use Rattle.json_base64.specs.declared.Size.TheVariants.{Of}
 use Rattle.json_base64.specs.declared.Size.TheVariants.{Bad as NoSize}

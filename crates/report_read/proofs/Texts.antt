@@ -16,12 +16,12 @@ use Rattle.json_tokens.specs.Scan.{past_while, blank, past_colon, after, then, t
 use Rattle.json_tokens.specs.Walk.{onward, more_of, starts}
 use Rattle.json_tokens.proofs.Turns.{walked_more, walked_end, walked-wrong, starts_more, starts-end, starts-wrong, turn-falls}
 use Rattle.json_strings.specs.Text.{string_at}
-use Rattle.json.specs.declared.Found.{Found}
-use Rattle.json.specs.declared.Found.TheVariants.{At, Nothing, Twice}
-use Rattle.json.specs.Value.{value_at, member_step, object_of, array_of, ends_at, is_text, deepest}
-use Rattle.json.specs.Members.{named, place_of, value_place, answer_of, count_of, tally, found_of}
-use Rattle.json.proofs.Finds.{tally-many, members-none, members-some, object-some}
-use Rattle.json.proofs.Ahead.{forth-members, value-is, object-is, array-is}
+use Rattle.json_values.specs.declared.Found.{Found}
+use Rattle.json_values.specs.declared.Found.TheVariants.{At, Nothing, Twice}
+use Rattle.json_values.specs.Value.{value_at, member_step, object_of, array_of, ends_at, is_text, deepest}
+use Rattle.json_values.specs.Members.{named, place_of, value_place, answer_of, count_of, tally, found_of}
+use Rattle.json_values.proofs.Finds.{tally-many, members-none, members-some, object-some}
+use Rattle.json_values.proofs.Ahead.{forth-members, value-is, object-is, array-is}
 use Rattle.report_read.specs.declared.Kept.{Kept}
 use Rattle.report_read.specs.Entry.{responses_name, in_report, in_list, elements_of, all_of, entries_at, list_of, list_place, these}
 use Rattle.report_read.specs.Entry.{unread, entries_from, entries_of}

@@ -8,14 +8,14 @@ use Rattle.laws.specs.Ascii.{ascii}
 use Rattle.laws.specs.Pick.{pick, either, both}
 use Rattle.json_tokens.specs.declared.Skip.{Skip}
 use Rattle.json_tokens.specs.declared.Skip.TheVariants.{Past, Bad}
-use Rattle.json.specs.declared.Found.{Found}
-use Rattle.json.specs.declared.Found.TheVariants.{At, Nothing, Twice}
+use Rattle.json_values.specs.declared.Found.{Found}
+use Rattle.json_values.specs.declared.Found.TheVariants.{At, Nothing, Twice}
 use Rattle.json_tokens.specs.Scan.{past_while, blank}
 use Rattle.json_tokens.specs.Walk.{starts}
 use Rattle.json_strings.specs.Text.{content_at}
-use Rattle.json.specs.Value.{value_at, item_step, deepest, is_text}
-use Rattle.json.specs.Members.{found_of}
-use Rattle.base64.specs.Decode.{Decoded, bytes, none, decode64}
+use Rattle.json_values.specs.Value.{value_at, item_step, deepest, is_text}
+use Rattle.json_values.specs.Members.{found_of}
+use Rattle.base64_strict.specs.Decode.{Decoded, bytes, none, decode64}
 use Rattle.json_base64.specs.declared.Size.{Size}
 use Rattle.json_base64.specs.Sized.{size_of, good, plain}
 

@@ -8,11 +8,11 @@ use Rattle.json_tokens.specs.declared.Step.{Step}
 use Rattle.json_tokens.specs.Scan.{past_while, blank}
 use Rattle.json_tokens.specs.Walk.{onward, walked, more_of, starts}
 use Rattle.json_strings.specs.Text.{content_at}
-use Rattle.json.specs.declared.Found.{Found}
-use Rattle.json.specs.declared.Found.TheVariants.{At, Nothing, Twice}
-use Rattle.json.specs.Value.{value_at, item_step, member_step, array_of, object_of}
-use Rattle.json.specs.Members.{named, tally, found_of}
-use Rattle.base64.specs.Decode.{decode64}
+use Rattle.json_values.specs.declared.Found.{Found}
+use Rattle.json_values.specs.declared.Found.TheVariants.{At, Nothing, Twice}
+use Rattle.json_values.specs.Value.{value_at, item_step, member_step, array_of, object_of}
+use Rattle.json_values.specs.Members.{named, tally, found_of}
+use Rattle.base64_strict.specs.Decode.{decode64}
 use Rattle.json_base64.specs.declared.Size.TheVariants.{Of}
 use Rattle.pile.specs.Layout.{AREA}
 use Rattle.report_read.specs.declared.Spot.{Spot}

@@ -3,9 +3,9 @@ ghost use Rattle.std.specs.Prelude.{true, false};
 ghost use Rattle.report_read.specs.Ready.{PartOf, Exact, Randed, Looks};
 
 use super::{IN_ENTRY, Looked, Part, Spot};
-use json::{Found, members};
 use json_base64::{Size, size_of};
 use json_tokens::{Skip, byte};
+use json_values::{Found, members};
 
 // The string of base64 at a place.
 fn part_at(s: &[u8], v: usize) -> Part

@@ -1,14 +1,16 @@
 // Reports in the public format (draft 19, section 8.4.1; request P7), read into the records of a pile.
 // The text is walked once, where it lies: of the first 16 entries the places of their strings are kept, and the records
 // are written from them.
+#![tactic(auto)]
+
 mod entries;
 mod lists;
 mod reading;
 mod records;
 mod reports;
 
-use json::DEPTH;
 use json_tokens::Skip;
+use json_values::DEPTH;
 pub use reading::read_report;
 use refusal::Refusal;
 
@@ -19,14 +21,14 @@ const IN_REPORT: usize = DEPTH - 1;
 const IN_ENTRY: usize = DEPTH - 3;
 
 // A string of base64: the place of its characters, and how many bytes they stand for.
-#[derive(Drop)]
+#[derive(Clone, Copy)]
 enum Part {
     Text(usize, usize),
     Else,
 }
 
 // An entry: its place, those of the characters of its strings, and how many bytes its packets have.
-#[derive(Drop)]
+#[derive(Clone, Copy)]
 struct Spot {
     at: usize,
     key: usize,
@@ -38,7 +40,7 @@ struct Spot {
 }
 
 // An element of the list: an entry with the place past it, or what is none.
-#[derive(Drop)]
+#[derive(Clone, Copy)]
 enum Looked {
     Good(Spot, usize),
     Unfit,
@@ -46,7 +48,7 @@ enum Looked {
 
 // What is kept of a list: the place past it, or that it is no list of entries; how many there are; whether a packet is
 // too long; and the first 16.
-#[derive(Drop)]
+#[derive(Clone, Copy)]
 struct Kept {
     end: Skip,
     n: usize,
@@ -55,7 +57,7 @@ struct Kept {
 }
 
 // How many records stand at the front of the buffer, or why none do.
-#[derive(Drop)]
+#[derive(Clone, Copy)]
 pub enum Read {
     Records(usize),
     Refused(Refusal),

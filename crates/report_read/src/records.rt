@@ -2,7 +2,7 @@
 ghost use Rattle.std.specs.Prelude.{◌≡◌, true, ◌++◌, ◌+◌, ◌*◌, ◌≤◌, ◌<◌, length};
 ghost use Rattle.laws.specs.Pasted.{pasted};
 ghost use Rattle.json_strings.specs.Text.{content_at};
-ghost use Rattle.base64.specs.Decode.{decode64};
+ghost use Rattle.base64_strict.specs.Decode.{decode64};
 ghost use Rattle.json_base64.specs.Sized.{good, plain};
 ghost use Rattle.report_read.specs.Entry.{entry_at};
 ghost use Rattle.report_read.specs.Ready.{Writable};

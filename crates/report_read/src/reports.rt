@@ -5,9 +5,9 @@ ghost use Rattle.report_read.specs.Ready.{Seeks, Rests, Behind, Opened, ReportBy
 
 use super::lists::{list, none};
 use super::{IN_REPORT, Kept};
-use json::{is_named, member};
 use json_strings::string;
 use json_tokens::{Skip, Step, after_item, blanks, byte, colon};
+use json_values::{is_named, member};
 
 // The first member from a place on that has the name.
 fn seek(s: &[u8], at: usize) -> Skip

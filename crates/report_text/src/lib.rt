@@ -1,4 +1,6 @@
 // Reports in the public format in one call, from text to text (request P7); and with no answers lent (request P11).
+#![tactic(auto)]
+
 mod cutting;
 mod publishing;
 
@@ -7,7 +9,7 @@ pub use publishing::write_signed_report;
 use refusal::Refusal;
 
 // The places of the first and the last record of the run, and how long its text is; or why there is none.
-#[derive(Drop)]
+#[derive(Clone, Copy)]
 pub enum Forwarded {
     Text(usize, usize, usize),
     Refused(Refusal),

@@ -12,12 +12,12 @@ use Rattle.laws.specs.Pick.{pick, either}
 use Rattle.json_tokens.specs.declared.Skip.{Skip}
 use Rattle.json_tokens.specs.declared.Skip.TheVariants.{Past, Bad}
 use Rattle.json_strings.specs.Text.{content_at}
-use Rattle.base64.specs.declared.Group.{Group}
-use Rattle.base64.specs.declared.Group.TheVariants.{Three, Two, One}
-use Rattle.base64.specs.declared.Group.TheVariants.{Bad as BadGroup}
-use Rattle.base64.specs.Alphabet.{sextet_of}
-use Rattle.base64.specs.Decode.{Decoded, bytes, none, with_group, one_of, two_of, three_of, group_of, decode64}
-use Rattle.base64.proofs.Tables.{back-letter}
+use Rattle.base64_strict.specs.declared.Group.{Group}
+use Rattle.base64_strict.specs.declared.Group.TheVariants.{Three, Two, One}
+use Rattle.base64_strict.specs.declared.Group.TheVariants.{Bad as BadGroup}
+use Rattle.base64_strict.specs.Alphabet.{sextet_of}
+use Rattle.base64_strict.specs.Decode.{Decoded, bytes, none, with_group, one_of, two_of, three_of, group_of, decode64}
+use Rattle.base64_strict.proofs.Tables.{back-letter}
 use Rattle.report_read.specs.Entry.{Entry, rand_name, key_name, request_name, response_name, text_place, decoded_at, member_of}
 use Rattle.report_read.specs.Entry.{is32, held, rand_good, has_all, entry_at, elements_of, all_of, entries_at, list_place, these}
 use Rattle.report_read.specs.Entry.{unread, entries_from, entries_of}

@@ -10,10 +10,10 @@ use Rattle.laws.specs.Bytes.{Bytes}
 use Rattle.digits.proofs.Table.{at, both, both_left, both_right}
 use Rattle.json_strings.proofs.Plain.{Plain, Each, none, one}
 use Rattle.report_read.specs.Entry.{rand_name, key_name, request_name, response_name, responses_name}
-use Rattle.base64.specs.Alphabet.{letter_of}
-use Rattle.base64.specs.Encode.{encode64}
-use Rattle.base64.specs.Alphabet.{letters}
-use Rattle.base64.proofs.Tables.{letter_at}
+use Rattle.base64_strict.specs.Alphabet.{letter_of}
+use Rattle.base64_strict.specs.Encode.{encode64}
+use Rattle.base64_strict.specs.Alphabet.{letters}
+use Rattle.base64_strict.proofs.Tables.{letter_at}
 
 plain-right : ℕ → ℕ → Bool
 plain-right k x = both (leb 32 x) (both (ltb x 128) (both (not (eqb x 34)) (not (eqb x 92))))

@@ -5,8 +5,8 @@ use mathlib.Core.Bool.{Bool, true, false}
 use mathlib.Core.List.{List, [], ◌∷◌, ◌++◌, append_assoc}
 use native.Mathlib.Omega.{arith}
 use lib.ListN.{length, take, drop, length-append, length-take}
-use Rattle.base64.specs.Encode.{encode64}
-use Rattle.base64.proofs.Encodes.{encode-length}
+use Rattle.base64_strict.specs.Encode.{encode64}
+use Rattle.base64_strict.proofs.Encodes.{encode-length}
 use Rattle.report_read.specs.Entry.{Entry}
 use Rattle.laws.proofs.Pasted.{length_part}
 use Rattle.pile.specs.Pile.{request_length, response_length, request_area, response_area, request_packet, response_packet}

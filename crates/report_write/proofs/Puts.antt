@@ -8,7 +8,7 @@ use Rattle.laws.specs.Pasted.{pasted, fronted}
 use Rattle.laws.specs.Written.{Puts}
 use Rattle.laws.proofs.Pasted.{part-back, length_part}
 use Rattle.laws.proofs.Written.{puts-length}
-use Rattle.base64.specs.Encode.{encode64}
+use Rattle.base64_strict.specs.Encode.{encode64}
 
 -- a piece fits where it and the next one do
 pub left-fits : {n : ℕ} (at : ℕ) (x y : List ℕ) → at + length (x ++ y) ≤ n → at + length x ≤ n

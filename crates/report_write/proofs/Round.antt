@@ -12,24 +12,24 @@ use Rattle.laws.specs.Pick.{pick, either, both}
 use Rattle.json_tokens.specs.declared.Skip.{Skip}
 use Rattle.json_tokens.specs.declared.Skip.TheVariants.{Past}
 use Rattle.json_tokens.specs.declared.Step.TheVariants.{End}
-use Rattle.json.specs.declared.Found.TheVariants.{At}
+use Rattle.json_values.specs.declared.Found.TheVariants.{At}
 use Rattle.json_tokens.specs.Scan.{then, then_step, blank, past_while, after}
 use Rattle.json_tokens.specs.Walk.{walked}
 use Rattle.json_strings.specs.Text.{same_list}
-use Rattle.json.specs.Value.{value_at, array_at, object_at, array_of, object_of, item_step, member_step, ends_at, is_text}
-use Rattle.json.specs.Members.{members_of, named, place_of, value_place, answer_of, count_of, tally, found_of}
+use Rattle.json_values.specs.Value.{value_at, array_at, object_at, array_of, object_of, item_step, member_step, ends_at, is_text}
+use Rattle.json_values.specs.Members.{members_of, named, place_of, value_place, answer_of, count_of, tally, found_of}
 use Rattle.json_tokens.proofs.Turns.{walked_more, walked_end, starts-end}
-use Rattle.json.proofs.Ahead.{forth-items, forth-members, value-is}
+use Rattle.json_values.proofs.Ahead.{forth-items, forth-members, value-is}
 use Rattle.json_tokens.proofs.Stands.{Stands, stands_at_lem, no-blank}
 use Rattle.json_strings.proofs.Plain.{Each, string-reads, string-content}
-use Rattle.json.proofs.Stands.{value-string}
+use Rattle.json_values.proofs.Stands.{value-string}
 use Rattle.json_tokens.proofs.Stands.{colon-reads, close-reads, comma-reads}
-use Rattle.json.proofs.Stands.{member-reads}
-use Rattle.json.proofs.Written.{Member, members_text, Clean, last, more, tally_text, find-written}
-use Rattle.base64.specs.Encode.{encode64}
-use Rattle.base64.specs.Decode.{bytes, decode64}
+use Rattle.json_values.proofs.Stands.{member-reads}
+use Rattle.json_values.proofs.Written.{Member, members_text, Clean, last, more, tally_text, find-written}
+use Rattle.base64_strict.specs.Encode.{encode64}
+use Rattle.base64_strict.specs.Decode.{bytes, decode64}
 use Rattle.laws.specs.Bytes.{Bytes}
-use Rattle.base64.proofs.Codec.{decode-encode}
+use Rattle.base64_strict.proofs.Codec.{decode-encode}
 use Rattle.report_read.specs.Entry.{Entry, rand_name, key_name, request_name, response_name, responses_name, string_of, text_place}
 use Rattle.report_read.specs.Entry.{member_of, is64, is32, held, rand_good, has_all, entry_at, elements_of, all_of, entries_at}
 use Rattle.report_read.specs.Entry.{list_of, list_place, these, entries_from, entries_of}
@@ -100,7 +100,7 @@ opens m (n ∷ ms) t = refl
 walk-written : {s : List ℕ} {k : ℕ} (d : ℕ) (m : Member) (ms : List Member) (t : List ℕ) → Clean m ms
     → Ends s k (members_text m ms t) → Passes s t (walked (length s) (member_step s (value_at s d)) k)
 unfolding either
-walk-written {s} {k} d m [] t (last a b) h =
+walk-written {s = s} {k = k} d m [] t (last a b) h =
     let g = member-ends m.name m.value (125 ∷ t) h in
     record {
       end = k + length m.name + length m.value + 5 + 1;
@@ -109,9 +109,9 @@ walk-written {s} {k} d m [] t (last a b) h =
           (member-turn m.name m.value (125 ∷ t) h d a b ∙ close-reads (stands g) refl));
       ends = next g;
     }
-walk-written {s} {k} d m (n ∷ ms) t (more a b c) h =
+walk-written {s = s} {k = k} d m (n ∷ ms) t (more a b c) h =
     let g = member-ends m.name m.value (44 ∷ members_text n ms t) h in
-    let r = walk-written d n ms t c (next g) in
+    let r = walk-written {k = k + length m.name + length m.value + 5 + 1} d n ms t c (next g) in
     record {
       end = r.end;
       is = sym (walked_more (length s) (member_step s (value_at s d)) (forth-members s d) k refl
@@ -317,7 +317,7 @@ item-turn k p = rw p.is refl
 listed : {s : List ℕ} {k : ℕ} (first : Bool) (e : Entry) (es : List Entry) (t : List ℕ) → Fine first e es
     → Ends s k (entries_text first e es t) → Listed s first k (e ∷ es) t
 unfolding entries_text all_of entries_at both either
-listed {s} {k} first e [] t (one_entry w) h =
+listed {s = s} {k = k} first e [] t (one_entry w) h =
     let r = reading first e (93 ∷ t) w h in
     let p = r.passes in
     let z = item-turn k p ∙ close-reads (stands p.ends) refl in
@@ -333,13 +333,13 @@ listed {s} {k} first e [] t (one_entry w) h =
                 p.ends;
           };
     }
-listed {s} {k} first e (f ∷ es) t (entry-then w v) h =
+listed {s = s} {k = k} first e (f ∷ es) t (entry-then w v) h =
     let r = reading first e (44 ∷ entries_text false f es t) w h in
     let p = r.passes in
     let z = item-turn k p
     ∙ comma-reads 93 (stands (again-as p.ends (ap (λ l. 44 ∷ l) (opened f es t)))) refl (λ q. omega arith) in
     let l = from_more s k refl z in
-    let i = listed false f es t v (next p.ends) in
+    let i = listed {k = p.end + 1} false f es t v (next p.ends) in
     record {
       all = rw (l, r.has) i.all;
       are = rw (l, r.are) (ap (λ q. e ∷ q) i.are);

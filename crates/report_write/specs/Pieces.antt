@@ -1,7 +1,7 @@
 -- For the private functions: the pieces that are put one behind the other, and the records that can be written.
 use Prim.Native.Char.{code}
 use Rattle.std.specs.Prelude.{ℕ, zero, suc, ◌+◌, ◌*◌, ◌≤◌, ◌<◌, Bool, true, false, List, [], ◌∷◌, ◌++◌, ◌≡◌, length}
-use Rattle.base64.specs.Encode.{encode64}
+use Rattle.base64_strict.specs.Encode.{encode64}
 use Rattle.report_read.specs.Entry.{Entry}
 use Rattle.laws.specs.Ascii.{ascii}
 use Rattle.pile.specs.Layout.{RECORD, AREA}
@@ -37,8 +37,8 @@ unfoldable pub packets_of : Entry → List ℕ
 packets_of e = piece request_word e.request ++ piece response_word e.response
 
 -- an entry's object: its head, its packets, and `"}`
-unfoldable pub objectText : Bool → Entry → List ℕ
-objectText first e = head_of first e ++ packetsOf e ++ ascii "\"}"
+unfoldable pub object_text : Bool → Entry → List ℕ
+object_text first e = head_of first e ++ packets_of e ++ ascii "\"}"
 
 -- the objects of n records from record k on, with commas between them, the closing bracket and brace
 unfoldable pub list_text : List ℕ → Bool → ℕ → ℕ → List ℕ

@@ -3,7 +3,7 @@
 -- Each text is followed by the text t.
 use Prim.Native.Char.{code}
 use Rattle.std.specs.Prelude.{ℕ, Bool, true, false, List, [], ◌∷◌, ◌++◌}
-use Rattle.base64.specs.Encode.{encode64}
+use Rattle.base64_strict.specs.Encode.{encode64}
 use Rattle.report_read.specs.Entry.{Entry, rand_name, key_name, request_name, response_name, responses_name}
 
 -- "name":"base64"

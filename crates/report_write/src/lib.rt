@@ -1,4 +1,6 @@
 // Reports written in the public format (draft 19, section 8.4.1; request P7), from the records of a pile.
+#![tactic(auto)]
+
 mod listing;
 mod pieces;
 mod publishing;
@@ -18,7 +20,7 @@ pub const LONGEST: usize = 87_609;
 
 // How long the text is that stands at the front of the buffer; or why there is none, and the place of the record that
 // is to blame, as the check of a report says it, 0 where none is.
-#[derive(Drop)]
+#[derive(Clone, Copy)]
 pub enum Published {
     Text(usize),
     Refused(Refusal, usize),

@@ -1,12 +1,12 @@
 // The object of a record, piece after piece. Each function answers the index at which its piece ends.
 ghost use Rattle.std.specs.Prelude.{◌≡◌, ◌+◌, ◌≤◌, length};
-ghost use Rattle.base64.specs.Encode.{encode64};
+ghost use Rattle.base64_strict.specs.Encode.{encode64};
 ghost use Rattle.laws.specs.Written.{Puts};
 ghost use Rattle.pile.specs.Layout.{RECORD};
 ghost use Rattle.report_write.specs.Entries.{entry_of};
 ghost use Rattle.report_write.specs.Pieces.{piece, head_of, packets_of, object_text, Fits};
 
-use base64::encode;
+use base64_strict::encode;
 use octets::put;
 use pile::{key_of, rand_of, request_of, response_of};
 

@@ -16,7 +16,7 @@ use Rattle.wire_packet.specs.Packet.{body}
 use Rattle.wire_packet.specs.Request.{request_bad}
 use Rattle.server_response.proofs.Replied.{lent-short}
 use Rattle.server_batch.specs.Batch.{Batch, size_at, packet_in, packet_at, meant_for, meant_at}
-use Rattle.server_batch.specs.Steps.{stay_at, Held}
+use Rattle.server_batch.specs.Steps.{stay_test, stay_at, Held}
 
 module _ (srv p : List ℕ) {t : Bool} (bad : t ≡ request_bad p) where
   pub meant-bad : t ≡ true → false ≡ meant_for srv p
@@ -42,6 +42,12 @@ module _ (b : Batch) (i : ℕ) {n : ℕ} (size : n ≡ size_at b i) where
   meant-short h e q = simp (le-leb (size_at b i) b.slot (rw size at h)) (q ∙ ap (meant_for b.srv) e)
 
 -- ---- What is marked
+
+-- whether a packet is answered, as code finds out
+pub stay-is : (marks lengths : List ℕ) (least i : ℕ) {n : ℕ} {t : Bool} → t ≡ stay_test (get_or marks i 0) n least
+    → n ≡ get_or lengths i 0 → t ≡ stay_at marks lengths least i
+unfolding stay_at
+stay-is marks lengths least i e q = e ∙ ap (λ (n : ℕ). stay_test (get_or marks i 0) n least) q
 
 -- by its mark and its length a packet is answered; its mark is then 1
 pub stay-marked : (marks lengths : List ℕ) (least i : ℕ) {t : Bool} → t ≡ stay_at marks lengths least i → t ≡ true

@@ -48,7 +48,7 @@ module _ (srv q : List ℕ) where
         let parts = both (not (request_bad q)) _ e in
         record {
           request = request-good q bytes (lent-good q refl (meant-good srv q e));
-          own = λ h. same_true _ _ (own-by (has (body q) SRV) _ parts.1 h);
+          own = λ h. let e = same_true _ _ (own-by (has (body q) SRV) _ parts.1 h) in cc;
         },
     λ m.
         let good = not-bad q (good-request q m.request) in

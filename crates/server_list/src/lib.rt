@@ -2,6 +2,8 @@
 // shipped one.
 // `find_server` hands the record back as a part of the list that holds it, and an empty part on refusal; `find_code`
 // tells why.
+#![tactic(auto)]
+
 mod lookup;
 mod records;
 
@@ -9,7 +11,7 @@ pub use lookup::{find_code, find_server, search};
 use refusal::Refusal;
 
 // Where a server stands: the number of its record, from 0, in the list that holds it; or why it was not found.
-#[derive(Drop)]
+#[derive(Clone, Copy)]
 pub enum Where {
     Owner(usize),
     Shipped(usize),

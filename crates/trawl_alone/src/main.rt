@@ -1,7 +1,12 @@
 // Tells of several piles, one after the other, each alone: every argument names one.
-fn main() {
-    let n = os::arg_count();
+#![tactic(auto)]
+
+use std::io;
+
+fn main(rt: HostRuntime) -> io::Result<()> {
+    let n = console::argument_count(&rt);
     for k in 1..n {
-        console::tell_alone(k);
+        console::tell_alone(&rt, k)?;
     }
+    Ok(())
 }

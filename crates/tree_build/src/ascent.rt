@@ -36,7 +36,8 @@ fn ascend_few(
 }
 
 // The same of a large level, from the front of out on: it goes over to a small one as soon as its nodes have place
-// there.
+// there. It is put in its caller's place, so that a level is not copied once more to be lent.
+#[inline(always)]
 fn ascend_many(level: Many, mut left: u32, wanted: Wanted, mut j: usize, out: &mut [u8]) -> [u8; 32]
     requires { (few < 2 ^ left) × (2 ^ left ≤ most) × Fits wanted left j 0 (length out.old) }
     ensures { Ascends level left wanted j out.old 0 out.new result }
@@ -59,7 +60,8 @@ fn ascend_many(level: Many, mut left: u32, wanted: Wanted, mut j: usize, out: &m
 }
 
 // The root of the tree of depth d over the leaves. What is wanted of it is written at the front of out: siblings are
-// those of the leaf at place.
+// those of the leaf at place. Each of its callers has it in its own place, for the same reason.
+#[inline(always)]
 pub fn ascend(
     leaves: &[u8],
     count: usize,

@@ -1,6 +1,8 @@
 // The measuring walk (draft 19, 8.2; request P10): 3 to 8 servers are asked in turn, and then the same ones in the same
 // order again. The state is the caller's, handed in and handed back at each call, and the pile stands at the front of a
 // buffer that the caller lends. Any state and any buffer at all are taken.
+#![tactic(auto)]
+
 mod asking;
 mod recording;
 mod starting;
@@ -16,7 +18,7 @@ pub use taking::{accept, refused, step_code, take};
 // The state between packets: the servers' keys, 32 bytes each, and how many there are; the step, from 0; the nonce of
 // the request that is asked, and the rand that it was made with. `last` is when the last accepted response was
 // received, and `most` the longest delay that is allowed.
-#[derive(Drop)]
+#[derive(Clone, Copy)]
 pub struct Walk {
     pub keys: [u8; 256],
     pub count: usize,
@@ -28,14 +30,14 @@ pub struct Walk {
 }
 
 // What a start answers.
-#[derive(Drop)]
+#[derive(Clone, Copy)]
 pub struct Started {
     pub refusal: Refusal,
     pub walk: Walk,
 }
 
 // What is asked next: which server, from 0, and the nonce.
-#[derive(Drop)]
+#[derive(Clone, Copy)]
 pub struct Asked {
     pub refusal: Refusal,
     pub server: usize,
@@ -44,7 +46,7 @@ pub struct Asked {
 
 // What the host has of a response beside its packet: whether its two signatures verify, the local seconds at which its
 // request was sent and it was received, and the rand for the next nonce.
-#[derive(Drop)]
+#[derive(Clone, Copy)]
 pub struct Heard {
     pub delegation: bool,
     pub signature: bool,
@@ -55,7 +57,7 @@ pub struct Heard {
 
 // What is said of a response. `Next`: it is accepted, with its window, and there is a next to ask. `Ended`: it is
 // accepted and the last, with its window and what the report check says of the pile. Or it is refused.
-#[derive(Drop)]
+#[derive(Clone, Copy)]
 pub enum Said {
     Next(Window),
     Ended(Window, Report),
@@ -63,7 +65,7 @@ pub enum Said {
 }
 
 // That, and the state for the next call.
-#[derive(Drop)]
+#[derive(Clone, Copy)]
 pub struct Stepped {
     pub said: Said,
     pub walk: Walk,

@@ -38,7 +38,7 @@ module _ {keys nonce : List ℕ} {most : ℕ} where
   pub with-answers : {w : Walk} {b : List ℕ} → ReachedAlone keys nonce most w b → Reached keys nonce most w b
   with-answers (begun b e) = begun-so b e
   with-answers (took w b sent received rand response s way l t) =
-      took-so w b (own_heard w sent received rand response) response s (with-answers way) l t
+      took-so w b _ response s (with-answers way) l t
 
   -- and every signature on it verifies;
   pub all-verified : {w : Walk} {b : List ℕ} (way : ReachedAlone keys nonce most w b) → AllVerify (with-answers way)

@@ -73,11 +73,14 @@ module _
   either_way true = refl
   either_way false = refl
 
+  both-say : (b : Bool) {d s : Bool} → d ≡ true → s ≡ true → answer_byte (cond b d s) ≡ 1
+  both-say b e f = rw (e, f) (either_way b)
+
   yes-at : (i : ℕ) → i < 2 * n → own_answer pile i ≡ 1
   unfolding own_answer
   yes-at i h =
       let v = all (i / 2) (omega arith) in
-      rw (v.delegation, v.signature) (either_way (eqb (i % 2) 0))
+      both-say (eqb (i % 2) 0) v.delegation v.signature
 
   pub all_yes_lem : own_answers pile ≡ all_yes n
   all_yes_lem =

@@ -1,5 +1,7 @@
 // What we write: the request, and the two texts that are signed.
 // Each writer writes at the front of the lent buffer, where later bytes stay, or nothing.
+#![tactic(auto)]
+
 mod request;
 mod texts;
 
@@ -8,7 +10,7 @@ pub use request::write_request;
 pub use texts::{DELEGATION, RESPONSE, delegation_text, response_text};
 
 // How many bytes stand at the front of the buffer, or why nothing was written.
-#[derive(Drop)]
+#[derive(Clone, Copy)]
 pub enum Wrote {
     Done(usize),
     Refused(Refusal),

@@ -17,20 +17,20 @@ mul-requires-2 c κs = let g = c.before.before.before.before.before.before.befor
     (up tt g.1.x, up tt g.0.z)
 
 same-requires : tie.Need-same-requires
-same-requires c κs = (c.before.mul.ensures.limbs, c.mul2.ensures.limbs)
+same-requires c κs = (c.before.mul.ensures.limbs, c.mul-2.ensures.limbs)
 
-mul-requires-3 : tie.Need-mul-requires-3
+mul-requires-3 : tie.Need-mul-requires-then-same
 mul-requires-3 c κs = let g =
     c.before.before.before.before.before.before.before.before.before.before.requires in
     (up tt g.0.y, up tt g.1.z)
 
-mul-requires-4 : tie.Need-mul-requires-4
+mul-requires-4 : tie.Need-mul-requires-then-same-2
 mul-requires-4 c κs = let g =
     c.before.before.before.before.before.before.before.before.before.before.before.requires in
     (up tt g.1.y, up tt g.0.z)
 
-same-requires-2 : tie.Need-same-requires-2
-same-requires-2 c κs = (c.before.mul3.ensures.limbs, c.mul4.ensures.limbs)
+same-requires-2 : tie.Need-same-requires-then-same
+same-requires-2 c κs = (c.before.mul-then-same.ensures.limbs, c.mul-then-same-2.ensures.limbs)
 
 -- the first test, of numbers
 first : (c : tie.After-same)
@@ -39,22 +39,22 @@ first : (c : tie.After-same)
     (num c.before.before.before.before.before.before.before.before.before.args.b.z))
     (mul_f (num c.before.before.before.before.before.before.before.before.before.args.b.x)
     (num c.before.before.before.before.before.before.before.before.before.args.a.z))
-first c = c.same.ensures ∙ ap₂ eqb c.before.before.mul.ensures.is c.before.mul2.ensures.is
+first c = c.same.ensures ∙ ap₂ eqb c.before.before.mul.ensures.is c.before.mul-2.ensures.is
 
-returns : tie.Need-returns
+returns : tie.Need-returns-then-same
 returns c =
     let t = c.before.before.before in
     let a = t.before.before.before.before.before.before.before.before.before.before.args in
-    λ z. equal-1 (flat_of a.a z) (pt_of a.b) _ _ (first t.before) t.if1.true (c.same2.ensures
-    ∙ ap₂ eqb c.before.before.mul3.ensures.is c.before.mul4.ensures.is)
+    λ z. equal-1 (flat_of a.a z) (pt_of a.b) _ _ (first t.before) t.if-same.true (c.same-then-same.ensures
+    ∙ ap₂ eqb c.before.before.mul-then-same.ensures.is c.before.mul-then-same-2.ensures.is)
 
-returns-2 : tie.Need-returns-2
+returns-2 : tie.Need-returns
 returns-2 c =
     let a = c.before.before.before.before.before.before.before.before.before.before.args in
-    λ z. equal-2 (flat_of a.a z) (pt_of a.b) _ (first c.before) c.if1.false
+    λ z. equal-2 (flat_of a.a z) (pt_of a.b) _ (first c.before) c.if-same.false
 
-pub point-equal-spec : {M : Type 1} → statement M
-point-equal-spec =
+pub point_equal_spec : {M : Type 1} → statement M
+point_equal_spec =
     tie.close
     (tie.spec
     mul-requires

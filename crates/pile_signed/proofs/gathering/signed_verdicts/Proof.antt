@@ -1,5 +1,6 @@
 -- `pile_signed::gathering::signed_verdicts` meets its contract. Each place passed holds the verdict on its record.
 use mathlib.Core.Path.{◌≡◌, refl, sym, ap, ◌∙◌}
+use mathlib.Core.Bool.{not}
 use Prim.Native.Nat.{◌-◌, ◌<◌}
 use native.Mathlib.Omega.{arith}
 use Rattle.pile.specs.Pile.{records_in}
@@ -13,50 +14,50 @@ use borrow.Author.Rules.{rules}
 use Rattle.pile_signed.proofs.gathering.signed_verdicts.Statement.{statement}
 use Rattle.pile_signed.proofs.gathering.signed_verdicts.Tie as tie
 
-abbrev invariant-loop : tie.invariant-loop
+abbrev invariant-loop : tie.invariant-loop-k
 invariant-loop pile all verdicts₀ n k₀ verdicts k = Gathering (judged pile (own_answers pile)) (records_in pile) k verdicts
 
-abbrev decreases-loop : tie.decreases-loop
+abbrev decreases-loop : tie.decreases-loop-k
 decreases-loop pile all verdicts₀ n k₀ verdicts k = n - k
 
-loop-holds : tie.Need-loop-init invariant-loop decreases-loop
+loop-holds : tie.Need-loop-k-init invariant-loop decreases-loop
 loop-holds c = gathering-none _ _ refl
 
-checked-at-requires : tie.Need-checked-at-requires invariant-loop decreases-loop
+checked-at-requires : tie.Need-checked_at-c-requires invariant-loop decreases-loop
 checked-at-requires c κs = omega (arith, c.before.before.before.requires.exact)
 
-mul-verdicts : tie.Need-overflow-mul-verdicts invariant-loop decreases-loop
+mul-verdicts : tie.Need-offset_bounds-verdicts-k invariant-loop decreases-loop
 mul-verdicts c = omega (arith, c.before.before.before.before.requires.to)
 
-array-set-from-verdicts : tie.Need-array-set-from-verdicts invariant-loop decreases-loop
+array-set-from-verdicts : tie.Need-bounds-verdicts-k invariant-loop decreases-loop
 array-set-from-verdicts c = omega (arith, c.before.before.before.before.requires.to)
 
 -- what is stored is the verdict on record k
-told : (c : tie.After-checked-at invariant-loop decreases-loop)
+told : (c : tie.After-checked_at-c invariant-loop decreases-loop)
     → let p = c.before.before.before.before.args.pile.now in
-    c.checked-at.result.verdict ≡ judged p (own_answers p) c.before.before.loop.k
+    c.checked_at-c.result.verdict ≡ judged p (own_answers p) c.before.before.loop-k.k
 told c =
     let start = c.before.before.before.before in
     let p = start.args.pile.now in
-    ap (λ (x : Checked). x.verdict) c.checked-at.ensures
+    ap (λ (x : Checked). x.verdict) c.checked_at-c.ensures
     ∙ sym (judged-at p (own_answers p) _ (own-good p start.requires) (omega arith))
 
-returns : tie.Need-returns invariant-loop decreases-loop
+returns : tie.Need-returns-then-not-all-is_valid invariant-loop decreases-loop
 returns c =
     let v = c.before.before in
-    gathered-stop v.before.before.loop.invariant (omega arith) v.before.before.before.before.requires.to (told v)
-    c.before.is-valid.ensures c.if1.true
+    gathered-stop v.before.before.loop-k.invariant (omega arith) v.before.before.before.before.requires.to (told v)
+    c.before.is_valid.ensures (ap not c.if-not-all-is_valid.true)
 
-loop-again : tie.Need-loop-preserved invariant-loop decreases-loop
+loop-again : tie.Need-loop-k-preserved invariant-loop decreases-loop
 loop-again c =
     let v = c.before.before in
-    gathering-next v.before.before.loop.invariant (omega arith) v.before.before.before.before.requires.to (told v)
+    gathering-next v.before.before.loop-k.invariant (omega arith) v.before.before.before.before.requires.to (told v)
 
-returns-2 : tie.Need-returns-2 invariant-loop decreases-loop
-returns-2 c = gathered-all c.before.loop.invariant (omega arith)
+returns-2 : tie.Need-returns invariant-loop decreases-loop
+returns-2 c = gathered-all c.before.loop-k.invariant (omega arith)
 
-pub signed-verdicts-spec : {M : Type 1} → statement M
-signed-verdicts-spec =
+pub signed_verdicts_spec : {M : Type 1} → statement M
+signed_verdicts_spec =
     tie.close
     (tie.spec
     invariant-loop

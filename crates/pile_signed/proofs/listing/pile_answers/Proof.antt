@@ -28,35 +28,35 @@ unfolding when_of
 passed_is b e = rw e
 
 -- where code 15 does not apply
-good_length : (c : tie.Else1) → length_bad c.before.before.before.before.args.pile.now ≡ false
-good_length c = sym c.before.length-bad.ensures ∙ c.if1.false
+good_length : (c : tie.Else-length_bad) → length_bad c.before.before.before.before.args.pile.now ≡ false
+good_length c = sym c.before.length_bad.ensures ∙ c.if-length_bad.false
 
-returns : tie.Need-returns
+returns : tie.Need-returns-then-length_bad
 returns c =
     let i = c.before in
-    let b = sym i.before.length-bad.ensures ∙ i.if1.true in
+    let b = sym i.before.length_bad.ensures ∙ i.if-length_bad.true in
     let n = ap (λ (r : Refusal). r.code) c.refuse.ensures in
     writer-refused _ _ (c.refuse.ensures ∙ refused-is _ b) (λ z. omega (arith, n))
 
-returns-2 : tie.Need-returns-2
+returns-2 : tie.Need-returns-then-out-n
 returns-2 c =
     let i = c.before in
     let start = i.before.before.before.before.before in
     let p = start.args.pile.now in
     writer-short (own_answers p) start.args.out.now (passed_is _ (good_length i.before)) refl
-    c.refuse2.ensures (omega (arith, own-length p, i.if2.true))
+    c.refuse-then-out-n.ensures (omega (arith, own-length p, i.if-out-n.true))
 
-answer-bytes-requires : tie.Need-answer-bytes-requires
+answer-bytes-requires : tie.Need-answer_bytes-bytes-requires
 answer-bytes-requires c κs = whole _ (good_length c.before)
 
-array-share-prefix-bytes : tie.Need-array-share-prefix-bytes
+array-share-prefix-bytes : tie.Need-slice_bounds-bytes-end
 array-share-prefix-bytes c =
     let w = whole _ (good_length c.before.before.before) in omega (arith, w.to)
 
-slice-aggregate-put : tie.Need-slice-aggregate-put
+slice-aggregate-put : tie.Need-slice_bounds-put-end
 slice-aggregate-put c =
     let w = whole _ (good_length c.before.before.before.before) in
-    sym (length-take-le _ _ (omega (arith, w.to, c.before.before.answer-bytes.ensures.0)))
+    sym (length-take-le _ _ (omega (arith, w.to, c.before.before.answer_bytes-bytes.ensures.0)))
 
 put-requires : tie.Need-put-requires
 put-requires c κs =
@@ -64,9 +64,9 @@ put-requires c κs =
     let n = 2 * records_in a.before.before.before.before.before.before.args.pile.now in
     let w = whole _ (good_length a.before.before) in
     omega
-    (arith, length-take-le n a.answer-bytes.result (omega (arith, w.to, a.answer-bytes.ensures.0)))
+    (arith, length-take-le n a.answer_bytes-bytes.result (omega (arith, w.to, a.answer_bytes-bytes.ensures.0)))
 
-returns-3 : tie.Need-returns-3
+returns-3 : tie.Need-returns
 returns-3 c =
     let p = c.before.before in
     let a = p.before.before.before in
@@ -74,11 +74,11 @@ returns-3 c =
     let start = i.before.before.before.before.before in
     let pile = start.args.pile.now in
     writer-done (passed_is _ (good_length i.before)) refl
-    (puts_one (own_answers pile) (2 * records_in pile) (rw a.answer-bytes.ensures.1 at p.put.ensures)
+    (puts_one (own_answers pile) (2 * records_in pile) (rw a.answer_bytes-bytes.ensures.1 at p.put.ensures)
     (zero-add _ ∙ own-length pile) (omega arith))
 
-pub pile-answers-spec : {M : Type 1} → statement M
-pile-answers-spec =
+pub pile_answers_spec : {M : Type 1} → statement M
+pile_answers_spec =
     tie.close
     (tie.spec
     (λ c κs. search rules)

@@ -12,53 +12,53 @@ use borrow.Author.Rules.{rules}
 use Rattle.server_batch.proofs.measuring.put_lengths.Statement.{statement}
 use Rattle.server_batch.proofs.measuring.put_lengths.Tie as tie
 
-abbrev invariant-loop : tie.invariant-loop
+abbrev invariant-loop : tie.invariant-loop-i
 invariant-loop lengths least size marks₀ i₀ marks i =
     (i ≤ length lengths) × (marks ≡ upto (length_in marks₀ lengths least size) i ++ drop i marks₀)
 
-abbrev decreases-loop : tie.decreases-loop
+abbrev decreases-loop : tie.decreases-loop-i
 decreases-loop lengths least size marks₀ i₀ marks i = length lengths - i
 
-loop-holds : tie.Need-loop-init invariant-loop decreases-loop
+loop-holds : tie.Need-loop-i-init invariant-loop decreases-loop
 unfolding upto
 loop-holds c = (omega arith, refl)
 
 -- the marks are as many as they were
-long : (l : tie.At-loop invariant-loop decreases-loop) → length l.loop.marks ≡ length
+long : (l : tie.At-loop-i invariant-loop decreases-loop) → length l.loop-i.marks ≡ length
     l.before.before.before.args.marks.now
-long l = front_length _ _ _ (omega (arith, l.loop.invariant.0, l.before.before.before.requires)) l.loop.invariant.1
+long l = front_length _ _ _ (omega (arith, l.loop-i.invariant.0, l.before.before.before.requires)) l.loop-i.invariant.1
 
-slice-read-length-of : tie.Need-slice-read-length-of invariant-loop decreases-loop
+slice-read-length-of : tie.Need-bounds-marks-i invariant-loop decreases-loop
 slice-read-length-of c =
     let l = c.before.before in
     omega (arith, long l, l.before.before.before.requires)
 
-slice-write-marks : tie.Need-slice-write-marks invariant-loop decreases-loop
+slice-write-marks : tie.Need-bounds-marks-i-in-loop-i invariant-loop decreases-loop
 slice-write-marks c =
     let l = c.before.before.before.before.before in
     omega (arith, long l, l.before.before.before.requires)
 
-loop-again : tie.Need-loop-preserved invariant-loop decreases-loop
+loop-again : tie.Need-loop-i-preserved invariant-loop decreases-loop
 unfolding length_in stay_at
 loop-again c =
     let l = c.before.before.before.before.before in
     let s = l.before.before.before in
-    let i = l.loop.i in
+    let i = l.loop-i.i in
     let below : i < length s.args.marks.now = omega (arith, s.requires) in
-    let mark = front-ahead _ _ i 0 l.loop.invariant.1 in
+    let mark = front-ahead _ _ i 0 l.loop-i.invariant.1 in
     let is =
-    c.length-of.ensures
+    c.length_of.ensures
     ∙ ap₂ (λ (m n : ℕ). cond (stay_test m n s.args.least) s.args.size 0) mark c.before.wide.ensures in
-    (omega arith, front-next _ _ i _ 0 below l.loop.invariant.1 is)
+    (omega arith, front-next _ _ i _ 0 below l.loop-i.invariant.1 is)
 
 returns : tie.Need-returns invariant-loop decreases-loop
 returns c =
     let l = c.before in
-    let all : l.loop.i ≡ length l.before.before.before.args.lengths.now = omega arith in
-    front-whole _ _ l.loop.i _ all l.loop.invariant.1
+    let all : l.loop-i.i ≡ length l.before.before.before.args.lengths.now = omega arith in
+    front-whole _ _ l.loop-i.i _ all l.loop-i.invariant.1
 
-pub put-lengths-spec : {M : Type 1} → statement M
-put-lengths-spec =
+pub put_lengths_spec : {M : Type 1} → statement M
+put_lengths_spec =
     tie.close
     (tie.spec
     invariant-loop

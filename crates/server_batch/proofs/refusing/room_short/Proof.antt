@@ -10,28 +10,28 @@ use borrow.Author.Rules.{rules}
 use Rattle.server_batch.proofs.refusing.room_short.Statement.{statement}
 use Rattle.server_batch.proofs.refusing.room_short.Tie as tie
 
-returns : tie.Need-returns
-returns c = short-packets _ _ _ _ _ _ _ _ c.before.before.requires.0 c.if1.true
+returns : tie.Need-returns-then-packets-n
+returns c = short-packets _ _ _ _ _ _ _ _ c.before.before.requires.0 c.if-packets-n.true
 
 -- how many bytes the rows take
 size : (c : tie.After-bytes) → c.bytes.result ≡ 32 * nodes_of (depth_of c.before.before.before.args.n)
-size c = rw (← c.before.before.depth.ensures.0) c.bytes.ensures
+size c = rw (← c.before.before.depth-d.ensures.0) c.bytes.ensures
 
-returns-2 : tie.Need-returns-2
+returns-2 : tie.Need-returns-then-rows-bytes
 returns-2 c = short-rows _ _ _ _ _ _ _ _ c.before.before.before.before.requires.0
-    (omega (arith, c.if2.true, size c.before))
+    (omega (arith, c.if-rows-bytes.true, size c.before))
 
-returns-3 : tie.Need-returns-3
-returns-3 c = short-out _ _ _ _ _ _ _ _ c.before.before.before.before.before.requires.0 c.if3.true
+returns-3 : tie.Need-returns-then-out-n
+returns-3 c = short-out _ _ _ _ _ _ _ _ c.before.before.before.before.before.requires.0 c.if-out-n.true
 
-returns-4 : tie.Need-returns-4
-returns-4 c = short_lengths _ _ _ _ _ _ _ _ c.before.before.before.before.before.before.requires.0 c.if4.true
+returns-4 : tie.Need-returns-then-lengths-n
+returns-4 c = short_lengths _ _ _ _ _ _ _ _ c.before.before.before.before.before.before.requires.0 c.if-lengths-n.true
 
-returns-5 : tie.Need-returns-5
+returns-5 : tie.Need-returns-then-room-c
 returns-5 c = short-cert _ _ _ _ _ _ _ _ c.before.before.before.before.before.before.before.requires.0
-    c.if5.true
+    c.if-room-c.true
 
-returns-6 : tie.Need-returns-6
+returns-6 : tie.Need-returns
 returns-6 c =
     let i5 = c.before in
     let i4 = i5.before in
@@ -39,13 +39,13 @@ returns-6 c =
     let i2 = i3.before in
     let i1 = i2.before.before in
     let d = i1.before in
-    short-answer _ _ _ _ _ _ _ _ d.before.requires.0 (omega (arith, i1.if1.false))
-    (omega (arith, i2.if2.false, size i2.before))
-    (omega (arith, i3.if3.false)) (omega (arith, i4.if4.false)) (omega (arith, i5.if5.false))
-    (c.wide.ensures ∙ d.depth.ensures.0)
+    short-answer _ _ _ _ _ _ _ _ d.before.requires.0 (omega (arith, i1.if-packets-n.false))
+    (omega (arith, i2.if-rows-bytes.false, size i2.before))
+    (omega (arith, i3.if-out-n.false)) (omega (arith, i4.if-lengths-n.false)) (omega (arith, i5.if-room-c.false))
+    (c.wide.ensures ∙ d.depth-d.ensures.0)
 
-pub room-short-spec : {M : Type 1} → statement M
-room-short-spec =
+pub room_short_spec : {M : Type 1} → statement M
+room_short_spec =
     tie.close
     (tie.spec
     (λ c κs. search rules)

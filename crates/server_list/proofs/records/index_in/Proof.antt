@@ -12,52 +12,52 @@ use borrow.Author.Rules.{rules}
 use Rattle.server_list.proofs.records.index_in.Statement.{statement}
 use Rattle.server_list.proofs.records.index_in.Tie as tie
 
-abbrev invariant-loop : tie.invariant-loop
+abbrev invariant-loop : tie.invariant-loop-k
 invariant-loop list srv k₀ k = (k ≤ server_count list) × (least (serves_at srv list) k ≡ k)
 
-abbrev decreases-loop : tie.decreases-loop
+abbrev decreases-loop : tie.decreases-loop-k
 decreases-loop list srv k₀ k = server_count list - k
 
 -- what a turn's test says, of the record that it took
 tested : (c : tie.After-alike invariant-loop decreases-loop) → let at-loop = c.before.before.before.before in
     let a = at-loop.before.before.before.args in
-    c.alike.result ≡ serves_at a.srv.now a.list.now at-loop.loop.k
+    c.alike.result ≡ serves_at a.srv.now a.list.now at-loop.loop-k.k
 unfolding serves
-tested c = rw (← c.before.before.record_of.ensures.0) c.alike.ensures
+tested c = rw (← c.before.before.record_of-one.ensures.0) c.alike.ensures
 
-loop-holds : tie.Need-loop-init invariant-loop decreases-loop
+loop-holds : tie.Need-loop-k-init invariant-loop decreases-loop
 loop-holds c = (omega arith, least_zero _)
 
-part-alike-end : tie.Need-slice-bounds-alike-end invariant-loop decreases-loop
+part-alike-end : tie.Need-slice_bounds-alike-end invariant-loop decreases-loop
 part-alike-end c =
     let at-loop = c.before.before in
     let list = at-loop.before.before.before.args.list.now in
-    omega (arith, ap length c.record_of.ensures.0 ∙ server-long list at-loop.loop.k (omega arith))
+    omega (arith, ap length c.record_of-one.ensures.0 ∙ server-long list at-loop.loop-k.k (omega arith))
 
 alike-requires : tie.Need-alike-requires invariant-loop decreases-loop
 alike-requires c κs =
     let at-loop = c.before.before.before in
     let list = at-loop.before.before.before.args.list.now in
-    let l = ap length c.before.record_of.ensures.0 ∙ server-long list at-loop.loop.k (omega arith) in
+    let l = ap length c.before.record_of-one.ensures.0 ∙ server-long list at-loop.loop-k.k (omega arith) in
     simp (length-take, length-drop) (omega arith)
 
-returns : tie.Need-returns invariant-loop decreases-loop
+returns : tie.Need-returns-then-alike invariant-loop decreases-loop
 unfolding first_in
 returns c =
-    let l = c.before.before.before.before.before.loop in
-    least-hit _ l.k _ _ l.invariant.1 (tested c.before) c.if1.true (omega arith)
+    let l = c.before.before.before.before.before.loop-k in
+    least-hit _ l.k _ _ l.invariant.1 (tested c.before) c.if-alike.true (omega arith)
 
-loop-again : tie.Need-loop-preserved invariant-loop decreases-loop
+loop-again : tie.Need-loop-k-preserved invariant-loop decreases-loop
 loop-again c =
-    let l = c.before.before.before.before.before.loop in
-    (omega arith, least-miss _ l.k _ l.invariant.1 (tested c.before) c.if1.false)
+    let l = c.before.before.before.before.before.loop-k in
+    (omega arith, least-miss _ l.k _ l.invariant.1 (tested c.before) c.if-alike.false)
 
-returns-2 : tie.Need-returns-2 invariant-loop decreases-loop
+returns-2 : tie.Need-returns invariant-loop decreases-loop
 unfolding first_in
-returns-2 c = let l = c.before.loop in least-end _ l.k _ l.invariant.1 l.invariant.0 (omega arith)
+returns-2 c = let l = c.before.loop-k in least-end _ l.k _ l.invariant.1 l.invariant.0 (omega arith)
 
-pub index-in-spec : {M : Type 1} → statement M
-index-in-spec =
+pub index_in_spec : {M : Type 1} → statement M
+index_in_spec =
     tie.close
     (tie.spec
     invariant-loop

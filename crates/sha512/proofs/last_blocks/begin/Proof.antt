@@ -11,7 +11,7 @@ long c = ap length c.requires.0
 put-requires : tie.Need-put-requires
 put-requires c κs = omega (arith, long c.before.before.before)
 
-slice-write-b : tie.Need-slice-write-b
+slice-write-b : tie.Need-bounds-b-k
 slice-write-b c = omega (arith, long c.before.before.before.before.before.before)
 
 returns : tie.Need-returns
@@ -23,8 +23,8 @@ returns c =
     (at-put.put.ensures ∙ ap (λ (l : List ℕ). pasted l 0 t) start.requires.0)
     ∙ begun-is 127 0x80 t (omega (arith, start.requires.1))
 
-pub begin-spec : {M : Type 1} → statement M
-begin-spec =
+pub begin_spec : {M : Type 1} → statement M
+begin_spec =
     tie.close
     (tie.spec
     put-requires

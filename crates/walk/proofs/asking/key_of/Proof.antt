@@ -11,7 +11,7 @@ use Rattle.walk.proofs.asking.key_of.Tie as tie
 long : (s : tie.Start) → length s.args.w.keys ≡ 256
 long s = search rules
 
-mul-copy32 : tie.Need-overflow-mul-copy32
+mul-copy32 : tie.Need-overflow_mul-k
 mul-copy32 c =
     let s = c.before.before.before in
     omega (arith, server-below s.args.w s.requires, s.requires.to)
@@ -25,8 +25,8 @@ returns : tie.Need-returns
 unfolding key_of
 returns c = c.copy32.ensures
 
-pub key-of-spec : {M : Type 1} → statement M
-key-of-spec =
+pub key_of_spec : {M : Type 1} → statement M
+key_of_spec =
     tie.close
     (tie.spec
     (λ c. search rules)

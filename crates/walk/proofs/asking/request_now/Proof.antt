@@ -15,11 +15,11 @@ returns c =
     let k = c.before.before.before.before in
     let s = k.before in
     let w = s.args.w in
-    request-written w (replicate 1036 0) (long s) (omega arith) k.key_of.ensures c.before.write-request.ensures
+    request-written w (replicate 1036 0) (long s) (omega arith) k.key_of-key.ensures c.before.write_request.ensures
     ∙ request-whole w (long s)
 
-pub request-now-spec : {M : Type 1} → statement M
-request-now-spec =
+pub request_now_spec : {M : Type 1} → statement M
+request_now_spec =
     tie.close
     (tie.spec
     (λ c κs. search rules)

@@ -6,32 +6,32 @@ use Rattle.wire_message.proofs.values.value_of.Statement.{statement}
 use Rattle.wire_message.proofs.values.value_of.Tie as tie
 
 -- value k, at the place where k is known to be a tag's: its edges rise and stand in the value section
-inside : (c : tie.Then1) → Inside c.before.before.before.before.args.m.now c.before.index_of.result
+inside : (c : tie.Then-k-n) → Inside c.before.before.before.before.args.m.now c.before.index_of-k.result
 inside c = value_in _ c.before.before.before.before.requires _ (omega arith)
 
-add_a : tie.Need-overflow-add-a
+add_a : tie.Need-overflow_add-a
 add_a c = omega (arith, inside c.before)
 
-add-e : tie.Need-overflow-add-e
+add-e : tie.Need-overflow_add-e
 add-e c = omega (arith, inside c.before.before)
 
-sub-result : tie.Need-overflow-sub-result
+sub-result : tie.Need-slice_bounds-result-count
 sub-result c = omega (arith, inside c.before.before)
 
-part-result-start : tie.Need-slice-bounds-result-start
+part-result-start : tie.Need-slice_bounds-result-start
 part-result-start c = omega (arith, inside c.before.before)
 
-part-result-end : tie.Need-slice-bounds-result-end
+part-result-end : tie.Need-slice_bounds-result-end
 part-result-end c = omega (arith, inside c.before.before)
 
-returns : tie.Need-returns
+returns : tie.Need-returns-then-k-n
 returns c = search (value_found, rules)
 
-returns-2 : tie.Need-returns-2
+returns-2 : tie.Need-returns-else-k-n
 returns-2 c = search (value-absent, rules)
 
-pub value-of-spec : {M : Type 1} → statement M
-value-of-spec =
+pub value_of_spec : {M : Type 1} → statement M
+value_of_spec =
     tie.close
     (tie.spec
     (λ c κs. search rules)

@@ -17,29 +17,28 @@ use Rattle.wire_packet.proofs.shape.cert_code.Statement.{statement}
 use Rattle.wire_packet.proofs.shape.cert_code.Tie as tie
 
 -- what the message check ensures, of the value
-told : (c : tie.After-message-code) → c.message-code.result
+told : (c : tie.After-message_code-r) → c.message_code-r.result
     ≡ message_code (cert c.before.before.before.before.args.m.now) cert_table
 unfolding upto rule_in rows_in
 told c =
-    c.message-code.ensures ∙ ap (λ (s : List ℕ). message_code s cert_table) c.before.before.value_of_lem.ensures
+    c.message_code-r.ensures ∙ ap (λ (s : List ℕ). message_code s cert_table) c.before.value_of.ensures
 
 shifted-requires : tie.Need-shifted-requires
 shifted-requires c κs =
     let start = c.before.before.before.before.before in
     let fits = value-fits start.args.m.now start.requires CERT cert_table (told c.before) in
-    omega (arith, fits c.value-start.ensures)
+    omega (arith, fits c.value_start.ensures)
 
 returns : tie.Need-returns
 returns c =
     c.shifted.ensures
-    ∙ ap₂ (λ (s : ℕ) (r : Refusal). shifted s r) c.before.value-start.ensures (told c.before.before)
+    ∙ ap₂ (λ (s : ℕ) (r : Refusal). shifted s r) c.before.value_start.ensures (told c.before.before)
 
-pub cert-code-spec : {M : Type 1} → statement M
-cert-code-spec =
+pub cert_code_spec : {M : Type 1} → statement M
+cert_code_spec =
     tie.close
     (tie.spec
     (λ c κs. search rules)
-    (λ c. search rules)
     (λ c κs. search rules)
     (λ c κs. search rules)
     shifted-requires

@@ -16,11 +16,11 @@ use Rattle.wire_packet.proofs.shape.dele_code.Statement.{statement}
 use Rattle.wire_packet.proofs.shape.dele_code.Tie as tie
 
 -- what the message check ensures, of the value
-told : (c : tie.After-message-code) → c.message-code.result
+told : (c : tie.After-message_code-r) → c.message_code-r.result
     ≡ message_code (dele c.before.before.before.before.args.m.now) dele_table
 unfolding upto rule_in rows_in
 told c =
-    c.message-code.ensures ∙ ap (λ (s : List ℕ). message_code s dele_table) c.before.before.dele-of.ensures
+    c.message_code-r.ensures ∙ ap (λ (s : List ℕ). message_code s dele_table) c.before.before.dele_of.ensures
 
 shifted-requires : tie.Need-shifted-requires
 shifted-requires c κs =
@@ -28,20 +28,19 @@ shifted-requires c κs =
     omega (
       arith,
       dele-fits start.args.m.now start.requires.0 start.requires.1 (told c.before)
-          c.dele-start.ensures,
+          c.dele_start.ensures,
     )
 
 returns : tie.Need-returns
 returns c =
     c.shifted.ensures
-    ∙ ap₂ (λ (s : ℕ) (r : Refusal). shifted s r) c.before.dele-start.ensures (told c.before.before)
+    ∙ ap₂ (λ (s : ℕ) (r : Refusal). shifted s r) c.before.dele_start.ensures (told c.before.before)
 
-pub dele-code-spec : {M : Type 1} → statement M
-dele-code-spec =
+pub dele_code_spec : {M : Type 1} → statement M
+dele_code_spec =
     tie.close
     (tie.spec
     (λ c κs. search rules)
-    (λ c. search rules)
     (λ c κs. search rules)
     (λ c κs. search rules)
     shifted-requires

@@ -1,0 +1,11 @@
+-- `capi::listing::tb_write_servers` meets its contract.
+use mathlib.Core.Path.{ap, ◌∙◌}
+use Rattle.c_lists.specs.Listing.{tb_listing}
+use Rattle.capi.proofs.Numbers.{listing-code}
+use borrow.Author.Rules.{rules}
+use Rattle.capi.proofs.listing.tb_write_servers.Goals as goal
+
+pub returns : goal.returns
+returns c =
+    let called = c.write_servers in
+    let is = c.listing_told.ensures in record { value = is ∙ ap tb_listing called.ensures.value; out_after = rw (is, listing-code called.result) called.ensures.out_after }

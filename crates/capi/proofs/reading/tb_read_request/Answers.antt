@@ -1,0 +1,9 @@
+-- `capi::reading::tb_read_request` meets its contract.
+use mathlib.Core.Path.{ap, ◌∙◌}
+use Rattle.c_packets.specs.Reading.{tb_request}
+use borrow.Author.Rules.{rules}
+use Rattle.capi.proofs.reading.tb_read_request.Goals as goal
+
+pub returns : goal.returns
+returns c =
+    c.request_told.ensures ∙ ap tb_request c.read_request.ensures

@@ -1,0 +1,9 @@
+-- `console::files::read_full` meets its contract: what was read lies within the buffer.
+use Rattle.std.proofs.Common.{◌≤◌, ◌-◌, length}
+use Rattle.console.proofs.files.read_full.Given as goal
+
+abbrev pub invariant-loop-n : goal.invariant-loop-n
+invariant-loop-n g l = l.n ≤ length l.buf
+
+abbrev pub decreases-loop-n : goal.decreases-loop-n
+decreases-loop-n g l = length l.buf - l.n

@@ -1,0 +1,10 @@
+-- `ed25519_curve::finishing::without_t` meets its contract.
+use borrow.Author.Rules.{rules}
+use Rattle.ed25519_curve.proofs.finishing.without_t.Goals as goal
+
+pub returns : goal.returns
+returns c =
+    let z = c.mul-z.ensures in
+    let y = c.mul-y.ensures in
+    let x = c.mul-x.ensures in
+    (rw (x.is, y.is, z.is), record { x = x.limbs; y = y.limbs; z = z.limbs })

@@ -1,0 +1,9 @@
+-- `ed25519_curve::rows::opposite` meets its contract.
+use mathlib.Core.Path.{refl}
+use borrow.Author.Rules.{rules}
+use Rattle.ed25519_curve.proofs.Joining.{opposed}
+use Rattle.ed25519_curve.proofs.rows.opposite.Goals as goal
+
+pub returns : goal.returns
+returns c =
+    opposed _ _ refl refl refl c.minus-scaled.ensures.0 c.minus-scaled.ensures.1

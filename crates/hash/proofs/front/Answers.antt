@@ -1,0 +1,6 @@
+-- `hash::front` meets its contract.
+use borrow.Author.Rules.{rules}
+use Rattle.hash.proofs.front.Goals as goal
+
+pub returns : goal.returns
+returns c = c.copy32.ensures

@@ -1,0 +1,16 @@
+use borrow.Author.Rules.{rules}
+use native.Mathlib.Omega.{arith}
+use Prim.Native.Nat.{◌-◌}
+use mathlib.Core.Path.{◌≡◌, refl, sym, ◌∙◌}
+use lib.ListN.{length, drop}
+use Rattle.json_strings.specs.Text.{content_at, same_list}
+use Rattle.json_strings.proofs.Content.{content-close, content-ill, content-falls, name-more, name-differs, name-longer}
+use Rattle.json_strings.proofs.Content.{name-end}
+use Rattle.json_strings.proofs.strings.holds_rest.Given as goal
+
+abbrev pub invariant-loop-c : goal.invariant-loop-c
+invariant-loop-c l =
+    same_list (content_at l.s l.k) (drop l.i l.w) ≡ same_list (content_at l.s l.at) (drop l.from l.w)
+
+abbrev pub decreases-loop-c : goal.decreases-loop-c
+decreases-loop-c l = length l.s - l.k

@@ -1,0 +1,24 @@
+use borrow.Author.Rules.{rules}
+use borrow.Author.Tests.{not-false}
+use native.Mathlib.Omega.{arith}
+use Prim.Native.Nat.{◌-◌}
+use mathlib.Core.Path.{◌≡◌, refl, ◌∙◌}
+use lib.ListN.{length}
+use Rattle.json_tokens.specs.Scan.{past_while}
+use Rattle.json_strings.specs.Text.{unescaped}
+use Rattle.json_tokens.proofs.Counted.{while-over}
+use Rattle.json_strings.proofs.unescaped.in_stretches.Goals as goal
+
+pub loop-k-init : goal.loop-k-init
+loop-k-init c = refl
+
+pub returns-then-not-stretch : goal.returns-then-not-stretch
+returns-then-not-stretch c = c.singly-then-not-stretch.ensures ∙ c.loop-k.invariant
+
+pub loop-k-preserved : goal.loop-k-preserved
+loop-k-preserved c =
+    while-over unescaped _ _ 64 (omega arith) (c.stretch.ensures c.if-not-stretch.false)
+    ∙ c.loop-k.invariant
+
+pub returns : goal.returns
+returns c = c.singly-2.ensures ∙ c.loop-k.invariant

@@ -1,0 +1,7 @@
+use Rattle.json_strings.specs.Sizes.{is_four}
+use borrow.Author.Rules.{rules}
+use Rattle.json_strings.proofs.wides.is_four.Goals as goal
+
+pub returns : goal.returns
+unfolding is_four
+returns c = cc

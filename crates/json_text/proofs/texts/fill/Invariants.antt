@@ -1,0 +1,17 @@
+use borrow.Author.Rules.{rules}
+use Prim.Native.Nat.{◌-◌}
+use lib.ListN.{length}
+use Rattle.laws.proofs.Filled.{filled-length}
+use Rattle.json_strings.specs.Text.{content_at}
+use Rattle.json_text.specs.Octets.{text_of, plain}
+use Rattle.json_text.specs.Facts.{Reads}
+use Rattle.json_text.proofs.Fills.{Filling, filling-first, filling-fits, filling-next, filling-end}
+use Rattle.json_text.proofs.Fills.{filling-never}
+use Rattle.json_text.proofs.texts.fill.Given as goal
+
+abbrev pub invariant-loop-c : goal.invariant-loop-c
+invariant-loop-c l =
+    Filling (plain (text_of (content_at l.s l.at))) l.s l.k l.initial.out l.n l.out
+
+abbrev pub decreases-loop-c : goal.decreases-loop-c
+decreases-loop-c l = length l.s - l.k

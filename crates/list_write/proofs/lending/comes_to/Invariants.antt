@@ -1,0 +1,16 @@
+-- `list_write::lending::comes_to` meets its contract: the lengths from i on are to come to what is left.
+use borrow.Author.Rules.{rules}
+use Prim.Native.Nat.{◌-◌}
+use mathlib.Core.Path.{◌≡◌, refl, ◌∙◌}
+use lib.Dec.{eqb}
+use lib.ListN.{length, drop}
+use Rattle.list_write.specs.Lent.{total}
+use Rattle.list_write.proofs.Lends.{total-over, total-turn, total-end}
+use Rattle.list_write.proofs.lending.comes_to.Given as goal
+
+abbrev pub invariant-loop-i : goal.invariant-loop-i
+invariant-loop-i l =
+    eqb (total (drop l.i l.lengths)) l.left ≡ eqb (total l.lengths) l.n
+
+abbrev pub decreases-loop-i : goal.decreases-loop-i
+decreases-loop-i l = length l.lengths - l.i

@@ -1,0 +1,30 @@
+-- `report_text::cutting::cut_text` meets its contract.
+use Rattle.report_text.proofs.Lengths.{few-fit, pile-front, front-count, front-inside, text-cut, text-refused}
+use Rattle.report_text.proofs.cutting.cut_text.Goals as goal
+
+pub overflow_mul-pile : goal.overflow_mul-pile
+overflow_mul-pile c = few-fit c.args.text.now c.read_report.ensures.value c.in-Records.is
+
+pub slice_bounds-pile-end : goal.slice_bounds-pile-end
+slice_bounds-pile-end c =
+    let r = c.read_report.ensures in front-inside c.args.text.now r.value c.in-Records.is _ r.out_after
+
+pub slice_bounds-cut_pile-end : goal.slice_bounds-cut_pile-end
+slice_bounds-cut_pile-end c =
+    let r = c.read_report.ensures in front-count c.args.text.now r.value c.in-Records.is _ r.out_after
+
+pub returns-in-Records : goal.returns-in-Records
+returns-in-Records c =
+    let a = c.args in
+    let r = c.read_report.ensures in
+    let h = c.cut_pile.ensures in
+    let w =
+    text-cut a.text.now r.value c.in-Records.is a.answers.now a.out.now
+    (pile-front a.text.now r.value c.in-Records.is _ r.out_after) (h.cuts_text, h.out_after) in
+    record { forwards = w.0; out_after = w.1 }
+
+pub returns-in-Refused : goal.returns-in-Refused
+returns-in-Refused c =
+    let a = c.args in
+    let w = text-refused a.text.now a.answers.now a.out.now c.read_report.ensures.value c.in-Refused.is in
+    record { forwards = w.0; out_after = w.1 }

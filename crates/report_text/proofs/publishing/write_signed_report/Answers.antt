@@ -1,0 +1,27 @@
+-- `report_text::publishing::write_signed_report` meets its contract.
+use borrow.Author.Rules.{rules}
+use mathlib.Core.Path.{refl}
+use Rattle.report_write.proofs.Piles.{pair-writable, publishes-by, pair_left, refused-left}
+use Rattle.pile_signed.specs.OwnAnswers.{own_answers}
+use Rattle.report_text.proofs.publishing.write_signed_report.Goals as goal
+
+pub put_report-requires : goal.put_report-requires
+put_report-requires c =
+    let a = c.args in
+    pair-writable a.pile.now (own_answers a.pile.now)
+    c.check_signed_report.ensures c.in-Pair.is
+
+pub returns-in-Pair : goal.returns-in-Pair
+returns-in-Pair c =
+    let a = c.args in
+    let h = c.check_signed_report.ensures in
+    let p = c.put_report.ensures in record {
+      publishes = publishes-by a.pile.now (own_answers a.pile.now) h _
+          c.in-Pair.is p.value;
+      out_after = pair_left a.pile.now a.out.now p.value p.out_after;
+    }
+
+pub returns-in-Refused : goal.returns-in-Refused
+returns-in-Refused c =
+    let a = c.args in
+    let h = c.check_signed_report.ensures in record { publishes = publishes-by a.pile.now (own_answers a.pile.now) h _ c.in-Refused.is refl; out_after = refused-left c.in-Refused.why a.out.now }

@@ -1,0 +1,23 @@
+-- `server_batch::fitting::enough_with` meets its contract: its tests are the definition's.
+use native.Mathlib.Omega.{arith}
+use Rattle.server_batch.proofs.Fits.{enough-none, enough-some}
+use Rattle.server_batch.proofs.Picked.{many-of}
+use borrow.Author.Rules.{rules}
+use Rattle.server_batch.proofs.fitting.enough_with.Goals as goal
+
+-- the packets that are counted are at least as long as an answer with d siblings
+
+pub returns-then-k-eq0 : goal.returns-then-k-eq0
+returns-then-k-eq0 c =
+    let n = c.answer_length.ensures in
+    enough-none _ _ _ _ (rw n at c.count_long-k.ensures) c.if-k-eq0.true
+
+pub depth-requires : goal.depth-requires
+depth-requires c =
+    let few = many-of _ _ c.count_long-k.ensures in
+    (omega arith, omega (arith, few, c.requires.0))
+
+pub returns : goal.returns
+returns c =
+    let n = c.answer_length.ensures in
+    enough-some _ _ _ _ (rw n at c.count_long-k.ensures) c.depth.ensures.0

@@ -1,0 +1,33 @@
+-- `wire_request::texts::delegation_text` meets its contract.
+use mathlib.Core.Path.{ap, ◌∙◌}
+use mathlib.Core.List.{List, ◌++◌}
+use Prim.Native.Nat.{ℕ}
+use Rattle.wire_packet.specs.Response.{dele}
+use Rattle.wire_packet.proofs.ResponseCodes.{signed-body}
+use Rattle.wire_request.specs.Texts.{delegation_context, delegation_text}
+use Rattle.wire_request.proofs.Answered.{writer-refused, writer-handed}
+use borrow.Author.Rules.{rules}
+use Rattle.wire_request.proofs.texts.delegation_text.Goals as goal
+
+pub returns-then-c-ne0 : goal.returns-then-c-ne0
+returns-then-c-ne0 c =
+    let w =
+    writer-refused (delegation_text c.args.p.now) c.args.out.now c.signed_code-c.ensures c.if-c-ne0.true in
+    record { value = w.0; out_after = w.1 }
+
+pub body_of-requires : goal.body_of-requires
+body_of-requires c = (signed-body _ _ c.signed_code-c.ensures c.if-c-ne0.false).0
+
+pub dele_of-requires : goal.dele_of-requires
+dele_of-requires c =
+    let s = (signed-body _ _ c.signed_code-c.ensures c.if-c-ne0.false).1 in
+    rw c.body_of.ensures (s.root-frame, s.cert-frame)
+
+pub returns : goal.returns
+returns c =
+    let value-is = c.dele_of.ensures ∙ ap dele c.body_of.ensures in
+    let h = c.write_text.ensures in
+    let w =
+    writer-handed c.args.out.now c.signed_code-c.ensures c.if-c-ne0.false
+    (ap (λ (v : List ℕ). delegation_context ++ v) value-is) (h.value, h.out_after) in
+    record { value = w.0; out_after = w.1 }

@@ -1,0 +1,33 @@
+-- `wire_request::texts::response_text` meets its contract.
+use mathlib.Core.Path.{ap, ◌∙◌}
+use mathlib.Core.List.{List, ◌++◌}
+use Prim.Native.Nat.{ℕ}
+use Rattle.wire_packet.specs.Response.{srep}
+use Rattle.wire_packet.proofs.ResponseCodes.{signed-body}
+use Rattle.wire_request.specs.Texts.{response_context, response_text}
+use Rattle.wire_request.proofs.Answered.{writer-refused, writer-handed}
+use borrow.Author.Rules.{rules}
+use Rattle.wire_request.proofs.texts.response_text.Goals as goal
+
+pub returns-then-c-ne0 : goal.returns-then-c-ne0
+returns-then-c-ne0 c =
+    let w =
+    writer-refused (response_text c.args.p.now) c.args.out.now c.signed_code-c.ensures c.if-c-ne0.true in
+    record { value = w.0; out_after = w.1 }
+
+pub body_of-requires : goal.body_of-requires
+body_of-requires c = (signed-body _ _ c.signed_code-c.ensures c.if-c-ne0.false).0
+
+pub value_of-requires : goal.value_of-requires
+value_of-requires c =
+    let s = (signed-body _ _ c.signed_code-c.ensures c.if-c-ne0.false).1 in
+    rw c.body_of.ensures s.root-frame
+
+pub returns : goal.returns
+returns c =
+    let value-is = c.value_of.ensures ∙ ap srep c.body_of.ensures in
+    let h = c.write_text.ensures in
+    let w =
+    writer-handed c.args.out.now c.signed_code-c.ensures c.if-c-ne0.false
+    (ap (λ (v : List ℕ). response_context ++ v) value-is) (h.value, h.out_after) in
+    record { value = w.0; out_after = w.1 }
