@@ -1,51 +1,33 @@
 # shellcheck shell=bash
 # How far a proof has come, in words. It is sourced by tools/kit.sh.
 
-# The crates that rt proves for these ones, in its order, a line each with tabs between: its name;
-# the seconds that it takes, as tools/seconds.txt has them; those of the batch that it is proved in,
-# which is its longest crate's; and those of all later batches. rt proves crates of one level, which
-# need nothing of each other, so many at a time.
+# The crates that are proved for these ones, each after those that it needs, a line each with tabs
+# between: its name; the seconds that it takes, as tools/seconds.txt has them; and those of all that
+# come after it. They are proved one after the other.
 planned() { # NAME...
-    local jobs
-    jobs=${RT_JOBS:-$(nproc 2>/dev/null || echo 1)}
-    [ -n "${RT_JOBS:-}" ] || [ "$jobs" -le 4 ] || jobs=4
-    WANTED=$* JOBS=$jobs awk '
-        function visit(name,    used, count, at, above) {
-            if (name in level) return
-            level[name] = 0
+    WANTED=$* awk '
+        function visit(name,    used, count, at) {
+            if (name in seen) return
+            seen[name] = 1
             count = split(uses[name], used, " ")
-            for (at = 1; at <= count; at++) if (used[at] in uses) {
-                visit(used[at])
-                above = level[used[at]] + 1
-                if (above > level[name]) level[name] = above
-            }
-            if (level[name] > highest) highest = level[name]
+            for (at = 1; at <= count; at++) if (used[at] in uses) visit(used[at])
             found[++crates] = name
         }
-        function longer(batch, name) { if (takes[name] > most[batch]) most[batch] = takes[name] }
         { sub(/#.*/, "") }
         FILENAME ~ /seconds.txt$/ { if (NF == 2) kept[$1] = $2; next }
-        index($0, ":") { name = $0; sub(/[ \t]*:.*/, "", name); sub(/^[^:]*:/, ""); uses[name] = $0 }
+        index($0, ":") { split(substr($0, 1, index($0, ":") - 1), before, " "); sub(/^[^:]*:/, ""); uses[before[1]] = $0 }
         END {
             count = split(ENVIRON["WANTED"], wanted, " ")
             for (at = 1; at <= count; at++) visit(wanted[at])
-            for (step = 0; step <= highest; step++) {
-                running = ENVIRON["JOBS"]
-                for (at = 1; at <= crates; at++) if (level[found[at]] == step) {
-                    if (running >= ENVIRON["JOBS"]) { batches++; running = 0 }
-                    running++
-                    row[++rows] = found[at]
-                    of[rows] = batches
-                    takes[found[at]] = found[at] in kept ? kept[found[at]] : 20
-                    longer(batches, found[at])
-                }
+            for (at = crates; at > 0; at--) {
+                takes[at] = found[at] in kept ? kept[found[at]] : 20
+                after[at] = after[at + 1] + takes[at + 1]
             }
-            for (at = batches; at > 0; at--) after[at] = after[at + 1] + most[at + 1]
-            for (at = 1; at <= rows; at++) printf "%s\t%d\t%d\t%d\n", row[at], takes[row[at]], most[of[at]], after[of[at]]
+            for (at = 1; at <= crates; at++) printf "%s\t%d\t%d\n", found[at], takes[at], after[at]
         }' tools/seconds.txt crates.txt
 }
 
-# How long is left, in words: of what is foreseen for this batch, what it has taken so far, and of
+# How long is left, in words: of what is foreseen for this crate, what it has taken so far, and of
 # the rest.
 left() { # HERE SO-FAR REST
     local seconds=$(($1 - $2 + $3)) minutes
@@ -59,18 +41,17 @@ left() { # HERE SO-FAR REST
     fi
 }
 
-# Reads what rt says while it proves these crates, and tells of each how many are proved by then and
-# how long the rest may take; and the same again where nothing was told for a while. The kept
-# seconds are another machine's: those that were measured so far scale them. A crate that was proved
-# before is counted, and not told of.
+# Reads what is said while these crates are proved, and tells of each how many are proved by then
+# and how long the rest may take; and the same again where nothing was told for a while. The kept
+# seconds are another machine's: those that were measured so far scale them. A crate that was
+# proved before is counted, and not told of.
 tell_progress() { # NAME...
     local line part='' name took now=$SECONDS since=$SECONDS told=$SECONDS next=0 count=0 due=0 measured=0
-    local -a names batch later
+    local -a names later
     local -A takes seen=()
-    while IFS=$'\t' read -r name took line part; do
-        names+=("$name") takes[$name]=$took batch+=("$line") later+=("$part")
+    while IFS=$'\t' read -r name took line; do
+        names+=("$name") takes[$name]=$took later+=("$line")
     done < <(planned "$@")
-    part=''
     while :; do
         if IFS= read -r -t "${TRAWLBEACON_PULSE:-20}" line; then
             line=$part$line part=''
@@ -97,7 +78,8 @@ tell_progress() { # NAME...
 
 # Of what tell_progress has counted.
 progress() { # WHAT
-    local here=${batch[next]-0} rest=${later[next]-0}
+    local here=0 rest=${later[next]-0}
+    [ "$next" -ge "${#names[@]}" ] || here=${takes[${names[next]}]}
     if [ "$due" -ge 10 ]; then here=$((here * measured / due)) rest=$((rest * measured / due)); fi
     if [ "$count" -lt "${#names[@]}" ]; then
         tell "$1 $count of ${#names[@]} crates, $(left "$here" $((now - since)) "$rest")"

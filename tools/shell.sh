@@ -105,7 +105,7 @@ put_whole() { # FILE PLACE
     return 1
 }
 
-# Two runs of rt in one clone spoil each other's target/, so that the second waits for the first.
+# Two runs in one clone would build the same twice, so that the second waits for the first.
 # The lock lasts as long as the script that took it, and those that it runs know that it has it.
 # Where there is no flock nobody waits.
 take_lock() {

@@ -3,12 +3,12 @@
 
 # The kit's linker is one program for every kind of file, and goes by its name.
 wasm_link() { # OUT WORDS...
-    [ -e "$work/wasm-ld" ] || ln -s "$own/toolchain/bin/ld.lld" "$work/wasm-ld"
+    [ -e "$work/wasm-ld" ] || ln -s "$kit/toolchain/bin/ld.lld" "$work/wasm-ld"
     "$work/wasm-ld" --no-entry --stack-first -z stack-size=262144 --strip-all --export=__heap_base "${@:2}" -o "$1"
 }
 
 wasm_object() { # OUT WORDS...
-    "$own/toolchain/bin/clang" --target=wasm32-unknown-unknown -mbulk-memory -O3 -ffreestanding "${@:2}" -o "$1"
+    "$kit/toolchain/bin/clang" --target=wasm32-unknown-unknown -mbulk-memory -O3 -ffreestanding "${@:2}" -o "$1"
 }
 
 # The product of 128 bits, for which the compiler asks: the library's products of two words become
@@ -24,11 +24,13 @@ exported_names() {
 
 # Compiles the module for wasm32 and links it: every function of the header, the memory, where the
 # caller's part of it begins, and the top of the stack. It imports nothing. The stack is the first
-# of memory, so that what would run past its end stops, and touches nothing.
+# of memory, so that what would run past its end stops, and touches nothing. The instructions are
+# selected the fast way: by the other LLVM 22.1.8 makes a module that no engine takes.
 wasm_library() { # OUT
     local name words=(--export=__stack_pointer)
     portable_module
-    wasm_object "$work/library.o" -Wno-override-module -c -x ir "$work/native.ll"
+    pointers_as_words <"$work/native.ll" >"$work/mended.ll"
+    wasm_object "$work/library.o" -mllvm -fast-isel -Wno-override-module -c -x ir "$work/mended.ll"
     wasm_product "$work/multi3.o"
     while read -r name; do words+=("--export=$name"); done < <(exported_names)
     wasm_link "$1" "${words[@]}" "$work/library.o" "$work/multi3.o"

@@ -60,10 +60,10 @@ const GROUPS: [(&str, &[&str]); 6] = [
     (
         "JSON",
         &[
-            "base64",
+            "base64_strict",
             "json_tokens",
             "json_strings",
-            "json",
+            "json_values",
             "json_base64",
             "json_text",
             "json_quote",

@@ -3,12 +3,12 @@
 # for `says` and tools/kept.sh.
 
 # The program without the kit. Where rt's own code of it is for this processor it is tried, too,
-# with the C code that stands in for the kit's on aarch64.
+# with the C code that stands in for the kit's on other ones.
 program_by_itself() {
     local program=$PWD/build/$verdict
     tools/native-program "$program_crate" "$program" && prints_as_kept "$program" || return
     [ "$(uname -m)" = x86_64 ] || return 0
-    cc -Wall -Wextra -Werror -O2 -o build/c/verdict "target/obj/$program_crate.o" hosts/c/os.c || return
+    cc -Wall -Wextra -Werror -O2 -Wl,--gc-sections -o build/c/verdict "build/module/$program_crate.o" hosts/c/os.c || return
     prints_as_kept "$PWD/build/c/verdict"
 }
 

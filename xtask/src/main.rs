@@ -4,6 +4,7 @@
 //! A check says all that is wrong at once, on standard error, a line each with its file and line,
 //! and then the status is 1. Where nothing is, it says so in one line.
 
+mod apply;
 mod assumptions;
 mod codes;
 mod counts;
@@ -47,7 +48,7 @@ const fn check(
 }
 
 #[rustfmt::skip] // a table
-const CHECKS: [Check; 12] = [
+const CHECKS: [Check; 13] = [
     check("statements", "", statements::check,
         "docs/STATEMENTS.md has each wrong program and each theorem of uniqueness"),
     check("codes", "[--write]", codes::check,
@@ -66,10 +67,12 @@ const CHECKS: [Check; 12] = [
         "docs/RULES.md has what is cited of the customer's papers"),
     check("refusals", "[--write] SAID", refusals::check,
         "the wrong programs are refused as tools/refusals.txt has it; SAID is what rt said"),
-    check("assumptions", "", assumptions::check,
-        "rt's logs in target/log have no library that assumes anything"),
+    check("assumptions", "SAID LOG...", assumptions::check,
+        "no library assumes anything: SAID is what rt ci said, and LOGs what the kit did"),
     check("counts", "FILE...", counts::check,
         "the table of docs/PROVED.md has what the tests counted; they said it in FILEs"),
+    check("apply", "EDIT FOLDER", apply::check,
+        "makes the changes of a file of wrong programs in a copy of its crate"),
     check("poke", "FILE OFFSET BYTE", poke::check,
         "puts another byte into a file"),
 ];

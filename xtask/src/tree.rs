@@ -55,7 +55,10 @@ impl Edit {
 }
 
 /// What is made here, which is no part of the repository.
-const MADE: [&str; 3] = [".git", "build", "target"];
+const MADE: [&str; 2] = [".git", "build"];
+
+/// What rt keeps in the folder of each crate, which is none, either.
+const KEPT: &str = "out";
 
 impl Tree {
     pub fn at(root: &Path) -> Tree {
@@ -85,6 +88,7 @@ impl Tree {
     pub fn files(&self) -> Vec<String> {
         let mut found = Vec::new();
         walk(&self.root, "", &MADE, &mut found);
+        found.retain(|file| !is_kept(file));
         found.sort();
         found
     }
@@ -129,11 +133,12 @@ impl Tree {
         found
     }
 
-    /// The names of crates.txt, in its order.
+    /// The names of crates.txt, in its order. Other words may stand behind a name, as `staticlib`.
     pub fn crates(&self) -> Checked<Vec<String>> {
         let text = self.read("crates.txt")?;
         let named = text.lines().filter_map(|line| line.split('#').next()?.split_once(':'));
-        Ok(named.map(|(name, _)| name.trim().to_string()).collect())
+        let named = named.filter_map(|(words, _)| words.split_whitespace().next());
+        Ok(named.map(str::to_string).collect())
     }
 
     /// The one file of this name among the crates, whichever of them has it.
@@ -145,6 +150,12 @@ impl Tree {
             (Some(_), false) => Err(Wrong::one(format!("more than one crate has {file}"))),
         }
     }
+}
+
+/// Whether a file stands in what rt keeps of a crate.
+fn is_kept(file: &str) -> bool {
+    let parts: Vec<&str> = file.splitn(4, '/').collect();
+    parts.len() == 4 && parts[0] == "crates" && parts[2] == KEPT
 }
 
 /// Adds the files below a folder, with this before their names. Links are not followed.
@@ -171,6 +182,9 @@ mod tests {
         let scratch = Scratch::new(&[("a/b.md", ""), ("build/c.md", ""), ("a/build/d.md", "")]);
         assert_eq!(scratch.tree().files(), ["a/b.md", "a/build/d.md", "crates.txt"]);
         assert_eq!(scratch.tree().below("build"), ["build/c.md"]);
+        let scratch =
+            Scratch::new(&[("crates/a/out/rlib/b.rt", ""), ("crates/a/src/out/c.rt", "")]);
+        assert_eq!(scratch.tree().files(), ["crates.txt", "crates/a/src/out/c.rt"]);
     }
 
     #[test]
@@ -183,7 +197,8 @@ mod tests {
 
     #[test]
     fn crates_are_those_of_the_list_and_its_comments_none() {
-        let scratch = Scratch::new(&[("crates.txt", "# one: two\nlow:\nhigh: low # more: x\n\n")]);
+        let scratch =
+            Scratch::new(&[("crates.txt", "# one: two\nlow:\nhigh staticlib: low # more: x\n\n")]);
         assert_eq!(scratch.tree().crates().unwrap(), ["low", "high"]);
     }
 

@@ -1,15 +1,9 @@
 //! The first error of a log of rt's.
 
-/// The line of a log that its first error begins on, and all of it: up to the next error or note.
-/// Where the proof was rattle's own, there is no error but a note on the code, and what was said of
-/// the search for that proof stands in the note after it. General advice is no part of either.
-pub fn error(log: &str) -> (usize, String) {
-    error_where(log, &is_error)
-        .or_else(|| error_where(log, &on_code))
-        .unwrap_or_else(|| (1, up_to(&log.lines().collect::<Vec<_>>(), is_advice)))
-}
-
-/// The same of the first error, or note on the code, among those that are wanted.
+/// The line of a log that the first error that is wanted, or note on the code, begins on, and all
+/// of it: up to the next error or note. Where the proof was rattle's own, there is no error but a
+/// note on the code, and what was said of the search for that proof stands in the note after it.
+/// General advice is no part of either.
 pub fn error_where(log: &str, wanted: &dyn Fn(&str) -> bool) -> Option<(usize, String)> {
     let lines: Vec<&str> = log.lines().collect();
     let start = lines.iter().position(|line| wanted(line))?;
@@ -58,15 +52,19 @@ pub fn on_code(line: &str) -> bool {
 mod tests {
     use super::*;
 
+    fn of(log: &str, wanted: fn(&str) -> bool) -> (usize, String) {
+        error_where(log, &wanted).unwrap()
+    }
+
     #[test]
     fn an_error_ends_where_the_next_one_or_a_note_begins() {
         let log = "fn a: proved\n/x/P.antt:9:25: error: `returns`: one\n  two\n\
             /x/P.antt:9:13: note: three\n/x/P.antt:10:1: error: four\n";
-        assert_eq!(error(log), (2, "/x/P.antt:9:25: error: `returns`: one\n  two".into()));
+        assert_eq!(of(log, is_error), (2, "/x/P.antt:9:25: error: `returns`: one\n  two".into()));
         let log = "/x/P.antt:9:25: error: one\nnote: antt's advice: was spent\n";
-        assert_eq!(error(log), (1, "/x/P.antt:9:25: error: one".into()));
+        assert_eq!(of(log, is_error), (1, "/x/P.antt:9:25: error: one".into()));
         let log = "/x/P.antt:9:25: error: one\nfn x: not proved\n";
-        assert_eq!(error(log), (1, "/x/P.antt:9:25: error: one".into()));
+        assert_eq!(of(log, is_error), (1, "/x/P.antt:9:25: error: one".into()));
     }
 
     #[test]
@@ -75,11 +73,6 @@ mod tests {
             note: what antt said: no proof of `x`\n  was found.\nnote: antt's advice: was spent\n";
         let due = "note: /x/lib.rt:26:1: it is not proved (`returns`)\n\
             note: what antt said: no proof of `x`\n  was found.";
-        assert_eq!(error(log), (2, due.into()));
-    }
-
-    #[test]
-    fn an_empty_log_has_none() {
-        assert_eq!(error(""), (1, String::new()));
+        assert_eq!(of(log, on_code), (2, due.into()));
     }
 }

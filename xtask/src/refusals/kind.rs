@@ -20,7 +20,10 @@ pub enum Kind {
 }
 
 /// Words of an error, and what they show. The first that is found decides.
-const SHOWN: [(&str, Kind); 30] = [
+const SHOWN: [(&str, Kind); 36] = [
+    // What rt says of it itself.
+    (" (only because a proof file names what the edit took away", Kind::Unfit),
+    (" (only by a limit of the prover", Kind::Bound),
     ("` has no `", Kind::Unfit),
     ("` has no member", Kind::Unfit),
     (" has no field ", Kind::Unfit),
@@ -40,18 +43,25 @@ const SHOWN: [(&str, Kind); 30] = [
     (" met a bound", Kind::Bound),
     ("stopped at the step limit", Kind::Bound),
     ("a larger step limit", Kind::Bound),
-    ("All of that holds, and the goal fails, at", Kind::False),
+    // rt tells no more than the first letters of an error, and may end within these words.
+    ("from what it read. All", Kind::False),
+    ("the facts known there allow values at which this goal", Kind::False),
     ("computed as far as they go, the two ", Kind::False),
     ("as printed, the two ", Kind::False),
     ("must be a path whose two ends are equal", Kind::False),
     ("turned out false", Kind::False),
     ("does not hold", Kind::False),
     ("but this has type `", Kind::False),
+    (": expected type `", Kind::False),
     ("no proof of `", Kind::Unsolved),
     ("`omega`: ", Kind::Unsolved),
     ("`cc`: ", Kind::Unsolved),
     // An equation that a right program needs has nothing to rewrite in the goal of a wrong one.
     ("`rw`: no occurrence of the path's left endpoint", Kind::Unsolved),
+    // What is left of a goal once it is simplified.
+    ("give a proof of that as the last argument, `simp L t`", Kind::Unsolved),
+    // rattle's own proof, of which it is told no more.
+    (": it is not proved that ", Kind::Unsolved),
     ("`grw`: this rule rewrites nothing in the goal", Kind::Unsolved),
 ];
 
@@ -82,10 +92,11 @@ impl Kind {
         Kind::ALL.into_iter().find(|kind| kind.word() == word)
     }
 
-    /// The kind of an error, all lines of it. One that is about no fact is about the text, as where
-    /// the prover cannot read it.
+    /// The kind of an error, with what rt makes of it before it in brackets. One that is about no fact
+    /// is about the text, as where the prover cannot read it.
     pub fn of(error: &str) -> Kind {
-        if error.contains(": error: ") && fact(error).is_empty() {
+        let about_fact = error.starts_with(" (") || error.contains(": error: `");
+        if error.contains(": error: ") && !about_fact {
             return Kind::Unfit;
         }
         let shown = SHOWN.iter().find(|(words, _)| error.contains(words));
@@ -99,10 +110,11 @@ impl Kind {
     }
 }
 
-/// The name of the fact that an error is about: the first one in backquotes behind `error: `.
+/// The name of the fact that an error is about: the first one in backquotes behind `error: `, or of
+/// a note that in brackets.
 fn fact(error: &str) -> &str {
-    let behind = error.split_once(": error: `").map_or("", |(_, rest)| rest);
-    behind.split('`').next().unwrap_or_default()
+    let behind = error.split_once(": error: `").or_else(|| error.split_once("(`"));
+    behind.map_or("", |(_, rest)| rest).split('`').next().unwrap_or_default()
 }
 
 /// Whether a fact is what a callee requires: its name ends so, or so and with a number.

@@ -10,16 +10,31 @@ pub struct Row {
     pub name: String,
     pub file: String,
     pub kind: Kind,
-    /// Where the error stands, where it was read in a log.
-    pub log: String,
+    /// Where the error is told, where it was read in what rt said.
+    pub told: String,
 }
 
-/// The wrong program that a line of rt's output tells of as refused, and the file of its first
-/// error, or "nowhere".
-pub fn refused(line: &str) -> Option<(&str, &str)> {
-    let (name, rest) = line.strip_prefix("rt: must-fail ")?.split_once(": refused")?;
-    let place = rest.split_once("(first at ").and_then(|(_, place)| place.split_once(':'));
-    Some((name, place.map_or("nowhere", |(file, _)| file)))
+/// What a line of rt's output tells of a wrong program that it refused.
+#[derive(Debug, PartialEq)]
+pub struct Refused<'a> {
+    pub name: &'a str,
+    /// The file of its first error, or "nowhere".
+    pub file: &'a str,
+    /// As much of that error as rt tells, and before it in brackets what it makes of it.
+    pub error: &'a str,
+}
+
+const HOW: &str = ".edit: refused, as it must be";
+
+pub fn refused(line: &str) -> Option<Refused<'_>> {
+    let (name, error) = line.strip_prefix("rt: must-fail ")?.split_once(HOW)?;
+    let told = match error.strip_prefix(" (") {
+        Some(remark) => remark.split_once("): ").map_or("", |(_, told)| told),
+        None => error.trim_start_matches(": "),
+    };
+    let told = told.strip_prefix("note: ").unwrap_or(told);
+    let file = told.split_once(':').map_or("nowhere", |(file, _)| file.trim_start_matches("./"));
+    Some(Refused { name, file, error })
 }
 
 pub fn text(rows: &[Row]) -> String {
@@ -45,7 +60,7 @@ pub fn read(file: &str, text: &str) -> Checked<Vec<(usize, Row)>> {
 fn row(line: &str) -> Option<Row> {
     let [name, file, kind] = line.split(' ').collect::<Vec<_>>()[..] else { return None };
     let kind = Kind::named(kind)?;
-    Some(Row { name: name.into(), file: file.into(), kind, log: String::new() })
+    Some(Row { name: name.into(), file: file.into(), kind, told: String::new() })
 }
 
 #[cfg(test)]
@@ -53,13 +68,21 @@ mod tests {
     use super::*;
     use crate::testing::found;
 
+    fn file_of(told: &str) -> String {
+        let line = format!("rt: must-fail a/b.edit: refused, as it must be{told}");
+        let refused = refused(&line).unwrap();
+        assert_eq!((refused.name, refused.error), ("a/b", told));
+        refused.file.into()
+    }
+
     #[test]
     fn the_file_is_read_without_its_line() {
-        let line = "rt: must-fail a/b: refused, as it must be (first at proofs/P.antt:9:25; 25 s)";
-        assert_eq!(refused(line), Some(("a/b", "proofs/P.antt")));
-        let line = "rt: must-fail a/b: refused, as it must be (25 s)";
-        assert_eq!(refused(line), Some(("a/b", "nowhere")));
-        assert_eq!(refused("rt: must-fail a/b: NOT REFUSED: the crate is still proved"), None);
+        assert_eq!(file_of(": ./proofs/P.antt:9:25: error: `returns`: x"), "proofs/P.antt");
+        assert_eq!(file_of(": note: src/lib.rt:28:1: it is not proved"), "src/lib.rt");
+        assert_eq!(file_of(" (only by a limit: less): proofs/P.antt:1:2: error"), "proofs/P.antt");
+        assert_eq!(file_of(""), "nowhere");
+        let line = "rt: must-fail a/b.edit: NOT REFUSED: the crate is still proved";
+        assert_eq!(refused(line), None);
     }
 
     #[test]

@@ -1,9 +1,11 @@
 //! Holds where and why each wrong program is refused to tools/refusals.txt: the file of its first
-//! error, as the saved output of rt names it, and the kind of that error, as its log in
-//! target/must-fail shows it. Of several that are tried together it is the first error of each in the
-//! function that it changes. There it was read that a program is refused for what its first line
-//! says. Where a proof moved and another refuses it, that is to be read again; then --write writes
-//! the list anew, of an output that has every wrong program.
+//! error, and the kind of that error, both as the saved output of rt ci tells them, which has the
+//! first 160 letters of the error. Of several that stand in one file rt ci tells the first error
+//! alone. For these it is the first error of each in the function that it changes, of all that rt
+//! check says of the crate with these programs, which tools/try-together saves. There it was read
+//! that a program is refused for what its first line says. Where a proof moved and another refuses
+//! it, that is to be read again; then --write writes the list anew, of an output that has every
+//! wrong program.
 
 mod first;
 mod kind;
@@ -11,14 +13,18 @@ mod list;
 mod own;
 
 use crate::report::{at, unless, Checked, Verdict, Wrong};
+use crate::scan::numbered;
 use crate::tree::{Edit, Tree};
 use crate::whole;
 use kind::Kind;
-use list::Row;
+use list::{Refused, Row};
 use std::collections::BTreeMap;
 use std::fs;
 
 const LIST: &str = "tools/refusals.txt";
+
+/// Where tools/try-together saves what is said of several together.
+const TOGETHER: &str = "build/together";
 
 pub fn check(tree: &Tree, words: &[&str]) -> Verdict {
     let (said, write) = match words {
@@ -36,15 +42,22 @@ pub fn check(tree: &Tree, words: &[&str]) -> Verdict {
     unless(problems, format!("{} wrong programs: {}", rows.len(), in_words(&rows)))
 }
 
-/// What a run says of every wrong program, sorted by name. One that it does not have, or that has
-/// no log, is an error, lest it be passed over.
+/// What a run says of every wrong program, sorted by name. One that it does not have is an error,
+/// lest it be passed over.
 fn of_run(tree: &Tree, said: &str) -> Checked<Vec<Row>> {
     let text = fs::read(said).map_err(|why| Wrong::one(format!("{said} cannot be read: {why}")))?;
     let text = String::from_utf8_lossy(&text);
-    let places: BTreeMap<&str, &str> = text.lines().filter_map(list::refused).collect();
+    let told: BTreeMap<&str, (usize, Refused)> = numbered(&text)
+        .filter_map(|(number, line)| list::refused(line).map(|it| (it.name, (number, it))))
+        .collect();
     let (mut rows, mut problems) = (Vec::new(), Vec::new());
     for edit in tree.edits() {
-        match of_one(tree, &edit, said, &places) {
+        let found = match told.get(edit.tried.as_str()) {
+            None => Err(format!("{said}: does not have {} as refused", edit.tried)),
+            Some((number, refused)) if edit.alone => Ok(row(&edit, said, *number, refused)),
+            Some(_) => together(tree, &edit),
+        };
+        match found {
             Ok(row) => rows.push(row),
             Err(problem) => problems.push(problem),
         }
@@ -56,26 +69,23 @@ fn of_run(tree: &Tree, said: &str) -> Checked<Vec<Row>> {
     }
 }
 
-/// What it says of one of them, where these are the files of first errors.
-fn of_one(
-    tree: &Tree,
-    edit: &Edit,
-    said: &str,
-    places: &BTreeMap<&str, &str>,
-) -> Result<Row, String> {
-    let (name, tried) = (edit.full(), &edit.tried);
-    let log = format!("target/must-fail/{tried}/.log");
-    let place = places.get(tried.as_str());
-    let place = place.ok_or_else(|| format!("{said}: does not have {tried} as refused"))?;
+fn row(edit: &Edit, said: &str, number: usize, refused: &Refused) -> Row {
+    Row {
+        name: edit.full(),
+        file: refused.file.into(),
+        kind: Kind::of(refused.error),
+        told: format!("{said}:{number}"),
+    }
+}
+
+/// What is said of one of several that are tried together.
+fn together(tree: &Tree, edit: &Edit) -> Result<Row, String> {
+    let log = format!("{TOGETHER}/{}", edit.tried);
     let bytes = fs::read(tree.path(&log)).map_err(|why| format!("{log} cannot be read: {why}"))?;
     let text = String::from_utf8_lossy(&bytes);
-    let (file, line, error) = if edit.alone {
-        let (line, error) = first::error(&text);
-        (place.to_string(), line, error)
-    } else {
-        own::error(tree, edit, &text).map_err(|why| format!("{log}: {why}"))?
-    };
-    Ok(Row { name, file, kind: Kind::of(&error), log: format!("{log}:{line}") })
+    let (file, line, error) =
+        own::error(tree, edit, &text).map_err(|why| format!("{log}: {why}"))?;
+    Ok(Row { name: edit.full(), file, kind: Kind::of(&error), told: format!("{log}:{line}") })
 }
 
 /// A wrong program whose proof merely does not fit it shows nothing of what is wrong in it.
@@ -84,7 +94,7 @@ fn never_right(rows: &[Row]) -> Vec<String> {
     let what =
         "only shows that the proof no longer fits the code, and no false fact: give the edit \
                 the proof's lines that fit it";
-    unfit.map(|row| format!("{}: {} {what}", row.log, row.name)).collect()
+    unfit.map(|row| format!("{}: {} {what}", row.told, row.name)).collect()
 }
 
 /// Two wrong programs that change one function have one error between them, which is no evidence of
@@ -92,9 +102,10 @@ fn never_right(rows: &[Row]) -> Vec<String> {
 fn shared(rows: &[Row]) -> Vec<String> {
     let mut first: BTreeMap<&str, &str> = BTreeMap::new();
     let mut problems = Vec::new();
-    for Row { name, log, .. } in rows {
-        if let Some(other) = first.insert(log, name) {
-            problems.push(format!("{log}: {other} and {name} change one function: try them apart"));
+    for Row { name, told, .. } in rows {
+        if let Some(other) = first.insert(told, name) {
+            problems
+                .push(format!("{told}: {other} and {name} change one function: try them apart"));
         }
     }
     problems
@@ -114,7 +125,7 @@ fn differences(kept: &[(usize, Row)], rows: &[Row], said: &str) -> Vec<String> {
                 old.kind.word(),
                 new.file,
                 new.kind.word(),
-                new.log
+                new.told
             ),
             Some(_) => continue,
         };

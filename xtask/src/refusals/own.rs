@@ -16,13 +16,14 @@ struct Changed {
 }
 
 impl Changed {
-    /// Where its proof stands below the crate.
-    fn proof(&self) -> String {
+    /// Where its proof may stand below the crate.
+    fn proofs(&self) -> [String; 3] {
         let module = self.file.trim_start_matches("src/").trim_end_matches(".rt");
-        match module {
-            "lib" => format!("proofs/{}/Proof.antt", self.name),
-            _ => format!("proofs/{module}/{}/Proof.antt", self.name),
-        }
+        let folder = match module {
+            "lib" => format!("proofs/{}", self.name),
+            _ => format!("proofs/{module}/{}", self.name),
+        };
+        ["Answers", "Invariants", "Proof"].map(|file| format!("{folder}/{file}.antt"))
     }
 }
 
@@ -30,8 +31,7 @@ impl Changed {
 /// why it has none of its own.
 pub fn error(tree: &Tree, edit: &Edit, log: &str) -> Result<(String, usize, String), String> {
     let changed = changed(tree, edit)?;
-    let (proof, code) = (changed.proof(), &changed.file);
-    let in_proof = |line: &str| first::is_error(line) && place(line, &proof).is_some();
+    let code = &changed.file;
     let on_code = |line: &str| {
         let noted = line.strip_prefix("note: ").filter(|_| first::on_code(line));
         let number = noted.and_then(|line| place(line, code));
@@ -41,14 +41,31 @@ pub fn error(tree: &Tree, edit: &Edit, log: &str) -> Result<(String, usize, Stri
         let (line, text) = first::error_where(log, wanted)?;
         Some((file.to_string(), line, text))
     };
-    let found = of(&proof, &in_proof).or_else(|| of(code, &on_code));
+    let proofs = changed.proofs();
+    let in_proof = |proof: &String, wanted: fn(&str) -> bool| {
+        let is_it = |line: &str| first::is_error(line) && place(line, proof).is_some();
+        of(proof, &|line: &str| is_it(line) && wanted(line))
+    };
+    let found = proofs
+        .iter()
+        .find_map(|proof| in_proof(proof, |line| !names_what_is_gone(line)))
+        .or_else(|| proofs.iter().find_map(|proof| in_proof(proof, |_| true)))
+        .or_else(|| of(code, &on_code));
     found.ok_or_else(|| format!("has no error of the function that {} changes", edit.full()))
 }
 
-/// The number of the line of this file that a message begins with, as `FOLDER/FILE:LINE:COLUMN:`.
+/// Whether an error is only of a name that the wrong program took away, such as a goal's, which tells
+/// little of it: as rt does, another error goes first.
+fn names_what_is_gone(line: &str) -> bool {
+    ["has no field", "is not in scope", "has no `", "was not admitted"]
+        .iter()
+        .any(|words| line.contains(words))
+}
+
+/// The number of the line of this file that a message begins with, as `FILE:LINE:COLUMN:`.
 fn place(message: &str, file: &str) -> Option<usize> {
-    let place = message.split(' ').next()?;
-    let (_, numbers) = place.split_once(&format!("/{file}:"))?;
+    let place = message.split(' ').next()?.trim_start_matches("./");
+    let numbers = place.strip_prefix(file)?.strip_prefix(':')?;
     numbers.split(':').next()?.parse().ok()
 }
 
@@ -74,7 +91,8 @@ fn changed(tree: &Tree, edit: &Edit) -> Result<Changed, String> {
         }
     }
     let found = found.ok_or_else(|| alone("changes no function"))?;
-    match others.iter().all(|file| *file == found.proof()) {
+    let proofs = found.proofs();
+    match others.iter().all(|file| proofs.iter().any(|proof| proof == file)) {
         true => Ok(found),
         false => Err(alone("changes what other functions rest on")),
     }

@@ -1,31 +1,29 @@
-//! A run of two wrong programs, and what can become of it. The errors are as rt's prover words
-//! them.
+//! A run of two wrong programs, and what can become of it. The errors are as rt tells them.
 
 use super::*;
 use crate::testing::{found, Scratch};
 
-const FALSE: &str = "/x/P.antt:26:82: error: `loop-again`: computed as far as they go, the two \
+const FALSE: &str = "./P.antt:26:82: error: `loop-again`: computed as far as they go, the two \
     types differ only where one has `1` (expected) and the other has `0` (found)\n  expected type \
     `Path`\n";
 
-const NOTED: &str =
-    "note: /x/src/lib.rt:26:1: it is not proved that what the function ensures holds \
+const NOTED: &str = "note: src/lib.rt:26:1: it is not proved that what the function ensures holds \
     when it returns (`returns`)\nnote: what antt said of a `search` in the proof that rattle made: \
-    /x/src/lib.rt:26:8: `returns`: `search`: no proof of `reads.Post`\n  was found. Every way was \
+    src/lib.rt:26:8: `returns`: `search`: no proof of `reads.Post`\n  was found. Every way was \
     tried: a deeper search would find nothing either.\n";
 
-const SAID: &str = "rt: a proved (3 s)\n\
-    rt: must-fail a/one: refused, as it must be (first at proofs/P.antt:26:82; 25 s)\n\
-    rt: must-fail a/two: refused, as it must be (first at src/lib.rt:26:1; 2 s)\n";
+const SAID: &str = "rt: a proved\n\
+    rt: must-fail a/one.edit: refused, as it must be: ./proofs/up/Answers.antt:26:82: error: \
+    `loop-again`: computed as far as they go, the two types differ only where one has `1` (exp\n\
+    rt: must-fail a/two.edit: refused, as it must be: note: src/lib.rt:26:1: it is not proved that \
+    what the function ensures holds when it returns (`returns`)\n";
 
-const KEPT: &str = "a/one proofs/P.antt false\na/two src/lib.rt unsolved\n";
+const KEPT: &str = "a/one proofs/up/Answers.antt false\na/two src/lib.rt unsolved\n";
 
 fn right() -> Scratch {
     Scratch::new(&[
         ("crates/a/must-fail/one.edit", ""),
         ("crates/a/must-fail/two.edit", ""),
-        ("target/must-fail/a/one/.log", FALSE),
-        ("target/must-fail/a/two/.log", NOTED),
         ("said", SAID),
         (LIST, KEPT),
     ])
@@ -38,9 +36,7 @@ fn checked(scratch: &Scratch, flags: &[&str]) -> Verdict {
 
 /// The kind of a first error with this behind the name of its fact.
 fn kind_of(fact: &str, words: &str) -> Kind {
-    let log =
-        format!("fn x: proved\n/x/P.antt:1:2: error: `{fact}`: {words}\n/x/P.antt:3:4: note: y\n");
-    Kind::of(&first::error(&log).1)
+    Kind::of(&format!(": ./proofs/P.antt:1:2: error: `{fact}`: {words}"))
 }
 
 #[test]
@@ -51,57 +47,58 @@ fn a_run_as_it_is_kept_passes_and_its_kinds_are_told() {
 #[test]
 fn another_file_is_found() {
     let scratch = right();
-    scratch.alter("said", "proofs/P.antt", "proofs/Q.antt");
+    scratch.alter("said", "proofs/up/", "proofs/low/");
     let problems = found(checked(&scratch, &[]));
-    let due = "tools/refusals.txt:1: a/one was refused in proofs/P.antt (false), and is in \
-        proofs/Q.antt (false) now, by target/must-fail/a/one/.log:1: read again";
+    let due =
+        "tools/refusals.txt:1: a/one was refused in proofs/up/Answers.antt (false), and is in \
+        proofs/low/Answers.antt (false) now, by ";
     assert_eq!(problems.len(), 1);
     assert!(problems[0].starts_with(due), "{problems:?}");
+    assert!(problems[0].contains("said:2: read again"), "{problems:?}");
 }
 
 #[test]
-fn another_kind_is_found_with_the_place_of_its_error() {
+fn another_kind_is_found_with_the_place_where_it_is_told() {
     let scratch = right();
-    scratch.alter(
-        "target/must-fail/a/two/.log",
-        "Every way was tried",
-        "its count of 1000 was spent",
-    );
+    let what = "it is not proved that what the function ensures holds";
+    scratch.alter("said", what, "its count of 1000 was spent");
     let problems = found(checked(&scratch, &[]));
     let due =
         "tools/refusals.txt:2: a/two was refused in src/lib.rt (unsolved), and is in src/lib.rt \
-        (bound) now, by target/must-fail/a/two/.log:1: read again";
+        (bound) now, by ";
     assert_eq!(problems.len(), 1);
     assert!(problems[0].starts_with(due), "{problems:?}");
+    assert!(problems[0].contains("said:3: read again"), "{problems:?}");
 }
 
 #[test]
 fn a_kind_that_nobody_has_read_is_found() {
     let scratch = right();
-    scratch.alter(LIST, "P.antt false", "P.antt unread");
+    scratch.alter(LIST, "Answers.antt false", "Answers.antt unread");
     let problems = found(checked(&scratch, &[]));
-    assert!(
-        problems[0].contains("proofs/P.antt (unread), and is in proofs/P.antt (false) now"),
-        "{problems:?}"
-    );
+    let due = "Answers.antt (unread), and is in proofs/up/Answers.antt (false) now";
+    assert!(problems[0].contains(due), "{problems:?}");
 }
 
 #[test]
 fn one_that_is_merely_unfit_is_an_error_though_the_list_has_it_so() {
     let scratch = right();
-    let unfit = "/x/P.antt:7:3: error: `returns-3`: `tie` has no `Need-returns-3`\n";
-    scratch.put("target/must-fail/a/one/.log", unfit);
-    scratch.alter(LIST, "P.antt false", "P.antt unfit");
+    scratch.alter(
+        "said",
+        "be: ./proofs",
+        "be (only because a proof file names what the edit took away, so): ./proofs",
+    );
+    scratch.alter(LIST, "Answers.antt false", "Answers.antt unfit");
     let problems = found(checked(&scratch, &[]));
     assert_eq!(problems.len(), 1);
-    assert!(problems[0].starts_with("target/must-fail/a/one/.log:1: a/one only shows"));
+    assert!(problems[0].contains("said:2: a/one only shows"));
     assert_eq!(found(checked(&scratch, &["--write"])).len(), 1);
 }
 
 #[test]
 fn what_the_list_lacks_or_has_too_many_is_found() {
     let scratch = right();
-    scratch.put(LIST, "a/one proofs/P.antt false\na/three src/lib.rt false\n");
+    scratch.put(LIST, "a/one proofs/up/Answers.antt false\na/three src/lib.rt false\n");
     let problems = found(checked(&scratch, &[]));
     assert_eq!(problems.len(), 2);
     assert_eq!(problems[0], "tools/refusals.txt:2: there is no wrong program a/three");
@@ -109,14 +106,14 @@ fn what_the_list_lacks_or_has_too_many_is_found() {
 }
 
 #[test]
-fn one_that_the_run_lacks_or_that_has_no_log_is_found() {
+fn each_that_the_run_lacks_is_found() {
     let scratch = right();
-    scratch.alter("said", "a/one: refused", "a/one: NOT REFUSED");
-    scratch.remove("target/must-fail/a/two/.log");
+    scratch.alter("said", "a/one.edit: refused", "a/one.edit: NOT REFUSED");
+    scratch.alter("said", "a/two.edit: refused", "a/two.edit: BAD EDIT");
     let problems = found(checked(&scratch, &["--write"]));
     assert_eq!(problems.len(), 2);
     assert!(problems[0].ends_with("said: does not have a/one as refused"));
-    assert!(problems[1].starts_with("target/must-fail/a/two/.log cannot be read"));
+    assert!(problems[1].ends_with("said: does not have a/two as refused"));
     assert_eq!(scratch.tree().read(LIST).unwrap(), KEPT);
 }
 
@@ -137,6 +134,8 @@ fn facts_that_are_false_are_of_that_kind() {
         "give a proof of that as the last argument, `rw L t`\n  `rw` has no last argument, so what \
          it leaves must be a path whose two ends are equal, and `Path` is none",
         "`a`\n  ≟ `b`\n  does not hold (this comparison had to wait for a metavariable)",
+        "`omega`: the goal does not follow from what it read. All of th",
+        "expected type `body (packet_of m) ≡ m`, but this ha",
     ] {
         assert_eq!(kind_of("returns-2", words), Kind::False, "{words}");
     }
@@ -162,11 +161,25 @@ fn a_search_that_ends_is_told_from_one_that_meets_a_bound() {
 }
 
 #[test]
+fn what_rt_says_of_an_error_comes_first() {
+    let limit =
+        " (only by a limit of the prover, which gave no verdict): proofs/P.antt:1:2: error: x";
+    assert_eq!(Kind::of(limit), Kind::Bound);
+    let noted = ": note: src/lib.rt:28:1: it is not proved that what the function ensures holds \
+        (`returns`); the facts known there allow values at which this goal ";
+    assert_eq!(Kind::of(noted), Kind::False);
+    assert_eq!(Kind::of(""), Kind::Other);
+}
+
+#[test]
 fn what_a_callee_requires_is_a_kind_of_its_own() {
     let words = "`search`: no proof of `x`\n  was found. Every way was tried";
     assert_eq!(kind_of("write-all-requires", words), Kind::Requires);
     assert_eq!(kind_of("write-all-requires-2", words), Kind::Requires);
     assert_eq!(kind_of("write-all-requires-2", "`x` is not in scope"), Kind::Unfit);
+    let note =
+        ": note: src/lib.rt:3:5: it is not proved that what it requires holds (`put-requires`)";
+    assert_eq!(Kind::of(note), Kind::Requires);
 }
 
 #[test]
@@ -193,19 +206,19 @@ fn what_does_not_fit_is_unfit_and_what_is_new_is_other() {
 fn together() -> Scratch {
     let edit = "program: up\n# more\nfile: src/lib.rt\nold: x + 1\nnew: x + 2\n\
         program: down\n# less\nfile: src/low/down.rt\nold: y - 1\nnew: y - 2\n";
-    let of_up = FALSE.replace("/x/P.antt", "/x/proofs/up/Proof.antt");
-    let of_down = NOTED.replace("/x/src/lib.rt:26", "/x/src/low/down.rt:3");
+    let of_up = FALSE.replace("./P.antt", "./proofs/up/Answers.antt");
+    let of_down = NOTED.replace("src/lib.rt:26", "src/low/down.rt:3");
     let scratch = Scratch::new(&[
         ("crates/a/must-fail/both.edit", edit),
         ("crates/a/src/lib.rt", "mod low;\npub fn up(x: u8) -> u8\n{\n    x + 1\n}\n"),
         ("crates/a/src/low/down.rt", "fn z() {\n}\nfn down(y: u8) -> u8 {\n    y - 1\n}\n"),
         (
             "said",
-            "rt: must-fail a/both: refused, as it must be (first at src/low/down.rt:3:1; 2 s)\n",
+            "rt: must-fail a/both.edit: refused, as it must be: note: src/low/down.rt:3:1: it\n",
         ),
-        (LIST, "a/down src/low/down.rt unsolved\na/up proofs/up/Proof.antt false\n"),
+        (LIST, "a/down src/low/down.rt unsolved\na/up proofs/up/Answers.antt false\n"),
     ]);
-    scratch.put("target/must-fail/a/both/.log", &format!("{of_down}{of_up}"));
+    scratch.put("build/together/a/both", &format!("{of_down}{of_up}"));
     scratch
 }
 
@@ -216,7 +229,7 @@ fn of_two_that_are_tried_together_each_has_its_own_error() {
 
 #[test]
 fn one_of_two_that_has_no_error_of_its_own_is_found() {
-    let log = "target/must-fail/a/both/.log";
+    let log = "build/together/a/both";
     for (old, new) in [("proofs/up/", "proofs/low/up/"), ("down.rt:3:1: it", "down.rt:1:1: it")] {
         let scratch = together();
         scratch.alter(log, old, new);
@@ -229,11 +242,21 @@ fn one_of_two_that_has_no_error_of_its_own_is_found() {
 #[test]
 fn one_of_two_that_only_rests_on_the_other_is_unfit() {
     let scratch = together();
-    let rests = "/x/proofs/up/Proof.antt:7:3: error: `returns`: `met` was not admitted\n";
-    let of_down = NOTED.replace("/x/src/lib.rt:26", "/x/src/low/down.rt:3");
-    scratch.put("target/must-fail/a/both/.log", &format!("{of_down}{rests}"));
+    let rests = "./proofs/up/Answers.antt:7:3: error: `returns`: `met` was not admitted\n";
+    let of_down = NOTED.replace("src/lib.rt:26", "src/low/down.rt:3");
+    scratch.put("build/together/a/both", &format!("{of_down}{rests}"));
     let problems = found(checked(&scratch, &[]));
     assert!(problems[0].contains("a/up only shows that the proof no longer fits"), "{problems:?}");
+}
+
+#[test]
+fn an_error_of_a_fact_goes_before_one_of_a_name_that_is_gone() {
+    let scratch = together();
+    let log = "build/together/a/both";
+    let text = scratch.tree().read(log).unwrap();
+    let gone = "./proofs/up/Answers.antt:7:3: error: `returns-2`: `goal` has no `returns-2`\n";
+    scratch.put(log, &format!("{gone}{text}"));
+    assert_eq!(checked(&scratch, &[]).unwrap(), "2 wrong programs: 1 false, 1 unsolved");
 }
 
 #[test]
@@ -242,7 +265,7 @@ fn two_that_change_one_function_are_found() {
     let edit = "crates/a/must-fail/both.edit";
     scratch.alter(edit, "file: src/low/down.rt\nold: y - 1", "file: src/lib.rt\nold: { x");
     scratch.alter("crates/a/src/lib.rt", "{\n    x + 1", "{ x\n    x + 1");
-    scratch.put(LIST, "a/down proofs/up/Proof.antt false\na/up proofs/up/Proof.antt false\n");
+    scratch.put(LIST, "a/down proofs/up/Answers.antt false\na/up proofs/up/Answers.antt false\n");
     let problems = found(checked(&scratch, &[]));
     assert_eq!(problems.len(), 1, "{problems:?}");
     assert!(problems[0].ends_with("a/down and a/up change one function: try them apart"));
