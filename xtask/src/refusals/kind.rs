@@ -20,7 +20,7 @@ pub enum Kind {
 }
 
 /// Words of an error, and what they show. The first that is found decides.
-const SHOWN: [(&str, Kind); 36] = [
+const SHOWN: [(&str, Kind); 38] = [
     // What rt says of it itself.
     (" (only because a proof file names what the edit took away", Kind::Unfit),
     (" (only by a limit of the prover", Kind::Bound),
@@ -50,6 +50,8 @@ const SHOWN: [(&str, Kind); 36] = [
     ("as printed, the two ", Kind::False),
     ("must be a path whose two ends are equal", Kind::False),
     ("turned out false", Kind::False),
+    // A case of a definition says another value than is due.
+    ("` lands at index `", Kind::False),
     ("does not hold", Kind::False),
     ("but this has type `", Kind::False),
     (": expected type `", Kind::False),
@@ -58,10 +60,11 @@ const SHOWN: [(&str, Kind); 36] = [
     ("`cc`: ", Kind::Unsolved),
     // An equation that a right program needs has nothing to rewrite in the goal of a wrong one.
     ("`rw`: no occurrence of the path's left endpoint", Kind::Unsolved),
-    // What is left of a goal once it is simplified.
+    // What is left of a goal once it is simplified, or rewritten.
     ("give a proof of that as the last argument, `simp L t`", Kind::Unsolved),
-    // rattle's own proof, of which it is told no more.
-    (": it is not proved that ", Kind::Unsolved),
+    ("give a proof of that as the last argument, `rw L t`", Kind::Unsolved),
+    // No answer has this goal's name, so that an answer to it is missing.
+    (": it is not proved that ", Kind::Unfit),
     ("`grw`: this rule rewrites nothing in the goal", Kind::Unsolved),
 ];
 

@@ -1,8 +1,8 @@
 //! Holds where and why each wrong program is refused to tools/refusals.txt: the file of its first
 //! error, and the kind of that error, both as the saved output of rt ci tells them, which has the
 //! first 160 letters of the error. Of several that stand in one file rt ci tells the first error
-//! alone. For these it is the first error of each in the function that it changes, of all that rt
-//! check says of the crate with these programs, which tools/try-together saves. There it was read
+//! alone. For these it is the first error of each in the function that it changes, of all that
+//! rattle says of the crate with these programs, which tools/try-together saves. There it was read
 //! that a program is refused for what its first line says. Where a proof moved and another refuses
 //! it, that is to be read again; then --write writes the list anew, of an output that has every
 //! wrong program.

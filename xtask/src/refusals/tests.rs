@@ -15,10 +15,10 @@ const NOTED: &str = "note: src/lib.rt:26:1: it is not proved that what the funct
 const SAID: &str = "rt: a proved\n\
     rt: must-fail a/one.edit: refused, as it must be: ./proofs/up/Answers.antt:26:82: error: \
     `loop-again`: computed as far as they go, the two types differ only where one has `1` (exp\n\
-    rt: must-fail a/two.edit: refused, as it must be: note: src/lib.rt:26:1: it is not proved that \
-    what the function ensures holds when it returns (`returns`)\n";
+    rt: must-fail a/two.edit: refused, as it must be: ./proofs/two/Answers.antt:7:8: error: \
+    `returns`: `search`: no proof of `reads.Post`\n";
 
-const KEPT: &str = "a/one proofs/up/Answers.antt false\na/two src/lib.rt unsolved\n";
+const KEPT: &str = "a/one proofs/up/Answers.antt false\na/two proofs/two/Answers.antt unsolved\n";
 
 fn right() -> Scratch {
     Scratch::new(&[
@@ -60,12 +60,11 @@ fn another_file_is_found() {
 #[test]
 fn another_kind_is_found_with_the_place_where_it_is_told() {
     let scratch = right();
-    let what = "it is not proved that what the function ensures holds";
-    scratch.alter("said", what, "its count of 1000 was spent");
+    scratch.alter("said", "no proof of `reads.Post`", "its count of 1000 was spent");
     let problems = found(checked(&scratch, &[]));
     let due =
-        "tools/refusals.txt:2: a/two was refused in src/lib.rt (unsolved), and is in src/lib.rt \
-        (bound) now, by ";
+        "tools/refusals.txt:2: a/two was refused in proofs/two/Answers.antt (unsolved), and is in \
+        proofs/two/Answers.antt (bound) now, by ";
     assert_eq!(problems.len(), 1);
     assert!(problems[0].starts_with(due), "{problems:?}");
     assert!(problems[0].contains("said:3: read again"), "{problems:?}");
@@ -136,6 +135,7 @@ fn facts_that_are_false_are_of_that_kind() {
         "`a`\n  ≟ `b`\n  does not hold (this comparison had to wait for a metavariable)",
         "`omega`: the goal does not follow from what it read. All of th",
         "expected type `body (packet_of m) ≡ m`, but this ha",
+        "this `code-15` lands at index `record {code = 15; at = 0}` (position 1) but the expected",
     ] {
         assert_eq!(kind_of("returns-2", words), Kind::False, "{words}");
     }
@@ -146,6 +146,9 @@ fn a_search_that_ends_is_told_from_one_that_meets_a_bound() {
     let words = "`search`: no proof of `x`\n  was found. Every way was tried";
     assert_eq!(kind_of("returns", words), Kind::Unsolved);
     let words = "`rw`: no occurrence of the path's left endpoint in the goal: write the family";
+    assert_eq!(kind_of("returns", words), Kind::Unsolved);
+    let words =
+        "give a proof of that as the last argument, `rw L t`\n  `rw` has no last argument, so";
     assert_eq!(kind_of("returns", words), Kind::Unsolved);
     let words = "`grw`: this rule rewrites nothing in the goal `Same x y`.";
     assert_eq!(kind_of("sum-y", words), Kind::Unsolved);
@@ -177,9 +180,21 @@ fn what_a_callee_requires_is_a_kind_of_its_own() {
     assert_eq!(kind_of("write-all-requires", words), Kind::Requires);
     assert_eq!(kind_of("write-all-requires-2", words), Kind::Requires);
     assert_eq!(kind_of("write-all-requires-2", "`x` is not in scope"), Kind::Unfit);
-    let note =
-        ": note: src/lib.rt:3:5: it is not proved that what it requires holds (`put-requires`)";
+    let note = ": note: src/lib.rt:3:5: it is not proved that what it requires holds \
+        (`put-requires`); the facts known there allow values at which this goal ";
     assert_eq!(Kind::of(note), Kind::Requires);
+}
+
+#[test]
+fn a_goal_that_has_no_answer_is_unfit() {
+    let scratch = right();
+    let noted = "src/lib.rt:26:1: it is not proved that what the function ensures holds when it \
+        returns (`returns-then-bit-ne0`)";
+    let answer =
+        "./proofs/two/Answers.antt:7:8: error: `returns`: `search`: no proof of `reads.Post`";
+    scratch.alter("said", answer, &format!("note: {noted}"));
+    let problems = found(checked(&scratch, &[]));
+    assert!(problems.iter().any(|it| it.contains("said:3: a/two only shows")), "{problems:?}");
 }
 
 #[test]
@@ -225,6 +240,14 @@ fn together() -> Scratch {
 #[test]
 fn of_two_that_are_tried_together_each_has_its_own_error() {
     assert_eq!(checked(&together(), &[]).unwrap(), "2 wrong programs: 1 false, 1 unsolved");
+}
+
+#[test]
+fn what_is_said_of_two_that_are_tried_together_must_be_there() {
+    let scratch = together();
+    scratch.remove("build/together/a/both");
+    let problems = found(checked(&scratch, &[]));
+    assert!(problems[0].starts_with("build/together/a/both cannot be read: "), "{problems:?}");
 }
 
 #[test]
