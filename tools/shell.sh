@@ -129,11 +129,11 @@ room_in_memory() {
     mktemp -d /dev/shm/trawlbeacon.XXXXXX
 }
 
-# Runs a prover in the way that takes least of the processors' time. Each check unpacks all that is
-# proved below its crate, some thousand small files, and removes them at its end: in memory that
-# takes half of the system's time that it takes on a disk. Who has named a folder for such files in
-# TMPDIR has it used. rt runs programs in it as nobody, who must be able to pass through. And a
-# check ends soon, so that it need not hand memory back before it does.
+# Runs a prover in the way that took least of the processors' time with the older kit. Each check
+# unpacks all that is proved below its crate, some thousand small files, and removes them at its
+# end: in memory that took half of the system's time that it took on a disk. Who has named a folder
+# for such files in TMPDIR has it used. rt runs programs in it as nobody, who must be able to pass
+# through. And a check ends soon, so that it need not hand memory back before it does.
 proving() { # COMMAND...
     local room
     if [ -n "${TMPDIR:-}" ] || ! room=$(room_in_memory); then

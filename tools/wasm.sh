@@ -25,7 +25,7 @@ exported_names() {
 # Compiles the module for wasm32 and links it: every function of the header, the memory, where the
 # caller's part of it begins, and the top of the stack. It imports nothing. The stack is the first
 # of memory, so that what would run past its end stops, and touches nothing. The instructions are
-# selected the fast way: by the other LLVM 22.1.8 makes a module that no engine takes.
+# selected the fast way: by the other LLVM 22.1.8 makes a module that node refuses.
 wasm_library() { # OUT
     local name words=(--export=__stack_pointer)
     portable_module
