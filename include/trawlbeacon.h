@@ -248,26 +248,26 @@ typedef uint64_t tb_size;
 #define TB_MOST_ROWS_LENGTH (32 * (2 * TB_MOST_LEAVES - 1))
 
 /* Bytes of stack that are enough for every function of a tree. On x86-64 tb_root, tb_path and
- * tb_rows take at most 103,200, and 36,544 up to 32 leaves. tb_leads takes 1,440. hosts/c/stack.c
- * measures them on the machine at hand. */
+ * tb_rows take at most 69,376. tb_leads takes 1,568. hosts/c/stack.c measures them on the machine
+ * at hand. */
 #define TB_TREE_STACK 131072
 
 /* Bytes of stack that are enough for every function that verifies a signature, except
- * tb_cut_signed_text. On x86-64 a verification takes 6,912, and tb_walk_take_signed, which takes
- * the most, 10,496. hosts/c/stack.c measures them. */
+ * tb_cut_signed_text. On x86-64 a verification takes 7,832, and tb_walk_take_signed, which takes
+ * the most, 11,496. hosts/c/stack.c measures them. */
 #define TB_VERIFY_STACK 16384
 
 /* Bytes of stack that are enough for tb_public_key, tb_sign and tb_sign_parts. On x86-64 a
- * signature takes 5,016. hosts/c/stack.c measures it. */
+ * signature takes 5,368. hosts/c/stack.c measures it. */
 #define TB_SIGN_STACK 8192
 
-/* Bytes of stack that are enough for tb_answer_batch. On x86-64 it takes at most 102,800.
+/* Bytes of stack that are enough for tb_answer_batch. On x86-64 it takes at most 70,160.
  * hosts/c/stack.c measures it. */
 #define TB_BATCH_STACK 131072
 
 /* Bytes of stack that are enough for tb_cut_text and tb_cut_signed_text, which keep sixteen records
- * there. On x86-64 they take 72,128 and 75,040. hosts/c/stack.c measures them. The 33 other
- * functions that it measures take at most 11,408. */
+ * there. On x86-64 they take 72,784 and 74,872. hosts/c/stack.c measures them. The 33 other
+ * functions that it measures take at most 13,392. */
 #define TB_TEXT_STACK 98304
 
 /* The bytes of a record of a list of servers. */

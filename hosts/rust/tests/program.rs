@@ -8,7 +8,9 @@ mod support;
 use independent::appendix::{self, Entry};
 use independent::{base64, making};
 use room::{installed, Ran, Room, ROOT};
+use std::ffi::OsStr;
 use std::fs;
+use std::os::unix::ffi::OsStrExt;
 use std::path::Path;
 use std::process::{Command, Stdio};
 use support::hex;
@@ -185,6 +187,21 @@ fn wrong_files_get_a_hint_and_the_verdict_stays() {
     hinted(&[room.put("marked", &marked)], &format!("'marked' {utf16}"));
     let right = room.put("right", &[1; 4]);
     assert_eq!(room.run(&[pile, right]).said, "");
+}
+
+/// The proved program opens files by text alone.
+#[test]
+fn a_file_whose_name_is_no_utf_8_counts_as_missing() {
+    let room = Room::new("names");
+    let made = making::pile_of(&[(1000, 10), (1500, 10)]);
+    let (pile, answers) = (OsStr::from_bytes(b"pile \xff"), room.put("answers", &made.answers));
+    fs::write(room.folder.join(pile), &made.pile).expect("a file can be written");
+    let ran = room.run(&[pile, OsStr::new(answers)]);
+    let due = "trawl: 'pile \u{fffd}' cannot be read, and counts as empty: its name is no UTF-8\n";
+    assert_eq!((ran.out.as_str(), ran.said.as_str(), ran.status), ("refused 15\n", due, Some(0)));
+    // An action takes any name.
+    let judged = |pile: &OsStr| room.run(&["--judge".as_ref(), pile, OsStr::new(answers)]).out;
+    assert_eq!(judged(pile), judged(OsStr::new(room.put("pile", &made.pile))));
 }
 
 /// Wherever answers are taken, what is wrong with them is said, also of a pipe, and also where the

@@ -17,6 +17,7 @@ pub fn unreadable(file: &Path) -> Option<String> {
     let why = match fs::metadata(file) {
         Err(error) => reason(error),
         Ok(found) if found.is_dir() => "it is a folder".to_string(),
+        Ok(_) if file.to_str().is_none() => "its name is no UTF-8".to_string(),
         // Nothing but a file is opened here: of a pipe the program is to have every byte.
         Ok(found) if !found.is_file() => return None,
         Ok(_) => reason(File::open(file).err()?),
