@@ -1,24 +1,22 @@
 -- What is encoded is decoded again: decode64 (encode64 x) is x, for every list of bytes x.
-use Prim.Native.Nat.{ℕ, zero, suc, ◌+◌, ◌*◌, ◌-◌, ◌/◌, ◌%◌, ◌≤◌, ◌<◌}
-use mathlib.Core.Path.{◌≡◌, refl, sym, ◌∙◌, ap, ap₂}
-use mathlib.Core.List.{List, [], ◌∷◌, ◌++◌}
+use Rattle.std.specs.Prelude.{Some}
+use Prim.Native.Nat.{ℕ, suc, ◌+◌, ◌*◌, ◌/◌, ◌%◌, ◌<◌}
+use mathlib.Core.Path.{◌≡◌, refl, ap}
+use mathlib.Core.List.{List, [], ◌∷◌}
 use native.Mathlib.Omega.{arith}
-use borrow.Author.Tests.{eq-eqb, ne_eqb}
-use lib.Dec.{eqb}
-use lib.ListN.{length, get_or}
+use borrow.Author.Tests.{ne_eqb}
 use Rattle.laws.specs.Bytes.{Bytes}
 use Rattle.laws.specs.Pick.{pick}
-use Rattle.base64_strict.specs.declared.Group.{Group}
-use Rattle.base64_strict.specs.declared.Group.TheVariants.{Three, Two, One, Bad}
-use Rattle.base64_strict.specs.Alphabet.{letter_of, sextet_of, pad}
-use Rattle.base64_strict.specs.Encode.{encode_one, encode_two, encode_three, encode64}
-use Rattle.base64_strict.specs.Decode.{Decoded, bytes, none, onto, with_group, high, middle, low, one_of, two_of, three_of}
+use Rattle.base64_strict.specs.declared.Group.TheVariants.{Three, Two, One}
+use Rattle.base64_strict.specs.Alphabet.{letter_of, pad}
+use Rattle.base64_strict.specs.Encode.{encode64}
+use Rattle.base64_strict.specs.Decode.{bytes, onto, high, middle, low, one_of, two_of, three_of}
 use Rattle.base64_strict.specs.Decode.{group_of, decode64}
 use Rattle.base64_strict.proofs.Tables.{sextet-letter, letter-no-pad}
 
 -- the three kinds of a group, with letters for its numbers
 group-three : (p q r t : ℕ) → p < 64 → q < 64 → r < 64 → t < 64
-    → group_of (letter_of p) (letter_of q) (letter_of r) (letter_of t) ≡ Three (high p q) (middle q r) (low r t)
+    → group_of (letter_of p) (letter_of q) (letter_of r) (letter_of t) ≡ Some (Three (high p q) (middle q r) (low r t))
 unfolding group_of three_of pick
 group-three p q r t hp hq hr ht = simp (
   sextet-letter p hp,
@@ -33,7 +31,7 @@ group-three p q r t hp hq hr ht = simp (
 )
 
 group-two : (p q r : ℕ) → p < 64 → q < 64 → r < 64 → r % 4 ≡ 0
-    → group_of (letter_of p) (letter_of q) (letter_of r) pad ≡ Two (high p q) (middle q r)
+    → group_of (letter_of p) (letter_of q) (letter_of r) pad ≡ Some (Two (high p q) (middle q r))
 unfolding group_of two_of pick
 group-two p q r hp hq hr h = simp (
   sextet-letter p hp,
@@ -46,7 +44,7 @@ group-two p q r hp hq hr h = simp (
   ne_eqb (letter_of r) pad (letter-no-pad r hr),
 )
 
-group-one : (p q : ℕ) → p < 64 → q < 64 → q % 16 ≡ 0 → group_of (letter_of p) (letter_of q) pad pad ≡ One (high p q)
+group-one : (p q : ℕ) → p < 64 → q < 64 → q % 16 ≡ 0 → group_of (letter_of p) (letter_of q) pad pad ≡ Some (One (high p q))
 unfolding group_of one_of pick
 group-one p q hp hq h =
     simp (sextet-letter p hp, sextet-letter q hq, ne_eqb p 64 (λ e. omega arith), ne_eqb q 64 (λ e. omega arith), h)

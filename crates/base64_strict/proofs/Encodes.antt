@@ -1,11 +1,13 @@
 -- Laws about `encode64`, for a loop that goes over the bytes by threes.
-use Prim.Native.Nat.{ℕ, zero, suc, ◌+◌, ◌*◌, ◌-◌, ◌/◌, ◌%◌, ◌≤◌, ◌<◌}
-use mathlib.Core.Path.{◌≡◌, refl, sym, ◌∙◌, ap, ap₂}
+use Prim.Native.Nat.{◌-◌}
+use Prim.Native.Nat.{ℕ, ◌+◌, ◌*◌, ◌/◌, ◌≤◌, ◌<◌}
+use mathlib.Core.Path.{◌≡◌, refl, sym, ◌∙◌, ap}
 use mathlib.Core.List.{List, [], ◌∷◌, ◌++◌}
 use native.Mathlib.Omega.{arith}
 use native.Mathlib.Numerals.{add-one}
-use lib.ListN.{length, get_or, drop, drop_of_length-le, length-append}
+use lib.ListN.{length, get_or, take, drop, length-drop, drop_of_length-le}
 use lib.Seq.{drop-cons}
+use Rattle.std.proofs.Math.Seq.{take-length}
 use Rattle.laws.specs.Pasted.{pasted}
 use Rattle.laws.proofs.Filled.{Filled, filled_next, filled-fit}
 use Rattle.base64_strict.specs.Encode.{encode_one, encode_two, encode_three, encode64}
@@ -48,6 +50,10 @@ encode_one_lem s k h = let i : length s ≤ k + 1 = omega arith in rw (step s k 
 pub encode-none : (s : List ℕ) (k : ℕ) → length s ≤ k → encode64 (drop k s) ≡ []
 unfolding encode64
 encode-none s k h = rw (drop_of_length-le s h) refl
+
+-- what stands behind the first n bytes, as a pattern has it
+pub tail-of : (s : List ℕ) (n : ℕ) → take (length s - n) (drop n s) ≡ drop n s
+tail-of s n = rw (sym (length-drop n s)) (take-length (drop n s))
 
 -- ---- The turns of a writer that has the bytes from k on left.
 module _ {E was out : List ℕ} {n : ℕ} (s : List ℕ) (k : ℕ) (f : Filled E (encode64 (drop k s)) was n out) where

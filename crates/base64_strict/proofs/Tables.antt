@@ -1,16 +1,20 @@
 -- The alphabet as a list: its letters are what the rule says, each is read as its number, and none is a pad. One test
 -- that antt computes.
 use Prim.Native.Char.{code}
+use Rattle.std.specs.Prelude.{None, Option, Some}
+use Rattle.std.specs.Option.{unwrap_or}
+use Rattle.std.proofs.lemmas.Option.{none-some}
 use Prim.Native.Nat.{ℕ, ◌+◌, ◌*◌, ◌%◌, ◌≤◌, ◌<◌}
 use mathlib.Core.Path.{◌≡◌, refl, sym, ◌∙◌, ap}
 use mathlib.Core.Bool.{Bool, true, false, not, ◌||◌, ◌&&◌, true≢false}
 use native.Mathlib.Omega.{arith}
-use borrow.Author.Tests.{ne_eqb, le-ltb, lt-leb, ltb-true, ltb-false, eqb-false, not-true}
+use borrow.Author.Tests.{eq-eqb, eqb-true, ne_eqb, le-ltb, lt-leb, ltb-true, ltb-false, eqb-false, not-true}
 use lib.Dec.{T, T_not, eqb, leb, ltb, eqb→eq, leb→le, eqb_refl}
 use lib.ListN.{get_or, replicate}
+use mir.Val.{bool_byte}
 use Rattle.laws.specs.Pick.{pick}
 use Rattle.digits.proofs.Table.{at, both, both_left, both_right}
-use Rattle.base64_strict.specs.Alphabet.{letters, letter_of, sextet_of, is_letter, pad}
+use Rattle.base64_strict.specs.Alphabet.{letters, letter_of, sextet_of, is_letter, number_of, pad}
 
 letter-right : ℕ → ℕ → Bool
 letter-right k x = both (eqb x (letter_of k)) (both (eqb (sextet_of x) k) (not (eqb x pad)))
@@ -82,6 +86,33 @@ by_size c false e f = absurd (f (sextet-over c (omega (arith, ltb-false c 256 e)
 pub back-letter : (c : ℕ) → (sextet_of c ≡ 64 → ⊥) → (letter_of (sextet_of c) ≡ c) × (sextet_of c < 64)
 back-letter c f = by_size c (ltb c 256) refl f
 
+-- ---- the number of a letter, as code has it
+pub number-is : {n : ℕ} (c : ℕ) → n ≡ sextet_of c → n < 64 → Some n ≡ number_of c
+unfolding is_letter pick
+number-is c e h = rw (ne_eqb (sextet_of c) 64 (λ z. omega arith)) (ap Some e)
+
+pub number-not : (c : ℕ) → 64 ≡ sextet_of c → None ≡ number_of c
+unfolding is_letter pick
+number-not c e = rw (eq-eqb (sextet_of c) 64 (sym e)) refl
+
+pub number-known : {p : ℕ} (c : ℕ) → Some p ≡ number_of c → (p ≡ sextet_of c) × (p < 64)
+unfolding is_letter pick
+number-known {p} c e = by (eqb (sextet_of c) 64) refl e
+  where
+    by : (b : Bool) → eqb (sextet_of c) 64 ≡ b → Some p ≡ pick (not b) (Some (sextet_of c)) None → (p ≡ sextet_of c) × (p < 64)
+    by true f z = absurd (none-some p (sym z))
+    by false f z =
+        let i : p ≡ sextet_of c = ap (λ (o : Option ℕ). unwrap_or o 0) z in
+        (i, omega (arith, i, (back-letter c (eqb-false (sextet_of c) 64 f)).1))
+
+pub number-none : (c : ℕ) → None ≡ number_of c → sextet_of c ≡ 64
+unfolding is_letter pick
+number-none c e = by (eqb (sextet_of c) 64) refl e
+  where
+    by : (b : Bool) → eqb (sextet_of c) 64 ≡ b → None ≡ pick (not b) (Some (sextet_of c)) None → sextet_of c ≡ 64
+    by true f z = eqb-true _ _ f
+    by false f z = absurd (none-some (sextet_of c) z)
+
 -- ---- letters with no branch: the tests of a letter by its range, and its number as a sum
 abbrev ranged : ℕ → Bool
 ranged b =
@@ -122,6 +153,12 @@ letter-number b e = not-true (eqb (sextet_of b) 64) e
 
 pub letter-small : (b : ℕ) → is_letter b ≡ true → sextet_of b < 64
 letter-small b e = (back-letter b (eqb-false (sextet_of b) 64 (letter-number b e))).1
+
+-- a test as a number, as code has it
+pub one-if : {n : ℕ} (b : Bool) → n ≡ bool_byte b → n ≡ pick b 1 0
+unfolding pick
+one-if true e = e
+one-if false e = e
 
 pub shifted-number : {low slash capital small : ℕ} (b : ℕ) → low ≡ pick (ltb b (code "0")) 1 0 → slash ≡ pick (eqb b (code "/")) 1 0
     → capital ≡ pick (leb (code "A") b) 1 0 → small ≡ pick (leb (code "a") b) 1 0 → b < 256 → is_letter b ≡ true

@@ -1,4 +1,5 @@
 -- A text that decodes is the encoding of what it decodes to: padding and spare bits leave no second spelling.
+use Rattle.std.specs.Prelude.{None, Option, Some}
 use Prim.Native.Nat.{ℕ, ◌+◌, ◌*◌, ◌/◌, ◌%◌, ◌<◌}
 use mathlib.Core.Path.{◌≡◌, refl, sym, ◌∙◌, ap, ap₂}
 use mathlib.Core.Bool.{Bool, true, false}
@@ -8,7 +9,7 @@ use borrow.Author.Tests.{eqb-true, eqb-false}
 use lib.Dec.{T, eqb}
 use Rattle.laws.specs.Pick.{pick}
 use Rattle.base64_strict.specs.declared.Group.{Group}
-use Rattle.base64_strict.specs.declared.Group.TheVariants.{Three, Two, One, Bad}
+use Rattle.base64_strict.specs.declared.Group.TheVariants.{Three, Two, One}
 use Rattle.base64_strict.specs.Alphabet.{letter_of, sextet_of, pad}
 use Rattle.base64_strict.specs.Encode.{encode_one, encode_two, encode_three, encode64}
 use Rattle.base64_strict.specs.Decode.{Decoded, bytes, none, with_group, high, middle, low, one_of, two_of, three_of, group_of}
@@ -18,16 +19,16 @@ use Rattle.base64_strict.proofs.Tables.{back-letter}
 small : (c : ℕ) → eqb (sextet_of c) 64 ≡ false → (letter_of (sextet_of c) ≡ c) × (sextet_of c < 64)
 small c f = back-letter c (eqb-false (sextet_of c) 64 f)
 
-by-pick : (P : Group → Type 0) (b : Bool) (x y : Group) → (b ≡ true → P x) → (b ≡ false → P y) → P (pick b x y)
+by-pick : (P : Option Group → Type 0) (b : Bool) (x y : Option Group) → (b ≡ true → P x) → (b ≡ false → P y) → P (pick b x y)
 unfolding pick
 by-pick P true x y f g = f refl
 by-pick P false x y f g = g refl
 
-abbrev Spelt : ℕ → ℕ → ℕ → ℕ → Group → Type 0
-Spelt a b c d (Three x y z) = encode_three x y z ≡ a ∷ b ∷ c ∷ d ∷ []
-Spelt a b c d (Two x y) = encode_two x y ≡ a ∷ b ∷ c ∷ d ∷ []
-Spelt a b c d (One x) = encode_one x ≡ a ∷ b ∷ c ∷ d ∷ []
-Spelt a b c d Bad = T true
+abbrev Spelt : ℕ → ℕ → ℕ → ℕ → Option Group → Type 0
+Spelt a b c d (Some (Three x y z)) = encode_three x y z ≡ a ∷ b ∷ c ∷ d ∷ []
+Spelt a b c d (Some (Two x y)) = encode_two x y ≡ a ∷ b ∷ c ∷ d ∷ []
+Spelt a b c d (Some (One x)) = encode_one x ≡ a ∷ b ∷ c ∷ d ∷ []
+Spelt a b c d None = T true
 
 three-spelt : (p q r t a b c d : ℕ) → p < 64 → q < 64 → r < 64 → t < 64 → letter_of p ≡ a → letter_of q ≡ b
     → letter_of r ≡ c → letter_of t ≡ d
@@ -79,16 +80,16 @@ abbrev Encodes : List ℕ → Decoded → Type 0
 Encodes s (bytes x) = encode64 x ≡ s
 Encodes s none = T true
 
-join : (a b c d : ℕ) (g : Group) (l : List ℕ) (m : Decoded) → Spelt a b c d g → Encodes l m
+join : (a b c d : ℕ) (g : Option Group) (l : List ℕ) (m : Decoded) → Spelt a b c d g → Encodes l m
     → Encodes (a ∷ b ∷ c ∷ d ∷ l) (with_group g l m)
 unfolding encode64
-join a b c d (Three x y z) l (bytes m) h i = ap₂ (λ u v. u ++ v) h i
-join a b c d (Three x y z) l none h i = tt
-join a b c d (Two x y) [] m h i = h
-join a b c d (Two x y) (k ∷ l) m h i = tt
-join a b c d (One x) [] m h i = h
-join a b c d (One x) (k ∷ l) m h i = tt
-join a b c d Bad l m h i = tt
+join a b c d (Some (Three x y z)) l (bytes m) h i = ap₂ (λ u v. u ++ v) h i
+join a b c d (Some (Three x y z)) l none h i = tt
+join a b c d (Some (Two x y)) [] m h i = h
+join a b c d (Some (Two x y)) (k ∷ l) m h i = tt
+join a b c d (Some (One x)) [] m h i = h
+join a b c d (Some (One x)) (k ∷ l) m h i = tt
+join a b c d None l m h i = tt
 
 encodes : (s : List ℕ) → Encodes s (decode64 s)
 unfolding decode64 encode64

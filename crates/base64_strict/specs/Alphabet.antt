@@ -1,6 +1,6 @@
 -- RFC 4648, table 1: 0 to 25 are A to Z, 26 to 51 a to z, 52 to 61 0 to 9, 62 is + and 63 is /.
 use Prim.Native.Char.{code}
-use Rattle.std.specs.Prelude.{ℕ, ◌+◌, ◌-◌, Bool, not, List, eqb, leb, ltb}
+use Rattle.std.specs.Prelude.{ℕ, ◌+◌, ◌-◌, Bool, not, List, eqb, leb, ltb, None, Option, Some}
 use Rattle.laws.specs.Ascii.{ascii}
 use Rattle.laws.specs.Pick.{pick}
 
@@ -25,6 +25,10 @@ sextet_of c =
 -- a letter of the alphabet
 unfoldable pub is_letter : ℕ → Bool
 is_letter c = not (eqb (sextet_of c) 64)
+
+-- the number of a letter, where a character is one
+abbrev pub number_of : ℕ → Option ℕ
+number_of c = pick (is_letter c) (Some (sextet_of c)) None
 
 -- the pad character
 abbrev pub pad : ℕ

@@ -1,7 +1,7 @@
 // The alphabet: RFC 4648, table 1. Letters are read by tests, since a table is copied wherever it is named. `encode`
 // names it once and lends it.
-ghost use Rattle.std.specs.Prelude.{◌≡◌, ◌≤◌, ◌<◌};
-ghost use Rattle.base64_strict.specs.Alphabet.{letters, letter_of, sextet_of};
+ghost use Rattle.std.specs.Prelude.{◌≡◌, ◌<◌};
+ghost use Rattle.base64_strict.specs.Alphabet.{letters, letter_of, number_of};
 
 // The letter of a number.
 pub fn letter(alphabet: &[u8], n: u8) -> u8
@@ -11,34 +11,16 @@ pub fn letter(alphabet: &[u8], n: u8) -> u8
     alphabet[n as usize]
 }
 
-// The number of a letter, and 64 for what is no letter. A character is any number, and a letter is one of ASCII.
-pub fn sextet(c: u32) -> u8
-    ensures { (result ≡ sextet_of c) × (result ≤ 64) }
+// The number of a letter. A character is any number, and a letter is one of ASCII.
+pub fn sextet(c: u32) -> Option<u8>
+    ensures { result ≡ number_of c }
 {
-    if 0x7F < c {
-        return 64;
+    match u8::try_from(c).ok()? {
+        b @ b'A'..=b'Z' => Some(b - b'A'),
+        b @ b'a'..=b'z' => Some(b - b'a' + 26),
+        b @ b'0'..=b'9' => Some(b - b'0' + 52),
+        b'+' => Some(62),
+        b'/' => Some(63),
+        _ => None,
     }
-    let b = c as u8;
-    if b == b'+' {
-        return 62;
-    }
-    if b == b'/' {
-        return 63;
-    }
-    if b < b'0' {
-        return 64;
-    }
-    if b <= b'9' {
-        return b - b'0' + 52;
-    }
-    if b < b'A' {
-        return 64;
-    }
-    if b <= b'Z' {
-        return b - b'A';
-    }
-    if b < b'a' {
-        return 64;
-    }
-    if b <= b'z' { b - b'a' + 26 } else { 64 }
 }

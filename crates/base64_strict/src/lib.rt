@@ -8,23 +8,15 @@ mod letters;
 
 pub use decoding::group_of;
 pub use encoding::encode;
-pub use letters::{is_letter, three_of, triple_of};
+pub use letters::{is_letter, three_of};
 
-// What four characters stand for.
+// The bytes that four characters stand for: three, or fewer in the last group. Characters that no bytes are written as are
+// no group, and have None in its place. No array with a length beside it: each number of bytes has its own rule of pads.
 #[derive(Clone, Copy)]
 pub enum Group {
     Three(u8, u8, u8),
     Two(u8, u8),
     One(u8),
-    Bad,
-}
-
-// Three bytes.
-#[derive(Clone, Copy)]
-pub struct Triple {
-    pub x: u8,
-    pub y: u8,
-    pub z: u8,
 }
 
 // Fills the last group where it has fewer than three bytes.

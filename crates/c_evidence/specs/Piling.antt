@@ -1,12 +1,9 @@
 -- What is said of a pile, as structs for C.
-use Rattle.std.specs.Prelude.{ℕ}
+use Rattle.refusal.specs.declared.Refusal.{Refusal}
+use Rattle.std.specs.Prelude.{ℕ, Err, Ok, Result}
 use Rattle.pile.specs.declared.Judgement.{Judgement}
 use Rattle.pile_report.specs.Report.{report_number, report_at}
 use Rattle.pile_report.specs.Taking.{taken_number}
-use Rattle.pile_report.specs.declared.Report.{Report}
-use Rattle.pile_report.specs.declared.Report.TheVariants.{Pair, Refused}
-use Rattle.pile_report.specs.declared.Taken.{Taken}
-use Rattle.pile_report.specs.declared.Taken.TheVariants as taken
 use Rattle.c_packets.specs.Judging.{verdict_with}
 use Rattle.c_packets.specs.declared.TbVerdict.{TbVerdict}
 use Rattle.c_evidence.specs.declared.TbJudged.{TbJudged}
@@ -34,18 +31,18 @@ tb_judged j = placed j.place (verdict_with j.verdict j.pubk)
 
 -- the answer of the check of a report: the pair, or a refusal with the record and the byte that it carries, and 0 where
 -- it carries none
-abbrev pub tb_reported : Report → TbReported
-tb_reported (Pair i j) = record { code = 0; place = 0; at = report_at (Pair i j); first = i; second = j }
-tb_reported (Refused why k) =
+abbrev pub tb_reported : Result (ℕ × ℕ) (Refusal × ℕ) → TbReported
+tb_reported (Ok (i, j)) = record { code = 0; place = 0; at = report_at (Ok (i, j)); first = i; second = j }
+tb_reported (Err (why, k)) =
     record {
-      code = report_number (Refused why k);
+      code = report_number (Err (why, k));
       place = k;
-      at = report_at (Refused why k);
+      at = report_at (Err (why, k));
       first = 0;
       second = 0;
     }
 
 -- the answer of the cutter: the places of the run's first and last record, or a refusal
-abbrev pub tb_cut : Taken → TbCut
-tb_cut (taken.Run i j) = record { code = 0; first = i; last = j }
-tb_cut (taken.Refused why) = record { code = taken_number (taken.Refused why); first = 0; last = 0 }
+abbrev pub tb_cut : Result (ℕ × ℕ) Refusal → TbCut
+tb_cut (Ok (i, j)) = record { code = 0; first = i; last = j }
+tb_cut (Err why) = record { code = taken_number (Err why); first = 0; last = 0 }

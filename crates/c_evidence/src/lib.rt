@@ -7,10 +7,7 @@ mod publishing;
 mod signing;
 mod walking;
 
-pub use piling::{judgement_told, report_told, run_told};
-pub use publishing::{forwarded_told, published_told, read_told};
 pub use signing::answers_told;
-pub use walking::{asked_told, took_told};
 
 // What `tb_judge` answers: what is said of one record, with its place.
 #[repr(C)]

@@ -2,13 +2,8 @@
 // zeros. No function has a `requires`.
 #![tactic(auto)]
 
-mod parts;
+mod addresses;
 mod reading;
-mod writing;
-
-pub use parts::{addressed_told, part_told};
-pub use reading::servers_told;
-pub use writing::listing_told;
 
 // What `tb_read_servers` answers: how many records there are, and how many servers were passed over.
 #[repr(C)]

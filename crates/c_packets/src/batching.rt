@@ -3,22 +3,24 @@ ghost use Rattle.std.specs.Prelude.{◌≡◌};
 ghost use Rattle.c_packets.specs.Batching.{tb_batch};
 
 use super::TbBatch;
-use server_batch::BatchAnswer;
+use refusal::Refusal;
 
 // How many packets were answered, or why nothing was written.
-pub fn batch_told(b: BatchAnswer) -> TbBatch
-    ensures { result ≡ tb_batch b }
-{
-    match b {
-        BatchAnswer::Answered(n) => TbBatch {
-            code: 0,
-            at: 0,
-            answered: n as u64,
-        },
-        BatchAnswer::Refused(why) => TbBatch {
-            code: why.code as u32,
-            at: why.at as u64,
-            answered: 0,
-        },
+impl From<Result<usize, Refusal>> for TbBatch {
+    ghost from_gives = { λ b r. r ≡ tb_batch b };
+
+    fn from(b: Result<usize, Refusal>) -> TbBatch {
+        match b {
+            Ok(n) => TbBatch {
+                code: 0,
+                at: 0,
+                answered: n as u64,
+            },
+            Err(why) => TbBatch {
+                code: why.code as u32,
+                at: why.at as u64,
+                answered: 0,
+            },
+        }
     }
 }

@@ -6,12 +6,12 @@ use super::TbVerdict;
 use check_response::{Checked, Verdict};
 
 // The answer of the check, as a struct.
-pub fn verdict_told(c: Checked) -> TbVerdict
-    ensures { result ≡ tb_verdict c }
-{
-    let v = c.verdict;
-    let key = c.pubk;
-    verdict_with(v, key)
+impl From<Checked> for TbVerdict {
+    ghost from_gives = { λ c r. r ≡ tb_verdict c };
+
+    fn from(c: Checked) -> TbVerdict {
+        verdict_with(c.verdict, c.pubk)
+    }
 }
 
 // A response that passes has code 0 and its window, and one that is refused its code, its place and zeros; the key is
@@ -20,7 +20,7 @@ pub fn verdict_with(v: Verdict, key: [u8; 32]) -> TbVerdict
     ensures { result ≡ verdict_with v key }
 {
     match v {
-        Verdict::Valid(w) => TbVerdict {
+        Ok(w) => TbVerdict {
             code: 0,
             radi: w.radi,
             at: 0,
@@ -31,7 +31,7 @@ pub fn verdict_with(v: Verdict, key: [u8; 32]) -> TbVerdict
             maxt: w.maxt,
             pubk: key,
         },
-        Verdict::Refused(why) => TbVerdict {
+        Err(why) => TbVerdict {
             code: why.code as u32,
             radi: 0,
             at: why.at as u64,

@@ -14,14 +14,10 @@ mod reading;
 mod stamping;
 mod writing;
 
-pub use batching::batch_told;
-pub use building::{path_told, root_told, rows_told};
-pub use clocking::time_told;
-pub use judging::{verdict_told, verdict_with};
+pub use building::rows_told;
+pub use clocking::{Columns, rows};
+pub use judging::verdict_with;
 pub use numbers::{number, yes};
-pub use reading::{parts_told, request_told, response_told};
-pub use stamping::old_told;
-pub use writing::wrote_told;
 
 // What `tb_read_request` answers.
 #[repr(C)]

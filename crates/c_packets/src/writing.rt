@@ -3,22 +3,24 @@ ghost use Rattle.std.specs.Prelude.{◌≡◌};
 ghost use Rattle.c_packets.specs.Writing.{tb_wrote};
 
 use super::TbWrote;
-use wire_request::Wrote;
+use refusal::Refusal;
 
 // How many bytes were written, or why none were.
-pub fn wrote_told(w: Wrote) -> TbWrote
-    ensures { result ≡ tb_wrote w }
-{
-    match w {
-        Wrote::Done(n) => TbWrote {
-            code: 0,
-            at: 0,
-            length: n as u64,
-        },
-        Wrote::Refused(why) => TbWrote {
-            code: why.code as u32,
-            at: why.at as u64,
-            length: 0,
-        },
+impl From<Result<usize, Refusal>> for TbWrote {
+    ghost from_gives = { λ w r. r ≡ tb_wrote w };
+
+    fn from(w: Result<usize, Refusal>) -> TbWrote {
+        match w {
+            Ok(n) => TbWrote {
+                code: 0,
+                at: 0,
+                length: n as u64,
+            },
+            Err(why) => TbWrote {
+                code: why.code as u32,
+                at: why.at as u64,
+                length: 0,
+            },
+        }
     }
 }

@@ -1,7 +1,8 @@
 -- Each export's contract settles its result, and what it leaves in the lent memory: those of the clock.
-use mathlib.Core.Path.{refl, sym, ap, ◌∙◌}
+use mathlib.Core.Path.{refl, sym, ap, ap₂, ◌∙◌}
 use Rattle.laws.proofs.Once.{Settles}
-use Rattle.clock.specs.declared.Clock.{Clock}
+use Prim.Native.Nat.{ℕ}
+use Rattle.c_packets.specs.declared.clocking.Columns.{Columns}
 use Rattle.capi.proofs.clocking.tb_clock_start_fields.Kinds as tb-clock-start-fields-kinds
 use Rattle.capi.proofs.clocking.tb_clock_start_fields.Reads as tb-clock-start-fields-reads
 use Rattle.capi.proofs.clocking.tb_clock_take_fields.Kinds as tb-clock-take-fields-kinds
@@ -13,8 +14,8 @@ pub tb-clock-start-fields-once : Settles tb-clock-start-fields-kinds.ps tb-clock
     tb-clock-start-fields-reads.Learnt
 tb-clock-start-fields-once κs a x u y v p q = (
   p.0 ∙ sym q.0,
-  ap (λ (c : Clock). (c.drift, (c.low, (c.high, (c.maxt, (c.sent, (c.received, (tt, tt))))))))
-      (p.1 ∙ sym q.1),
+  ap₂ (λ (d : ℕ) (c : Columns). (d, (c.low, (c.high, (c.maxt, (c.sent, (c.received, (tt, tt))))))))
+      (p.1 ∙ sym q.1) (p.2 ∙ sym q.2),
 )
 
 pub tb-clock-take-fields-once : Settles tb-clock-take-fields-kinds.ps tb-clock-take-fields-kinds.r
@@ -22,7 +23,7 @@ pub tb-clock-take-fields-once : Settles tb-clock-take-fields-kinds.ps tb-clock-t
 tb-clock-take-fields-once κs a x u y v p q = (
   p.0 ∙ sym q.0,
   ap
-      (λ (c : Clock).
+      (λ (c : Columns).
       (tt, (c.low, (c.high, (c.maxt, (c.sent, (c.received, (tt, (tt, (tt, (tt, (tt, (tt, tt)))))))))))))
       (p.1 ∙ sym q.1),
 )

@@ -1,4 +1,6 @@
 -- Each export's contract settles its result, and what it leaves in the lent memory: those of the measuring walk.
+use Rattle.refusal.specs.declared.Refusal.{Refusal}
+use Rattle.std.specs.Prelude.{Result}
 use mathlib.Core.Path.{◌≡◌, sym, ap, ap₂, ◌∙◌}
 use mathlib.Core.List.{List}
 use Prim.Native.Nat.{ℕ}
@@ -45,8 +47,8 @@ took-same w h x pile p q =
     let same = said-once w h x pile p.answer q.answer p.right q.right in (
       p.same ∙ ap tb_took same ∙ sym q.same,
       (
-        p.stepped ∙ ap (λ (t : Said). walk_after t w h x) same ∙ sym q.stepped,
-        p.left ∙ ap (λ (t : Said). pile_after t w x pile) same ∙ sym q.left,
+        p.stepped ∙ ap (λ (t : Result Said Refusal). walk_after t w h x) same ∙ sym q.stepped,
+        p.left ∙ ap (λ (t : Result Said Refusal). pile_after t w x pile) same ∙ sym q.left,
       ),
     )
 

@@ -32,7 +32,7 @@ pub extern "C" fn tb_answer_batch(
         seed.now midp radi room rows.old out.old out_lengths.old result.code
         rows.new out.new out_lengths.new }
 {
-    c_packets::batch_told(server_batch::answer_batch(
+    server_batch::answer_batch(
         packets,
         slot,
         lengths,
@@ -45,5 +45,6 @@ pub extern "C" fn tb_answer_batch(
         out,
         room,
         out_lengths,
-    ))
+    )
+    .into()
 }

@@ -21,7 +21,7 @@ pub extern "C" fn tb_leads(leaf: &[u8; 32], indx: u32, path: &[u8], root: &[u8; 
 pub extern "C" fn tb_root(leaves: &[u8]) -> TbRooted
     ensures { result ≡ tb_rooted (rooted_of leaves.now) }
 {
-    c_packets::root_told(tree_build::root(leaves))
+    tree_build::root(leaves).into()
 }
 
 // The path of the leaf at a place, at the front of out.
@@ -31,7 +31,7 @@ pub extern "C" fn tb_path(leaves: &[u8], place: usize, out: &mut [u8]) -> TbPlac
         ≡ tb_placed (path_answer (count_of (length leaves.now)) place (length out.old)) }
     ensures out_after { out.new ≡ written result.code (path_bytes leaves.now place) out.old }
 {
-    c_packets::path_told(tree_build::path(leaves, place, out))
+    tree_build::path(leaves, place, out).into()
 }
 
 // All rows of the tree of a batch, at the front of out. The root is the last 32 bytes of them.
@@ -54,5 +54,5 @@ pub extern "C" fn tb_path_from(rows: &[u8], count: usize, place: usize, out: &mu
     ensures out_after { out.new
         ≡ written result.code (from_bytes rows.now count place) out.old }
 {
-    c_packets::path_told(tree_build::path_from(rows, count, place, out))
+    tree_build::path_from(rows, count, place, out).into()
 }

@@ -1,12 +1,12 @@
 // The clock, for hosts. The state is memory of the host's, a struct of six fields. Each crosses by itself, those that
 // change as pointers, and the header's inline functions take the struct.
 ghost use Rattle.std.specs.Prelude.{◌≡◌};
-ghost use Rattle.clock.specs.State.{started_of, taken_of};
+ghost use Rattle.clock.specs.State.{number, started_of, taken_of};
 ghost use Rattle.clock.specs.Answer.{answer_of};
 ghost use Rattle.c_packets.specs.Clocking.{tb_time};
-ghost use Rattle.capi.specs.Clocking.{clock_of, kept_of};
+ghost use Rattle.capi.specs.Clocking.{columns, clock_of, kept_of, drift_after, columns_after};
 
-use c_packets::TbTime;
+use c_packets::{Columns, TbTime, rows};
 use clock::Clock;
 use clock_spans::Kept;
 
@@ -21,36 +21,32 @@ pub extern "C" fn tb_clock_start_fields(
     received: &mut [u64; 16],
     bound: u32,
 ) -> u32
-    ensures { (result ≡ (started_of (clock_of drift.old low.old high.old
-        maxt.old sent.old received.old) bound).refusal.code)
-        × (clock_of drift.new low.new high.new maxt.new sent.new
-        received.new
-        ≡ (started_of (clock_of drift.old low.old high.old maxt.old
-        sent.old received.old) bound).clock) }
+    ensures { (result ≡ number (started_of bound))
+        × (drift.new ≡ drift_after drift.old (started_of bound))
+        × (columns low.new high.new maxt.new sent.new received.new
+        ≡ columns_after (columns low.old high.old maxt.old sent.old received.old)
+        (started_of bound)) }
 {
-    let c = Clock {
-        drift: *drift,
-        low: *low,
-        high: *high,
-        maxt: *maxt,
-        sent: *sent,
-        received: *received,
-    };
-    let m = clock::start(c, bound);
-    let next = m.clock;
-    *drift = next.drift;
-    let l = next.low;
-    *low = l;
-    let h = next.high;
-    *high = h;
-    let x = next.maxt;
-    *maxt = x;
-    let s = next.sent;
-    *sent = s;
-    let r = next.received;
-    *received = r;
-    let why = m.refusal;
-    c_packets::number(why)
+    match clock::start(bound) {
+        Ok(next) => {
+            let blank = next.kept;
+            let Columns {
+                low: l,
+                high: h,
+                maxt: m,
+                sent: s,
+                received: r,
+            } = Columns::from(blank);
+            *drift = next.drift;
+            *low = l;
+            *high = h;
+            *maxt = m;
+            *sent = s;
+            *received = r;
+            0
+        }
+        Err(why) => c_packets::number(why),
+    }
 }
 
 // Takes a window of a server: 0, 32 or 26. On a refusal the state stays.
@@ -69,23 +65,24 @@ pub extern "C" fn tb_clock_take_fields(
     window_sent: u64,
     window_received: u64,
 ) -> u32
-    ensures { (result ≡ (taken_of (clock_of drift low.old high.old maxt.old
-        sent.old received.old) server
-        (kept_of window_low window_high window_maxt window_sent window_received)).refusal.code)
-        × (clock_of drift low.new high.new maxt.new sent.new
-        received.new
-        ≡ (taken_of (clock_of drift low.old high.old maxt.old sent.old
-        received.old) server
-        (kept_of window_low window_high window_maxt window_sent window_received)).clock) }
+    ensures { (result ≡ number (taken_of
+        (clock_of drift (columns low.old high.old maxt.old sent.old received.old)) server
+        (kept_of window_low window_high window_maxt window_sent window_received)))
+        × (columns low.new high.new maxt.new sent.new received.new
+        ≡ columns_after (columns low.old high.old maxt.old sent.old received.old)
+        (taken_of
+        (clock_of drift (columns low.old high.old maxt.old sent.old received.old)) server
+        (kept_of window_low window_high window_maxt window_sent window_received))) }
 {
-    let c = Clock {
-        drift: drift,
+    let before = Columns {
         low: *low,
         high: *high,
         maxt: *maxt,
         sent: *sent,
         received: *received,
     };
+    let kept = rows(before);
+    let c = Clock { drift, kept };
     let w = Kept {
         low: window_low,
         high: window_high,
@@ -93,20 +90,24 @@ pub extern "C" fn tb_clock_take_fields(
         sent: window_sent,
         received: window_received,
     };
-    let m = clock::take(c, server as usize, w);
-    let next = m.clock;
-    let l = next.low;
-    *low = l;
-    let h = next.high;
-    *high = h;
-    let x = next.maxt;
-    *maxt = x;
-    let s = next.sent;
-    *sent = s;
-    let r = next.received;
-    *received = r;
-    let why = m.refusal;
-    c_packets::number(why)
+    match clock::take(c, server as usize, w) {
+        Ok(next) => {
+            let Columns {
+                low: l,
+                high: h,
+                maxt: m,
+                sent: s,
+                received: r,
+            } = Columns::from(next.kept);
+            *low = l;
+            *high = h;
+            *maxt = m;
+            *sent = s;
+            *received = r;
+            0
+        }
+        Err(why) => c_packets::number(why),
+    }
 }
 
 // The time at a moment.
@@ -121,16 +122,18 @@ pub extern "C" fn tb_clock_now_fields(
     moment: u64,
     liars: u64,
 ) -> TbTime
-    ensures { result ≡ tb_time (answer_of (clock_of drift low.now high.now maxt.now
-        sent.now received.now) moment liars) }
+    ensures { result ≡ tb_time (answer_of
+        (clock_of drift (columns low.now high.now maxt.now sent.now received.now))
+        moment liars) }
 {
-    let c = Clock {
-        drift: drift,
+    let fields = Columns {
         low: *low,
         high: *high,
         maxt: *maxt,
         sent: *sent,
         received: *received,
     };
-    c_packets::time_told(clock::time_at(c, moment, liars))
+    let kept = rows(fields);
+    let c = Clock { drift, kept };
+    clock::time_at(c, moment, liars).into()
 }

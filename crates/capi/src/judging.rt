@@ -17,10 +17,5 @@ pub extern "C" fn tb_check_response<'a>(
     ensures { result
         ≡ tb_verdict (checked_of request.now response.now (eqb delegation 1) (eqb signature 1)) }
 {
-    c_packets::verdict_told(check_response::check_response(
-        request,
-        response,
-        yes(delegation),
-        yes(signature),
-    ))
+    check_response::check_response(request, response, yes(delegation), yes(signature)).into()
 }

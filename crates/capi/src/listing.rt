@@ -9,7 +9,8 @@ ghost use Rattle.list_write.specs.Given.{given};
 ghost use Rattle.list_write.specs.Lent.{lent, givens};
 ghost use Rattle.list_write.specs.Texts.{server_text, list_text};
 ghost use Rattle.list_write.specs.Answers.{server_answer, list_answer};
-ghost use Rattle.c_lists.specs.Listing.{tb_servers, tb_part, tb_addressed, tb_listing};
+ghost use Rattle.c_lists.specs.Listing.{tb_servers, tb_addressed};
+ghost use Rattle.c_packets.specs.Writing.{tb_wrote};
 
 use c_lists::{TbAddressed, TbServers};
 use c_packets::TbWrote;
@@ -21,18 +22,18 @@ pub extern "C" fn tb_read_servers(text: &[u8], out: &mut [u8]) -> TbServers
     ensures out_after { out.new
         ≡ written result.code (record_bytes (list_of text.now)) out.old }
 {
-    c_lists::servers_told(list_read::read_servers(text, out))
+    list_read::read_servers(text, out).into()
 }
 
 // The name of a server that can be asked, by its place among these.
 #[unsafe(no_mangle)]
 pub extern "C" fn tb_server_name(text: &[u8], place: usize, out: &mut [u8]) -> TbWrote
     ensures value { result
-        ≡ tb_part
+        ≡ tb_wrote
         (part_of (list_of text.now) (name_in (list_of text.now) place) (length out.old)) }
     ensures out_after { out.new ≡ written result.code (plain (name_in (list_of text.now) place)) out.old }
 {
-    c_lists::part_told(list_parts::server_name(text, place, out))
+    list_parts::server_name(text, place, out).into()
 }
 
 // An address of such a server, by its own place.
@@ -51,28 +52,28 @@ pub extern "C" fn tb_server_address(
     ensures out_after { out.new
         ≡ written result.code (plain (address_in (list_of text.now) place which)) out.old }
 {
-    c_lists::addressed_told(list_parts::server_address(text, place, which, out))
+    list_parts::server_address(text, place, which, out).into()
 }
 
 // A source of a list, by its place.
 #[unsafe(no_mangle)]
 pub extern "C" fn tb_list_source(text: &[u8], place: usize, out: &mut [u8]) -> TbWrote
     ensures value { result
-        ≡ tb_part
+        ≡ tb_wrote
         (part_of (list_of text.now) (source_in (list_of text.now) place) (length out.old)) }
     ensures out_after { out.new ≡ written result.code (plain (source_in (list_of text.now) place)) out.old }
 {
-    c_lists::part_told(list_parts::list_source(text, place, out))
+    list_parts::list_source(text, place, out).into()
 }
 
 // Where a list's reports go.
 #[unsafe(no_mangle)]
 pub extern "C" fn tb_list_reports(text: &[u8], out: &mut [u8]) -> TbWrote
     ensures value { result
-        ≡ tb_part (part_of (list_of text.now) (reports_in (list_of text.now)) (length out.old)) }
+        ≡ tb_wrote (part_of (list_of text.now) (reports_in (list_of text.now)) (length out.old)) }
     ensures out_after { out.new ≡ written result.code (plain (reports_in (list_of text.now))) out.old }
 {
-    c_lists::part_told(list_parts::list_reports(text, out))
+    list_parts::list_reports(text, out).into()
 }
 
 // One server object, at the front of out.
@@ -85,7 +86,7 @@ pub extern "C" fn tb_write_server(
     out: &mut [u8],
 ) -> TbWrote
     ensures value { result
-        ≡ tb_listing
+        ≡ tb_wrote
         (server_answer (given name.now version key.now addresses.now)
         (length out.old)) }
     ensures out_after { out.new
@@ -93,7 +94,7 @@ pub extern "C" fn tb_write_server(
         (server_text (given name.now version key.now addresses.now))
         out.old }
 {
-    c_lists::listing_told(list_write::write_server(name, version, *key, addresses, out))
+    list_write::write_server(name, version, *key, addresses, out).into()
 }
 
 // A whole list, at the front of out.
@@ -110,7 +111,7 @@ pub extern "C" fn tb_write_servers(
     out: &mut [u8],
 ) -> TbWrote
     ensures value { result
-        ≡ tb_listing
+        ≡ tb_wrote
         (list_answer
         (lent keys.now versions.now names.now name_lengths.now
         addresses.now address_lengths.now)
@@ -124,7 +125,7 @@ pub extern "C" fn tb_write_servers(
         sources.now reports.now)
         out.old }
 {
-    c_lists::listing_told(list_write::write_servers(
+    list_write::write_servers(
         keys,
         versions,
         names,
@@ -134,5 +135,6 @@ pub extern "C" fn tb_write_servers(
         sources,
         reports,
         out,
-    ))
+    )
+    .into()
 }

@@ -1,7 +1,9 @@
 // A hash in pieces, for hosts. The state is memory of the host's, a struct of three fields. Each crosses as a pointer
 // of its own, and the header's inline functions take the struct.
+// Exports that start, and those that finish, are alike but for the call in each: C names every one of them, and an export
+// can be no instance of a generic function.
 ghost use Rattle.std.specs.Prelude.{◌≡◌, [], ◌∷◌};
-ghost use Rattle.sha512.specs.State.{state_of, fed_of, state_digest};
+ghost use Rattle.sha512.specs.State.{state_of, fed_of, state_then, fed_number, state_digest};
 ghost use Rattle.hash.specs.Hashes.{hash_of};
 ghost use Rattle.capi.specs.Pieces.{running_of};
 
@@ -41,26 +43,27 @@ pub extern "C" fn tb_sha512_take_fields(
     count: &mut u64,
     piece: &[u8],
 ) -> u32
-    ensures { (result ≡ (fed_of (running_of h.old rest.old count.old)
-        piece.now).refusal.code)
+    ensures { (result ≡ fed_number (fed_of (running_of h.old rest.old count.old)
+        piece.now))
         × (running_of h.new rest.new count.new
-        ≡ (fed_of (running_of h.old rest.old count.old) piece.now).state) }
+        ≡ state_then (running_of h.old rest.old count.old) (fed_of (running_of h.old rest.old count.old) piece.now)) }
 {
-    let f = sha512::take_piece(
-        Running {
-            h: *h,
-            rest: *rest,
-            count: *count,
-        },
-        piece,
-    );
-    let r = f.state;
-    let x = r.h;
-    *h = x;
-    let b = r.rest;
-    *rest = b;
-    *count = r.count;
-    c_packets::number(f.refusal)
+    let before = Running {
+        h: *h,
+        rest: *rest,
+        count: *count,
+    };
+    match sha512::take_piece(before, piece) {
+        Ok(r) => {
+            let x = r.h;
+            *h = x;
+            let b = r.rest;
+            *rest = b;
+            *count = r.count;
+            0
+        }
+        Err(why) => c_packets::number(why),
+    }
 }
 
 // The digest of what was taken so far.

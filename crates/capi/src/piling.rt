@@ -14,7 +14,10 @@ use c_evidence::{TbCut, TbJudged, TbReported};
 pub extern "C" fn tb_pile_code<'a>(pile: &'a [u8], answers: &'a [u8]) -> u32
     ensures { result ≡ (pile_code pile.now answers.now).code }
 {
-    c_packets::number(pile::pile_code(pile, answers))
+    match pile::pile_code(pile, answers) {
+        Ok(()) => 0,
+        Err(why) => c_packets::number(why),
+    }
 }
 
 // What is said of the record at a place.
@@ -22,7 +25,7 @@ pub extern "C" fn tb_pile_code<'a>(pile: &'a [u8], answers: &'a [u8]) -> u32
 pub extern "C" fn tb_judge<'a>(pile: &'a [u8], answers: &'a [u8], place: usize) -> TbJudged
     ensures { result ≡ tb_judged (judgement_of pile.now answers.now place) }
 {
-    c_evidence::judgement_told(pile::judge(pile, answers, place))
+    pile::judge(pile, answers, place).into()
 }
 
 // Whether the record at a place is linked to the one before it.
@@ -59,7 +62,7 @@ pub extern "C" fn tb_contradicts(
 pub extern "C" fn tb_check_report<'a>(pile: &'a [u8], answers: &'a [u8]) -> TbReported
     ensures { Checks pile.now answers.now result }
 {
-    c_evidence::report_told(pile_report::check_report(pile, answers))
+    pile_report::check_report(pile, answers).into()
 }
 
 // The shortest run that convicts by itself, at the front of out.
@@ -67,5 +70,5 @@ pub extern "C" fn tb_check_report<'a>(pile: &'a [u8], answers: &'a [u8]) -> TbRe
 pub extern "C" fn tb_cut_run<'a>(pile: &'a [u8], answers: &'a [u8], out: &mut [u8]) -> TbCut
     ensures { Cuts pile.now answers.now out.old result out.new }
 {
-    c_evidence::run_told(pile_report::cut_run(pile, answers, out))
+    pile_report::cut_run(pile, answers, out).into()
 }

@@ -17,7 +17,7 @@ pub extern "C" fn tb_read_report(text: &[u8], out: &mut [u8]) -> TbRecords
     ensures out_after { out.new
         ≡ written result.code (pile_bytes (entries_of text.now)) out.old }
 {
-    c_evidence::read_told(report_read::read_report(text, out))
+    report_read::read_report(text, out).into()
 }
 
 // The text of a report, at the front of out.
@@ -29,7 +29,7 @@ pub extern "C" fn tb_write_report<'a>(
 ) -> TbPublished
     ensures { Tells pile.now answers.now out.old result out.new }
 {
-    c_evidence::published_told(report_write::write_report(pile, answers, out))
+    report_write::write_report(pile, answers, out).into()
 }
 
 // The same with no answers lent: the signatures are verified under the keys of the records.
@@ -37,7 +37,7 @@ pub extern "C" fn tb_write_report<'a>(
 pub extern "C" fn tb_write_signed_report(pile: &[u8], out: &mut [u8]) -> TbPublished
     ensures { Tells pile.now (own_answers pile.now) out.old result out.new }
 {
-    c_evidence::published_told(report_text::write_signed_report(pile, out))
+    report_text::write_signed_report(pile, out).into()
 }
 
 // The text of the shortest run that convicts by itself, out of a text, at the front of out.
@@ -45,7 +45,7 @@ pub extern "C" fn tb_write_signed_report(pile: &[u8], out: &mut [u8]) -> TbPubli
 pub extern "C" fn tb_cut_text<'a>(text: &'a [u8], answers: &'a [u8], out: &mut [u8]) -> TbForwarded
     ensures { TellsCut text.now answers.now out.old result out.new }
 {
-    c_evidence::forwarded_told(report_text::cut_text(text, answers, out))
+    report_text::cut_text(text, answers, out).into()
 }
 
 // The same with no answers lent.
@@ -53,5 +53,5 @@ pub extern "C" fn tb_cut_text<'a>(text: &'a [u8], answers: &'a [u8], out: &mut [
 pub extern "C" fn tb_cut_signed_text(text: &[u8], out: &mut [u8]) -> TbForwarded
     ensures { TellsCut text.now (own_answers (pile_of text.now)) out.old result out.new }
 {
-    c_evidence::forwarded_told(report_text::cut_signed_text(text, out))
+    report_text::cut_signed_text(text, out).into()
 }

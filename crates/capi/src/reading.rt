@@ -12,7 +12,7 @@ use c_packets::{TbParts, TbRequest, TbResponse};
 pub extern "C" fn tb_read_request(packet: &[u8]) -> TbRequest
     ensures { result ≡ tb_request (request_of packet.now) }
 {
-    c_packets::request_told(wire_packet::read_request(packet))
+    wire_packet::read_request(packet).into()
 }
 
 // Reads a response packet.
@@ -20,7 +20,7 @@ pub extern "C" fn tb_read_request(packet: &[u8]) -> TbRequest
 pub extern "C" fn tb_read_response(packet: &[u8]) -> TbResponse
     ensures { result ≡ tb_response (response_of packet.now) }
 {
-    c_packets::response_told(wire_packet::read_response(packet))
+    wire_packet::read_response(packet).into()
 }
 
 // The two signatures of a response packet, and the delegated key.
@@ -28,5 +28,5 @@ pub extern "C" fn tb_read_response(packet: &[u8]) -> TbResponse
 pub extern "C" fn tb_signed_parts(packet: &[u8]) -> TbParts
     ensures { result ≡ tb_parts (parts_of packet.now) }
 {
-    c_packets::parts_told(wire_packet::read_signed_parts(packet))
+    wire_packet::read_signed_parts(packet).into()
 }

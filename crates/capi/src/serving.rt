@@ -19,7 +19,7 @@ pub extern "C" fn tb_write_srep(root: &[u8; 32], midp: u64, radi: u32, out: &mut
     ensures out_after { out.new
         ≡ written result.code (srep_bytes root.now midp radi) out.old }
 {
-    c_packets::wrote_told(server_parts::write_srep(*root, midp, radi, out))
+    server_parts::write_srep(*root, midp, radi, out).into()
 }
 
 // The whole response to a request, at the front of out.
@@ -52,9 +52,10 @@ pub extern "C" fn tb_write_response<'a>(
         signature.now))
         out.old }
 {
-    c_packets::wrote_told(server_response::write_response(
+    server_response::write_response(
         request, indx, *root, path, midp, radi, cert, *signature, out,
-    ))
+    )
+    .into()
 }
 
 // DELE for the delegated key and its first and last second, at the front of out.
@@ -64,7 +65,7 @@ pub extern "C" fn tb_write_dele(pubk: &[u8; 32], mint: u64, maxt: u64, out: &mut
     ensures out_after { out.new
         ≡ written result.code (dele_bytes pubk.now mint maxt) out.old }
 {
-    c_packets::wrote_told(server_parts::write_dele(*pubk, mint, maxt, out))
+    server_parts::write_dele(*pubk, mint, maxt, out).into()
 }
 
 // CERT for the same and the signature over that DELE, at the front of out.
@@ -82,5 +83,5 @@ pub extern "C" fn tb_write_cert(
     ensures out_after { out.new
         ≡ written result.code (cert_bytes pubk.now mint maxt signature.now) out.old }
 {
-    c_packets::wrote_told(server_parts::write_cert(*pubk, mint, maxt, *signature, out))
+    server_parts::write_cert(*pubk, mint, maxt, *signature, out).into()
 }

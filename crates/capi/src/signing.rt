@@ -32,7 +32,7 @@ pub extern "C" fn tb_check_signed<'a>(
         ≡ tb_verdict (checked_of request.now response.now
         (delegated key.now response.now) (responded response.now)) }
 {
-    c_packets::verdict_told(check_signatures::check_signed(*key, request, response))
+    check_signatures::check_signed(*key, request, response).into()
 }
 
 // What is said of the record at a place, by the key that stands in it.
@@ -40,7 +40,7 @@ pub extern "C" fn tb_check_signed<'a>(
 pub extern "C" fn tb_judge_signed(pile: &[u8], place: usize) -> TbJudged
     ensures { result ≡ tb_judged (judgement_of pile.now (own_answers pile.now) place) }
 {
-    c_evidence::judgement_told(pile_signed::judge_signed(pile, place))
+    pile_signed::judge_signed(pile, place).into()
 }
 
 // Whether a pile is a report, and the pair that it names.
@@ -48,7 +48,7 @@ pub extern "C" fn tb_judge_signed(pile: &[u8], place: usize) -> TbJudged
 pub extern "C" fn tb_check_signed_report(pile: &[u8]) -> TbReported
     ensures { Checks pile.now (own_answers pile.now) result }
 {
-    c_evidence::report_told(pile_signed::check_signed_report(pile))
+    pile_signed::check_signed_report(pile).into()
 }
 
 // The shortest run that convicts by itself, at the front of out.
@@ -57,5 +57,5 @@ pub extern "C" fn tb_cut_signed_run(pile: &[u8], out: &mut [u8]) -> TbCut
     ensures { Cuts pile.now (own_answers pile.now) out.old result
         out.new }
 {
-    c_evidence::run_told(pile_signed::cut_signed_run(pile, out))
+    pile_signed::cut_signed_run(pile, out).into()
 }

@@ -10,5 +10,5 @@ use c_packets::TbOld;
 pub extern "C" fn tb_old_window(midp: u64, radi: u32) -> TbOld
     ensures { result ≡ tb_old (stamped_of midp radi) }
 {
-    c_packets::old_told(old_stamp::old_window(midp, radi))
+    old_stamp::old_window(midp, radi).into()
 }

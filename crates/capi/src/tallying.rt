@@ -27,9 +27,13 @@ pub extern "C" fn tb_tally_take_field(most: &mut u64, midp: u64, radi: u32) -> b
 }
 
 // Whether two valid records of a pile contradict: 0, 15 or 18.
+// Alike with `tb_pile_code` but for the call: C names both.
 #[unsafe(no_mangle)]
 pub extern "C" fn tb_pile_contradicts<'a>(pile: &'a [u8], answers: &'a [u8]) -> u32
     ensures { result ≡ (contradiction_code pile.now answers.now).code }
 {
-    c_packets::number(pile_tally::pile_contradicts(pile, answers))
+    match pile_tally::pile_contradicts(pile, answers) {
+        Ok(()) => 0,
+        Err(why) => c_packets::number(why),
+    }
 }

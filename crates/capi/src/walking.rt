@@ -3,14 +3,17 @@
 ghost use Rattle.std.specs.Prelude.{◌≡◌, length};
 ghost use Rattle.laws.specs.Written.{written};
 ghost use Rattle.walk.specs.State.{request_now};
-ghost use Rattle.walk.specs.Starting.{started_of};
+ghost use Rattle.walk.specs.Starting.{started_of, started_number};
 ghost use Rattle.walk.specs.Asking.{asked_of};
+ghost use Rattle.walk.specs.Taking.{next_in};
 ghost use Rattle.walk_signed.specs.Heard.{own_heard};
 ghost use Rattle.c_evidence.specs.Walking.{tb_asked};
 ghost use Rattle.capi.specs.Walking.{walk_of, walk_started, heard_of, Took};
 
 use c_evidence::{TbAsked, TbTook};
-use walk::{Heard, Walk};
+use refusal::Refusal;
+use walk::{Heard, Stepped, Walk};
+use walk_signed::Exchange;
 
 // Starts a walk: 0, 31 or 19. On a refusal the state stays.
 #[unsafe(no_mangle)]
@@ -27,31 +30,29 @@ pub extern "C" fn tb_walk_start_fields<'a>(
     longest: u64,
     pile: &'a [u8],
 ) -> u32
-    ensures { (result ≡ (started_of servers.now first.now longest (length pile.now)
-        ).refusal.code)
+    ensures { (result ≡ started_number (started_of servers.now first.now longest (length pile.now)))
         × (walk_of keys.new count.new step.new nonce.new rand.new
         last.new most.new
         ≡ walk_started (started_of servers.now first.now longest (length pile.now))
         (walk_of keys.old count.old step.old nonce.old rand.old
         last.old most.old)) }
 {
-    let s = walk::start(servers, *first, longest, pile);
-    let why = s.refusal;
-    if why.code != 0 {
-        return c_packets::number(why);
+    match walk::start(servers, *first, longest, pile) {
+        Ok(w) => {
+            let ks = w.keys;
+            *keys = ks;
+            *count = w.count as u64;
+            *step = w.step as u64;
+            let n = w.nonce;
+            *nonce = n;
+            let r = w.rand;
+            *rand = r;
+            *last = w.last;
+            *most = w.most;
+            0
+        }
+        Err(why) => c_packets::number(why),
     }
-    let w = s.walk;
-    let ks = w.keys;
-    *keys = ks;
-    *count = w.count as u64;
-    *step = w.step as u64;
-    let n = w.nonce;
-    *nonce = n;
-    let r = w.rand;
-    *rand = r;
-    *last = w.last;
-    *most = w.most;
-    0
 }
 
 // What is asked next, with the request at the front of out.
@@ -82,7 +83,7 @@ pub extern "C" fn tb_walk_ask_fields(
         last: last,
         most: most,
     };
-    c_evidence::asked_told(walk::ask(w, out))
+    walk::ask(w, out).into()
 }
 
 // Takes a response. On a refusal the state and the pile stay.
@@ -128,15 +129,24 @@ pub extern "C" fn tb_walk_take_fields(
         rand: *next,
     };
     let m = walk::take(w, h, response, pile);
-    let v = m.walk;
+    let v = next_in(w, m);
     *step = v.step as u64;
     let n = v.nonce;
     *nonce = n;
     let r = v.rand;
     *rand = r;
     *last = v.last;
-    let s = m.said;
-    c_evidence::took_told(s)
+    m.into()
+}
+
+// The state after a call of a taker: a refusal hands out none, and the host's stays.
+fn next_in(w: Walk, m: Result<Stepped, Refusal>) -> Walk
+    ensures { result ≡ next_in w m }
+{
+    match m {
+        Ok(t) => t.walk,
+        Err(_) => w,
+    }
 }
 
 // Takes a response with no answers lent: its signatures are verified under the key of the server that was asked.
@@ -176,14 +186,18 @@ pub extern "C" fn tb_walk_take_signed_fields(
         last: *last,
         most: most,
     };
-    let m = walk_signed::take_signed(w, sent, received, *next, response, pile);
-    let v = m.walk;
+    let e = Exchange {
+        sent: sent,
+        received: received,
+        rand: *next,
+    };
+    let m = walk_signed::take_signed(w, e, response, pile);
+    let v = next_in(w, m);
     *step = v.step as u64;
     let n = v.nonce;
     *nonce = n;
     let r = v.rand;
     *rand = r;
     *last = v.last;
-    let s = m.said;
-    c_evidence::took_told(s)
+    m.into()
 }

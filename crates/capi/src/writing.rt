@@ -18,7 +18,7 @@ pub extern "C" fn tb_write_request(key: &[u8; 32], nonce: &[u8; 32], out: &mut [
     ensures out_after { out.new
         ≡ written result.code (request_bytes key.now nonce.now) out.old }
 {
-    c_packets::wrote_told(wire_request::write_request(*key, *nonce, out))
+    wire_request::write_request(*key, *nonce, out).into()
 }
 
 // The delegation text of a response packet, at the front of out.
@@ -30,7 +30,7 @@ pub extern "C" fn tb_delegation_text(packet: &[u8], out: &mut [u8]) -> TbWrote
     ensures out_after { out.new
         ≡ written result.code (delegation_text packet.now) out.old }
 {
-    c_packets::wrote_told(wire_request::delegation_text(packet, out))
+    wire_request::delegation_text(packet, out).into()
 }
 
 // The response text of a response packet, at the front of out.
@@ -42,5 +42,5 @@ pub extern "C" fn tb_response_text(packet: &[u8], out: &mut [u8]) -> TbWrote
     ensures out_after { out.new
         ≡ written result.code (response_text packet.now) out.old }
 {
-    c_packets::wrote_told(wire_request::response_text(packet, out))
+    wire_request::response_text(packet, out).into()
 }

@@ -1,5 +1,6 @@
 -- A response passes exactly when document 01's sentence holds of it, and its window and its key are then its own: the
 -- row of checks and the sentence are one. The way from the code to the sentence asks that the two packets are bytes.
+use Rattle.std.specs.Prelude.{Err, Ok}
 use Prim.Native.Nat.{ℕ}
 use mathlib.Core.Path.{◌≡◌, refl, sym, ap}
 use mathlib.Core.Bool.{Bool, false, not}
@@ -26,7 +27,6 @@ use Rattle.wire_packet.proofs.Versions.{version-test}
 use Rattle.check_response.specs.Check.{version_unasked, version_downgraded, nonce_differs, path_misses, time_outside}
 use Rattle.check_response.specs.Check.{answers_code, agreement_code, check_code, window_in, pubk_in, verdict_of, key_of}
 use Rattle.check_response.specs.Passes.{Passes}
-use Rattle.check_response.specs.declared.Verdict.TheVariants.{Valid, Refused}
 use Rattle.check_response.specs.declared.Window.{Window}
 use Rattle.check_response.proofs.Downgrade.{no-downgrade}
 use Rattle.check_response.proofs.Lent.{by-valid, valid-by, by-refused, key-by, no_key}
@@ -118,7 +118,7 @@ module _ (q p : List ℕ) (d s : Bool) where
   code-exactly q-bytes p-bytes = (sound q-bytes p-bytes, passes-code)
 
   -- so a response passes exactly when it does,
-  pub passes-exactly : Bytes q → Bytes p → verdict_of q p d s ≡ Valid (window_in (body p)) ↔ Passes q p d s
+  pub passes-exactly : Bytes q → Bytes p → verdict_of q p d s ≡ Ok (window_in (body p)) ↔ Passes q p d s
   unfolding verdict_of
   passes-exactly q-bytes p-bytes = (
     λ e. sound q-bytes p-bytes (by-valid (check_code q p d s) _ _ e).0,
@@ -126,16 +126,16 @@ module _ (q p : List ℕ) (d s : Bool) where
   )
 
   -- and no other window comes out than its own: MIDP and RADI of its SREP, MINT and MAXT of its DELE;
-  pub window-own : (w : Window) → verdict_of q p d s ≡ Valid w → w ≡ window_in (body p)
+  pub window-own : (w : Window) → verdict_of q p d s ≡ Ok w → w ≡ window_in (body p)
   unfolding verdict_of
   window-own w e = (by-valid (check_code q p d s) _ w e).1
 
   -- beside a window stands the PUBK of its own DELE,
-  pub key-own : (w : Window) → verdict_of q p d s ≡ Valid w → key_of q p d s ≡ pubk_in (body p)
+  pub key-own : (w : Window) → verdict_of q p d s ≡ Ok w → key_of q p d s ≡ pubk_in (body p)
   unfolding verdict_of key_of
   key-own w e = key-by (check_code q p d s) _ (by-valid (check_code q p d s) _ w e).0
 
   -- and beside a refusal 32 zero bytes
-  pub key-hidden : (why : Refusal) → verdict_of q p d s ≡ Refused why → key_of q p d s ≡ zeros32
+  pub key-hidden : (why : Refusal) → verdict_of q p d s ≡ Err why → key_of q p d s ≡ zeros32
   unfolding verdict_of key_of
   key-hidden why e = no_key (check_code q p d s) _ (by-refused (check_code q p d s) _ why e)

@@ -1,4 +1,5 @@
 -- What the checks that passed say of the response that was lent.
+use Rattle.std.specs.Prelude.{Err, Ok, Result}
 use Prim.Native.Nat.{ℕ, ◌≤◌}
 use mathlib.Core.Path.{◌≡◌, refl, sym, ap, ap₂, ◌∙◌}
 use mathlib.Core.Bool.{Bool, true, false, cond}
@@ -15,9 +16,7 @@ use Rattle.wire_packet.specs.Facts.{Shaped}
 use Rattle.wire_packet.specs.Packet.{body}
 use Rattle.wire_packet.proofs.ResponseCodes.{response-body}
 use Rattle.check_response.specs.declared.Checked.{Checked}
-use Rattle.check_response.specs.declared.Verdict.{Verdict}
 use Rattle.check_response.specs.declared.Window.{Window}
-use Rattle.check_response.specs.declared.Verdict.TheVariants.{Valid, Refused}
 use Rattle.check_response.specs.Check.{window_in, pubk_in, check_code, verdict_by, verdict_of, key_by, key_of, checked_of}
 use Rattle.check_response.specs.Check.{verdict_number}
 
@@ -33,27 +32,27 @@ checked-body q p d s e z =
 
 -- it has the refusal's number,
 pub verdict-says : (why : Refusal) (w : Window) → verdict_number (verdict_by why w) ≡ why.code
-verdict-says why w = chosen-says verdict_number (Valid w) (Refused why) why.code refl refl
+verdict-says why w = chosen-says verdict_number (Ok w) (Err why) why.code refl refl
 
 -- is a window exactly where the number is 0, and then it is the window that was meant
-pub by-valid : (why : Refusal) (w v : Window) → verdict_by why w ≡ Valid v → (why.code ≡ 0) × (v ≡ w)
+pub by-valid : (why : Refusal) (w v : Window) → verdict_by why w ≡ Ok v → (why.code ≡ 0) × (v ≡ w)
 by-valid why w v e = by (eqb why.code 0) refl e
   where
-    by : (t : Bool) → eqb why.code 0 ≡ t → cond t (Valid w) (Refused why) ≡ Valid v → (why.code ≡ 0) × (v ≡ w)
+    by : (t : Bool) → eqb why.code 0 ≡ t → cond t (Ok w) (Err why) ≡ Ok v → (why.code ≡ 0) × (v ≡ w)
     by true h f = (eqb-true _ _ h, cc)
     by false h f = let z : ◌≡◌ {A = ℕ} 0 1 = cc in absurd (omega arith)
 
-pub valid-by : (why : Refusal) (w : Window) → why.code ≡ 0 → verdict_by why w ≡ Valid w
+pub valid-by : (why : Refusal) (w : Window) → why.code ≡ 0 → verdict_by why w ≡ Ok w
 valid-by why w z = rw (eq-eqb why.code 0 z)
 
 -- and a refusal exactly where it is another, and then it is that one
-pub by-refused : (why : Refusal) (w : Window) (x : Refusal) → verdict_by why w ≡ Refused x → why.code ≡ 0 → ⊥
+pub by-refused : (why : Refusal) (w : Window) (x : Refusal) → verdict_by why w ≡ Err x → why.code ≡ 0 → ⊥
 by-refused why w x e z =
-    let f : Valid w ≡ Refused x = sym (valid-by why w z) ∙ e in
+    let f : Ok w ≡ Err x = sym (valid-by why w z) ∙ e in
     let n : ◌≡◌ {A = ℕ} 0 1 = cc in
     omega arith
 
-pub refused-by : (why : Refusal) (w : Window) → (why.code ≡ 0 → ⊥) → verdict_by why w ≡ Refused why
+pub refused-by : (why : Refusal) (w : Window) → (why.code ≡ 0 → ⊥) → verdict_by why w ≡ Err why
 refused-by why w n = rw (ne_eqb why.code 0 n)
 
 -- ---- the key beside an answer
@@ -70,29 +69,29 @@ no_key why key n = rw (ne_eqb why.code 0 n)
 
 module _ (q p : List ℕ) (d s : Bool) {x : Refusal} (e : x ≡ check_code q p d s) where
   -- its two clauses, of a verdict and a key: the number is that of the first check that refuses
-  abbrev Clauses : Verdict → List ℕ → Type 0
+  abbrev Clauses : Result Window Refusal → List ℕ → Type 0
   Clauses v key =
       (verdict_number v ≡ (check_code q p d s).code)
       × (◌≡◌ {A = Checked} (record { verdict = v; pubk = key }) (checked_of q p d s))
 
-  both-clauses : {v : Verdict} {key : List ℕ} → v ≡ verdict_of q p d s → key ≡ key_of q p d s → Clauses v key
+  both-clauses : {v : Result Window Refusal} {key : List ℕ} → v ≡ verdict_of q p d s → key ≡ key_of q p d s → Clauses v key
   unfolding verdict_of
   both-clauses f g = (
     ap verdict_number f ∙ verdict-says (check_code q p d s) (window_in (body p)),
-    ap₂ (λ (v : Verdict) (key : List ℕ). record { verdict = v; pubk = key }) f g,
+    ap₂ (λ (v : Result Window Refusal) (key : List ℕ). record { verdict = v; pubk = key }) f g,
   )
 
   -- a refusal comes with 32 zero bytes,
-  pub refused-clauses : (x.code ≡ 0 → ⊥) → Clauses (Refused x) zeros32
+  pub refused-clauses : (x.code ≡ 0 → ⊥) → Clauses (Err x) zeros32
   unfolding verdict_of key_of
   refused-clauses n =
       let m : (check_code q p d s).code ≡ 0 → ⊥ = λ z. n (quiet_of refusals (sym e) z) in
-      both-clauses (ap Refused e ∙ sym (refused-by _ _ m)) (sym (no_key (check_code q p d s) _ m))
+      both-clauses (ap Err e ∙ sym (refused-by _ _ m)) (sym (no_key (check_code q p d s) _ m))
 
   -- and a window, the response's own, with its own key
   pub valid-clauses : {w : Window} {key : List ℕ} → x.code ≡ 0 → w ≡ window_in (body p) → key ≡ pubk_in (body p)
-      → Clauses (Valid w) key
+      → Clauses (Ok w) key
   unfolding verdict_of key_of
   valid-clauses z f g =
       let m = quiet_of refusals e z in
-      both-clauses (ap Valid f ∙ sym (valid-by (check_code q p d s) _ m)) (g ∙ sym (key-by (check_code q p d s) _ m))
+      both-clauses (ap Ok f ∙ sym (valid-by (check_code q p d s) _ m)) (g ∙ sym (key-by (check_code q p d s) _ m))

@@ -1,5 +1,5 @@
 -- The response check (draft 19, 5.4) as a row of checks, in document 01's order: 14, then 1 to 13.
-use Rattle.std.specs.Prelude.{ℕ, List, [], ◌∷◌, Bool, not, cond, eqb, ltb}
+use Rattle.std.specs.Prelude.{ℕ, List, [], ◌∷◌, Bool, not, cond, eqb, ltb, Err, Ok, Result}
 use Rattle.hash.specs.Hashes.{leaf_of}
 use Rattle.laws.specs.Any.{any}
 use Rattle.laws.specs.Same.{same}
@@ -16,8 +16,6 @@ use Rattle.wire_packet.specs.Versions.{lacks_version}
 use Rattle.check_response.specs.Downgrade.{downgrades}
 use Rattle.check_response.specs.Window.{window_of}
 use Rattle.check_response.specs.declared.Checked.{Checked}
-use Rattle.check_response.specs.declared.Verdict.{Verdict}
-use Rattle.check_response.specs.declared.Verdict.TheVariants.{Valid, Refused}
 use Rattle.check_response.specs.declared.Window.{Window}
 
 -- PATH leads from the leaf of the whole request packet q to ROOT, and INDX needs no more bits than it has siblings
@@ -77,11 +75,11 @@ abbrev pub pubk_in : List ℕ → List ℕ
 pubk_in b = value_of (dele b) PUBK
 
 -- the answer by its refusal: the window w where nothing is refused
-abbrev pub verdict_by : Refusal → Window → Verdict
-verdict_by why w = cond (eqb why.code 0) (Valid w) (Refused why)
+abbrev pub verdict_by : Refusal → Window → Result Window Refusal
+verdict_by why w = cond (eqb why.code 0) (Ok w) (Err why)
 
 -- what the check answers to the response packet p to the request packet q
-unfoldable pub verdict_of : List ℕ → List ℕ → Bool → Bool → Verdict
+unfoldable pub verdict_of : List ℕ → List ℕ → Bool → Bool → Result Window Refusal
 verdict_of q p d s = verdict_by (check_code q p d s) (window_in (body p))
 
 -- the delegated key beside an answer, by its refusal: 32 zero bytes where something is refused (request P9)
@@ -97,11 +95,11 @@ abbrev pub checked_of : List ℕ → List ℕ → Bool → Bool → Checked
 checked_of q p d s = record { verdict = verdict_of q p d s; pubk = key_of q p d s }
 
 -- document 01's number of an answer: 0 with the window, or the refusal's
-abbrev pub verdict_number : Verdict → ℕ
-verdict_number (Valid w) = 0
-verdict_number (Refused why) = why.code
+abbrev pub verdict_number : Result Window Refusal → ℕ
+verdict_number (Ok w) = 0
+verdict_number (Err why) = why.code
 
 -- the byte place of an answer, 0 where it carries none (request P8)
-abbrev pub verdict_at : Verdict → ℕ
-verdict_at (Valid w) = 0
-verdict_at (Refused why) = why.at
+abbrev pub verdict_at : Result Window Refusal → ℕ
+verdict_at (Ok w) = 0
+verdict_at (Err why) = why.at

@@ -1,5 +1,6 @@
 // Whether a response agrees with the request that it answers: codes 8 to 13, on messages of the right shape.
-ghost use Rattle.std.specs.Prelude.{◌≡◌, not};
+ghost use Rattle.std.specs.Prelude.{◌≡◌};
+ghost use Rattle.refusal.specs.Refusal.{passes};
 ghost use Rattle.wire_packet.specs.Facts.{Asks, Shaped};
 ghost use Rattle.check_response.specs.Check.{version_unasked, version_downgraded, nonce_differs, path_misses, time_outside};
 ghost use Rattle.check_response.specs.Check.{answers_code, agreement_code};
@@ -7,53 +8,55 @@ ghost use Rattle.check_response.specs.Check.{answers_code, agreement_code};
 use super::downgrading::downgrades_to;
 use hash::leaf;
 use octets::equal;
-use refusal::{PASSED, Refusal, codes, refuse};
+use refusal::{Refusal, codes, refuse};
 use tree::leads;
 use wire_message::tags::{INDX, MAXT, MIDP, MINT, NONC, PATH, ROOT, SREP, VER, VERS};
 use wire_message::value_of;
 use wire_packet::fields::{lacks_version, number32, number64, value32};
 use wire_packet::{dele_of, srep_version};
 
-// Codes 8 to 13 of the response's message b, to the packet q whose message is a, with the two signature answers.
+// Codes 8 to 13 of the response's message b, to the packet q whose message is a, with the two signature answers, which
+// are bits of the C interface. What a and b say is asked here, and of each check for the message that it reads.
 pub fn agreement_code<'a>(
     q: &'a [u8],
     a: &'a [u8],
     b: &'a [u8],
     delegation: bool,
     signature: bool,
-) -> Refusal
+) -> Result<(), Refusal>
     requires { Asks a.now × Shaped b.now }
-    ensures { result ≡ agreement_code q.now a.now b.now delegation signature }
+    ensures { result
+        ≡ passes (agreement_code q.now a.now b.now delegation signature) }
 {
     if version_unasked(a, b) {
-        return refuse(codes::TYPE_OR_VERSION);
+        return Err(refuse(codes::TYPE_OR_VERSION));
     }
     if version_downgraded(a, b) {
-        return refuse(codes::TYPE_OR_VERSION);
+        return Err(refuse(codes::TYPE_OR_VERSION));
     }
     if nonce_differs(a, b) {
-        return refuse(codes::NONCE);
+        return Err(refuse(codes::NONCE));
     }
     if path_misses(q, b) {
-        return refuse(codes::PATH);
+        return Err(refuse(codes::PATH));
     }
     if time_outside(b) {
-        return refuse(codes::TIME);
+        return Err(refuse(codes::TIME));
     }
     answers_code(delegation, signature)
 }
 
-// Codes 12 and 13 of the two signature answers.
-fn answers_code(delegation: bool, signature: bool) -> Refusal
-    ensures { result ≡ answers_code delegation signature }
+// Codes 12 and 13 of the two signature answers: what is judged here are the bits themselves.
+fn answers_code(delegation: bool, signature: bool) -> Result<(), Refusal>
+    ensures { result ≡ passes (answers_code delegation signature) }
 {
-    if said_no(delegation) {
-        return refuse(codes::DELEGATION);
+    if !delegation {
+        return Err(refuse(codes::DELEGATION));
     }
-    if said_no(signature) {
-        return refuse(codes::SIGNATURE);
+    if !signature {
+        return Err(refuse(codes::SIGNATURE));
     }
-    PASSED
+    Ok(())
 }
 
 // SREP's version does not stand in the request's VER.
@@ -101,11 +104,4 @@ fn time_outside(b: &[u8]) -> bool
         return true;
     }
     number64(dele, MAXT) < midp
-}
-
-// The answer was no.
-fn said_no(answer: bool) -> bool
-    ensures { result ≡ not answer }
-{
-    !answer
 }

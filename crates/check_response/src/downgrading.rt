@@ -2,7 +2,6 @@
 ghost use Rattle.std.specs.Prelude.{◌≡◌};
 ghost use Rattle.check_response.specs.Downgrade.{asked_above, downgrades};
 
-use octets::le32;
 use wire_packet::fields::lacks;
 
 // Some version of the list `vers` is above the one that was chosen, and stands in the request's list `ver`. At most 32
@@ -10,22 +9,13 @@ use wire_packet::fields::lacks;
 pub fn downgrades_to<'a>(vers: &'a [u8], ver: &'a [u8], chosen: u32) -> bool
     ensures { result ≡ downgrades vers.now ver.now chosen }
 {
-    let mut k = 0;
-    while k < vers.len() / 4 {
-        if asked_above(ver, chosen, le32(vers, 4 * k)) {
-            return true;
-        }
-        k += 1;
-    }
-    false
+    let (versions, _) = vers.as_chunks::<4>();
+    versions.iter().any(|version| asked_above(ver, chosen, u32::from_le_bytes(*version)))
 }
 
 // The version v is above the one that was chosen, and stands in the request's list.
 fn asked_above(ver: &[u8], chosen: u32, v: u32) -> bool
     ensures { result ≡ asked_above ver.now chosen v }
 {
-    if v <= chosen {
-        return false;
-    }
-    !lacks(ver, v)
+    chosen < v && !lacks(ver, v)
 }

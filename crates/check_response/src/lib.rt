@@ -23,16 +23,11 @@ pub struct Window {
     pub maxt: u64,
 }
 
-// Why a response is refused, or its window where it passes. The refusal comes first, so that the value that has only
-// zeros is no valid verdict.
-#[derive(Clone, Copy)]
-pub enum Verdict {
-    Refused(Refusal),
-    Valid(Window),
-}
+// The window of a response that passes, or why it is refused.
+pub type Verdict = Result<Window, Refusal>;
 
-// What the check answers: the verdict, and beside it the delegated key, PUBK, which is 32 zero bytes on a refusal. An
-// enum can hold no array.
+// What the check answers: the verdict, and beside it the delegated key, PUBK, which is 32 zero bytes on a refusal. The
+// key stands beside the verdict and not in it: the theorem `key-hidden`, and what C is told of a refusal, speak of it.
 #[derive(Clone, Copy)]
 pub struct Checked {
     pub verdict: Verdict,

@@ -1,4 +1,6 @@
 -- The two questions as sentences: first of any numbers and keys, and then of what the response check answered.
+use Rattle.refusal.specs.declared.Refusal.{Refusal}
+use Rattle.std.specs.Prelude.{Err, Ok, Result}
 use Prim.Native.Nat.{ℕ, ◌≤◌}
 use mathlib.Core.Path.{◌≡◌, refl, sym, subst, ap, ap₂, ◌∙◌}
 use mathlib.Core.Bool.{Bool, true, ◌&&◌}
@@ -12,8 +14,6 @@ use Rattle.wire_packet.specs.Packet.{body}
 use Rattle.wire_packet.specs.Response.{mint_in, maxt_in}
 use Rattle.check_response.specs.Check.{check_code, window_in, pubk_in, verdict_of, key_of, verdict_number}
 use Rattle.check_response.specs.Passes.{Passes}
-use Rattle.check_response.specs.declared.Verdict.{Verdict}
-use Rattle.check_response.specs.declared.Verdict.TheVariants.{Valid, Refused}
 use Rattle.check_response.specs.declared.Window.{Window}
 use Rattle.check_response.proofs.Exactly.{code-exactly, window-own}
 use Rattle.check_response.proofs.Lent.{verdict-says, valid-by, key-by}
@@ -64,9 +64,9 @@ abbrev pub dele_in : List ℕ → Delegation
 dele_in b = holding (pubk_in b) (mint_in b) (maxt_in b)
 
 -- what an answer hands out of DELE: MINT and MAXT of its window, or zeros, and the key beside it
-abbrev beside : Verdict → List ℕ → Delegation
-beside (Valid w) key = holding key w.mint w.maxt
-beside (Refused why) key = holding key 0 0
+abbrev beside : Result Window Refusal → List ℕ → Delegation
+beside (Ok w) key = holding key w.mint w.maxt
+beside (Err why) key = holding key 0 0
 
 -- the number of an answer, 0 where the response passes, and then what it hands out of DELE is the response's own
 module _ (q p : List ℕ) (d s : Bool) where
@@ -92,7 +92,7 @@ module _ (q p : List ℕ) (d s : Bool) where
       ap₂ beside (valid-by why (window_in (body p)) e) (key-by why (pubk_in (body p)) e)
 
   -- a window that was handed out may be used exactly up to the MAXT of the response's own DELE
-  pub window-until : (w : Window) (time : ℕ) → verdict_of q p d s ≡ Valid w
+  pub window-until : (w : Window) (time : ℕ) → verdict_of q p d s ≡ Ok w
       → may_use number w.maxt time ≡ true ↔ (time ≤ maxt_in (body p))
   unfolding window_in
   window-until w time e =

@@ -1,16 +1,15 @@
 // What a console asks of answers that it kept: whether a window may still be used, and whether two answers come from
 // one delegation. An answer is told by its code, 0 where it is valid, and by what the question reads of it, so that
-// nobody has to make up the rest of one.
+// nobody has to make up the rest of one. A code beside a value, and no Result: so a host keeps an answer, and hands it
+// to tb_may_use_fields and tb_same_delegation_fields of the C interface.
 #![tactic(auto)]
 
 ghost use Rattle.std.specs.Prelude.{◌≡◌};
 ghost use Rattle.check_reuse.specs.Reuse.{may_use, same_dele, same_delegation};
 
-use octets::equal;
-
 // What an answer hands out of DELE (draft 19, 5.2.6): the delegated key, and the first and the last second for which it
 // is trusted.
-#[derive(Clone, Copy)]
+#[derive(Clone, Copy, PartialEq, Eq)]
 pub struct Delegation {
     pub pubk: [u8; 32],
     pub mint: u64,
@@ -22,10 +21,8 @@ pub struct Delegation {
 pub fn may_use(code: u32, maxt: u64, time: u64) -> bool
     ensures { result ≡ may_use code maxt time }
 {
-    if code != 0 {
-        return false;
-    }
-    time <= maxt
+    // A code is a number here, as C's tb_verdict has it: 0 is that of a valid answer.
+    code == 0 && time <= maxt
 }
 
 // Whether two answers, each with its code and what it hands out of DELE, come from one delegation.
@@ -37,26 +34,12 @@ pub fn same_delegation(
 ) -> bool
     ensures { result ≡ same_delegation first_code first second_code second }
 {
-    if first_code != 0 {
-        return false;
-    }
-    if second_code != 0 {
-        return false;
-    }
-    same_dele(first, second)
+    first_code == 0 && second_code == 0 && same_dele(first, second)
 }
 
 // Whether two DELE hold the same: PUBK, MINT and MAXT.
 fn same_dele(first: Delegation, second: Delegation) -> bool
     ensures { result ≡ same_dele first second }
 {
-    if first.mint != second.mint {
-        return false;
-    }
-    if first.maxt != second.maxt {
-        return false;
-    }
-    let key = first.pubk;
-    let other = second.pubk;
-    equal(&key, &other)
+    first == second
 }

@@ -1,5 +1,6 @@
 -- A response passes exactly when document 01's sentence holds with "verifies" for the answers; and a refusal that is
 -- not 12 or 13 is told whatever the signatures are.
+use Rattle.std.specs.Prelude.{Ok}
 use Prim.Native.Nat.{ℕ}
 use mathlib.Core.Path.{◌≡◌, refl, sym, ap, ◌∙◌}
 use mathlib.Core.Bool.{Bool, true, false}
@@ -12,7 +13,6 @@ use Rattle.laws.specs.First.{first_of, when_of}
 use Rattle.refusal.specs.declared.Refusal.{Refusal}
 use Rattle.check_response.specs.Check.{answers_code, check_code, window_in, verdict_of, checked_of}
 use Rattle.check_response.specs.Passes.{Passes}
-use Rattle.check_response.specs.declared.Verdict.TheVariants.{Valid}
 use Rattle.check_response.proofs.Exactly.{passes-code, passes-exactly}
 use Rattle.wire_packet.specs.Packet.{body}
 use Rattle.wire_packet.specs.Response.{signed_code}
@@ -60,7 +60,7 @@ module _ (key q p : List ℕ) where
 
   -- and the check passes exactly where that holds
   pub signed-exactly : Bytes q → Bytes p
-      → verdict_of q p (delegated key p) (responded p) ≡ Valid (window_in (body p)) ↔ PassesSigned key q p
+      → verdict_of q p (delegated key p) (responded p) ≡ Ok (window_in (body p)) ↔ PassesSigned key q p
   signed-exactly q-bytes p-bytes =
       let exactly = passes-exactly q p (delegated key p) (responded p) q-bytes p-bytes in
       (λ e. passes-alone.0 (exactly.0 e), λ o. exactly.1 (passes-alone.1 o))

@@ -1,5 +1,6 @@
 -- Signatures are judged last: what the check answers to a response is by cases on what it answers where both signatures
 -- verify, and then on 12 and 13.
+use Rattle.std.specs.Prelude.{Err, Ok}
 use Prim.Native.Nat.{ℕ}
 use mathlib.Core.Path.{◌≡◌, refl, sym, ap, ap₂, ◌∙◌}
 use mathlib.Core.Bool.{Bool, true, false, cond}
@@ -16,7 +17,6 @@ use Rattle.refusal.specs.declared.Refusal.{Refusal}
 use Rattle.check_response.specs.Check.{answers_code, agreement_code, check_code, window_in, pubk_in, verdict_by}
 use Rattle.check_response.specs.Check.{verdict_of, key_of, checked_of, verdict_number}
 use Rattle.check_response.specs.declared.Checked.{Checked}
-use Rattle.check_response.specs.declared.Verdict.TheVariants.{Valid, Refused}
 use Rattle.check_response.specs.declared.Window.{Window}
 use Rattle.check_response.proofs.Lent.{by-valid, valid-by, by-refused, key-by, verdict-says}
 use Rattle.wire_packet.specs.Packet.{body}
@@ -83,20 +83,20 @@ same-checked q p d s e t f = rw f
 
 module _ (q p : List ℕ) (d s : Bool) {r : Checked} (e : r ≡ checked_of q p true true) where
   -- it is refused: that is the answer,
-  pub told-anyway : (why : Refusal) → r.verdict ≡ Refused why → r ≡ checked_of q p d s
+  pub told-anyway : (why : Refusal) → r.verdict ≡ Err why → r ≡ checked_of q p d s
   unfolding verdict_of
   told-anyway why f =
-      let v : verdict_by (check_code q p true true) (window_in (body p)) ≡ Refused why =
+      let v : verdict_by (check_code q p true true) (window_in (body p)) ≡ Err why =
       sym (ap (λ (x : Checked). x.verdict) e) ∙ f in
       let n = by-refused (check_code q p true true) (window_in (body p)) why v in
       e ∙ same-checked q p true true d s (sym ((until-check q p d s).refused n))
 
   -- it passes: no code applies to it where both verify,
-  module _ (w : Window) (f : r.verdict ≡ Valid w) where
+  module _ (w : Window) (f : r.verdict ≡ Ok w) where
     pub passed-code : (check_code q p true true).code ≡ 0
     unfolding verdict_of
     passed-code =
-        let v : verdict_by (check_code q p true true) (window_in (body p)) ≡ Valid w =
+        let v : verdict_by (check_code q p true true) (window_in (body p)) ≡ Ok w =
         sym (ap (λ (x : Checked). x.verdict) e) ∙ f in
         (by-valid (check_code q p true true) (window_in (body p)) w v).0
 

@@ -4,7 +4,7 @@ ghost use Rattle.check_response.specs.Check.{check_code, checked_of, verdict_num
 ghost use Rattle.check_signatures.specs.SignatureAnswers.{delegated, responded};
 
 use super::verifying::signature_code;
-use check_response::{Checked, Verdict, check_response};
+use check_response::{Checked, check_response};
 use wire_packet::packet::body_of;
 
 // Checks a response packet against the request packet that it answers, and its two signatures under the server's
@@ -20,16 +20,13 @@ pub fn check_signed<'a>(key: [u8; 32], request: &'a [u8], response: &'a [u8]) ->
     let c = check_response(request, response, true, true);
     let v = c.verdict;
     match v {
-        Verdict::Refused(_) => c,
-        Verdict::Valid(_) => {
-            let why = signature_code(key, body_of(response));
-            if why.code != 0 {
-                return Checked {
-                    verdict: Verdict::Refused(why),
-                    pubk: [0u8; 32],
-                };
-            }
-            c
-        }
+        Err(_) => c,
+        Ok(_) => match signature_code(key, body_of(response)) {
+            Err(why) => Checked {
+                verdict: Err(why),
+                pubk: [0u8; 32],
+            },
+            Ok(()) => c,
+        },
     }
 }

@@ -10,7 +10,8 @@ mod verifying;
 pub use checking::check_signed;
 pub use verifying::answers;
 
-// Whether the signature of the delegation verifies, and whether that of the response does.
+// Whether the signature of the delegation verifies, and whether that of the response does: two answers, and no refusal.
+// `tb_answers` tells C both.
 #[derive(Clone, Copy)]
 pub struct Verified {
     pub delegation: bool,

@@ -4,6 +4,7 @@ ghost use Rattle.std.specs.Prelude.{◌≡◌, ◌++◌};
 ghost use Rattle.ed25519.specs.Verification.{verifies};
 ghost use Rattle.wire_message.specs.Tags.{SIG, PUBK};
 ghost use Rattle.wire_message.specs.Values.{value_of};
+ghost use Rattle.refusal.specs.Refusal.{passes};
 ghost use Rattle.check_response.specs.Check.{answers_code};
 ghost use Rattle.wire_packet.specs.Facts.{Shaped};
 ghost use Rattle.wire_packet.specs.Response.{srep, cert, dele};
@@ -12,7 +13,7 @@ ghost use Rattle.check_signatures.specs.SignatureAnswers.{answers_of};
 
 use super::Verified;
 use ed25519::verify_parts;
-use refusal::{PASSED, Refusal, codes, refuse};
+use refusal::{Refusal, codes, refuse};
 use wire_message::tags::{CERT, PUBK, SIG, SREP};
 use wire_message::value_of;
 use wire_packet::packet::body_of;
@@ -24,35 +25,37 @@ use wire_request::{DELEGATION, RESPONSE};
 pub fn answers(key: [u8; 32], response: &[u8]) -> Verified
     ensures { result ≡ answers_of key response.now }
 {
-    let c = signed_code(response);
-    if c.code != 0 {
-        return Verified {
+    match signed_code(response) {
+        Err(_) => Verified {
             delegation: false,
             signature: false,
-        };
-    }
-    let m = body_of(response);
-    Verified {
-        delegation: delegation_verifies(key, m),
-        signature: response_verifies(m),
+        },
+        Ok(()) => {
+            let m = body_of(response);
+            Verified {
+                delegation: delegation_verifies(key, m),
+                signature: response_verifies(m),
+            }
+        }
     }
 }
 
 // Codes 12 and 13 of a response's message. Where the delegation does not verify, the response is not asked.
-pub fn signature_code(key: [u8; 32], m: &[u8]) -> Refusal
+pub fn signature_code(key: [u8; 32], m: &[u8]) -> Result<(), Refusal>
     requires { Shaped m.now }
     ensures { result
-        ≡ answers_code (verifies key (delegation_context ++ dele m.now) (value_of (cert m.now) SIG))
+        ≡ passes
+        (answers_code (verifies key (delegation_context ++ dele m.now) (value_of (cert m.now) SIG))
         (verifies (value_of (dele m.now) PUBK) (response_context ++ srep m.now)
-        (value_of m.now SIG)) }
+        (value_of m.now SIG))) }
 {
     if !delegation_verifies(key, m) {
-        return refuse(codes::DELEGATION);
+        return Err(refuse(codes::DELEGATION));
     }
     if !response_verifies(m) {
-        return refuse(codes::SIGNATURE);
+        return Err(refuse(codes::SIGNATURE));
     }
-    PASSED
+    Ok(())
 }
 
 // CERT's SIG verifies under the long-term key.

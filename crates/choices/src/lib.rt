@@ -1,16 +1,19 @@
 // One of two, chosen with no branch and no address that hangs on the choice; and the veil, without which the compiler
-// makes branches of such choices again.
+// makes branches of such choices again. A bit is a word below 2 and no bool, and `same` no ==, since of these a compiler
+// makes branches.
 #![tactic(auto)]
 
 ghost use Rattle.std.specs.Prelude.{◌≡◌, cond, ◌<◌, eqb};
+
+use std::array;
 
 // b where the bit is 1, and a where it is 0.
 pub fn word(bit: u64, a: u64, b: u64) -> u64
     requires { bit < 2 }
     ensures { result ≡ cond (eqb bit 1) b a }
 {
-    let m = bit * 18446744073709551615;
-    let n = (1 - bit) * 18446744073709551615;
+    let m = bit * u64::MAX;
+    let n = (1 - bit) * u64::MAX;
     (a & n) | (b & m)
 }
 
@@ -27,13 +30,11 @@ pub fn select(bit: u64, a: [u64; 5], b: [u64; 5]) -> [u64; 5]
     requires { bit < 2 }
     ensures { result ≡ cond (eqb bit 1) b a }
 {
-    let mut out = a;
-    let mut i: usize = 0;
-    while i < 5 {
-        out[i] = word(bit, a[i], b[i]);
-        i += 1;
-    }
-    out
+    array::from_fn(
+        |i|
+            requires { (bit < 2) × (i < 5) }
+        { word(bit, a[i], b[i]) },
+    )
 }
 
 // 0, of which a compiler does not know that it is 0: 2 is no square modulo 3. n is any word that is known only when the

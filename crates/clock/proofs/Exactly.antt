@@ -1,4 +1,7 @@
 -- What is answered, as sentences: when each refusal is, and what the time is. They hold of every state.
+use Rattle.clock_agreement.specs.declared.Agreed.{Agreed}
+use Rattle.refusal.specs.declared.Refusal.{Refusal}
+use Rattle.std.specs.Prelude.{Err, Ok, Result}
 use mathlib.Core.Path.{◌≡◌, refl, sym, ap, ◌∙◌}
 use mathlib.Core.Bool.{Bool, true, false, cond}
 use mathlib.Core.Logic.{◌↔◌}
@@ -6,31 +9,27 @@ use Prim.Native.Nat.{ℕ, ◌-◌}
 use native.Mathlib.Omega.{arith}
 use Rattle.refusal.specs.Refusal.{refusal}
 use Rattle.clock_agreement.specs.Agreement as agreement
-use Rattle.clock_agreement.specs.declared.Agreement.{Agreement}
-use Rattle.clock_agreement.specs.declared.Agreement.TheVariants as variants
 use Rattle.clock_agreement.proofs.Exactly as exactly
 use Rattle.clock.specs.Meaning.{spans_then, IsTime, TooFew, NoAgreement}
 use Rattle.clock.specs.Used.{too_early, counting_at}
 use Rattle.clock.specs.Answer.{later, answer_of, number}
 use Rattle.clock.specs.declared.Clock.{Clock}
 use Rattle.clock.specs.declared.Time.{Time}
-use Rattle.clock.specs.declared.Answer.{Answer}
-use Rattle.clock.specs.declared.Answer.TheVariants.{Refused, Given}
 
 -- what has gone on has the number that it had
-same_number : (drift d : ℕ) (a : Agreement) → number (later drift d a) ≡ agreement.number a
-same_number drift d (variants.Refused why) = refl
-same_number drift d (variants.Found a) = refl
+same_number : (drift d : ℕ) (a : Result Agreed Refusal) → number (later drift d a) ≡ agreement.number a
+same_number drift d (Err why) = refl
+same_number drift d (Ok a) = refl
 
 module _ (c : Clock) (t f : ℕ) where
-  abbrev found : Agreement
+  abbrev found : Result Agreed Refusal
   found = agreement.agreement_of (spans_then c t) f
 
-  abbrev gone : Agreement → Answer
+  abbrev gone : Result Agreed Refusal → Result Time Refusal
   gone a = later c.drift (t - counting_at c t) a
 
-  abbrev said : Bool → Answer
-  said b = cond b (Refused (refusal 26)) (gone found)
+  abbrev said : Bool → Result Time Refusal
+  said b = cond b (Err (refusal 26)) (gone found)
 
   -- in time, it has the number of what the servers agree on
   pub number_is : too_early c t ≡ false → number (answer_of c t f) ≡ agreement.number found
@@ -78,13 +77,13 @@ module _ (c : Clock) (t f : ℕ) where
   )
 
   -- where a time is told, it is the one
-  pub given-exactly : (a : Time) → answer_of c t f ≡ Given a → IsTime c t f a
+  pub given-exactly : (a : Time) → answer_of c t f ≡ Ok a → IsTime c t f a
   unfolding answer_of
   given-exactly a e = by (too_early c t) found refl refl e
     where
-      by : (b : Bool) (g : Agreement) → too_early c t ≡ b → found ≡ g
-          → cond b (Refused (refusal 26)) (gone g) ≡ Given a → IsTime c t f a
+      by : (b : Bool) (g : Result Agreed Refusal) → too_early c t ≡ b → found ≡ g
+          → cond b (Err (refusal 26)) (gone g) ≡ Ok a → IsTime c t f a
       by true g q h r = absurd (omega (arith, ap number r))
-      by false (variants.Refused why) q h r = let z : ◌≡◌ {A = ℕ} 0 1 = cc in absurd (omega (arith, z))
-      by false (variants.Found b) q h r =
+      by false (Err why) q h r = let z : ◌≡◌ {A = ℕ} 0 1 = cc in absurd (omega (arith, z))
+      by false (Ok b) q h r =
           record { in-time = q; agreed = b; agrees = exactly.found-exactly (spans_then c t) f b h; is = cc }

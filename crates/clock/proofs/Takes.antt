@@ -1,32 +1,41 @@
 -- What is refused and what is not, of a start and of a window. Code has the refusal as r.
-use mathlib.Core.Path.{◌≡◌, refl, sym, ap, ap₂, ◌∙◌}
+use Rattle.std.specs.Prelude.{Err, Ok, Result}
+use mathlib.Core.Path.{◌≡◌, refl, ap, ◌∙◌}
 use mathlib.Core.Bool.{Bool, true, false, cond}
-use mathlib.Core.List.{List, [], ◌∷◌}
+use mathlib.Core.List.{[], ◌∷◌}
 use Prim.Native.Nat.{ℕ, ◌≤◌, ◌<◌}
 use native.Mathlib.Omega.{arith}
-use lib.Dec.{eqb, ltb}
+use lib.Dec.{T, eqb, ltb, ltb→lt}
 use borrow.Author.Tests.{eq-eqb, ne_eqb, ltb-false}
 use Rattle.laws.proofs.First.{row-quiet, test-quiet}
-use Rattle.refusal.specs.Refusal.{refusal, refusals, when}
+use Rattle.refusal.specs.Refusal.{refusal, refusals, when, passes, passed}
 use Rattle.refusal.specs.declared.Refusal.{Refusal}
+use Rattle.refusal.proofs.Passing.{refuses, quiet-passes}
 use Rattle.clock_spans.specs.declared.Kept.{Kept}
-use Rattle.clock.specs.State.{newest, take_code, keeping, taken_of}
+use Rattle.clock.specs.State.{newest, take_code, keeping, taken_of, next_of}
 use Rattle.clock.specs.declared.Clock.{Clock}
-use Rattle.clock.specs.declared.Updated.{Updated}
 
-abbrev updated : Refusal → Clock → Updated
-updated r k = record { refusal = r; clock = k }
-
--- of any operation whose code is a, and which leaves the state c on a refusal and else has the state g
-module _ {r a : Refusal} (c g : Clock) (f : r ≡ a) where
+-- an answer that is the state g where the refusal a has the number 0
+module _ {r a : Refusal} (g : Clock) (f : r ≡ a) where
   number : r.code ≡ a.code
   number = ap (λ (x : Refusal). x.code) f
 
-  pub refused : (r.code ≡ 0 → ⊥) → updated r c ≡ updated a (cond (eqb a.code 0) g c)
-  refused n = simp (ne_eqb a.code 0 (λ q. n (number ∙ q))) (ap (λ (x : Refusal). updated x c) f)
+  pub refused : (r.code ≡ 0 → ⊥) → ◌≡◌ {A = Result Clock Refusal} (Err r) (cond (eqb a.code 0) (Ok g) (Err a))
+  refused n = simp (ne_eqb a.code 0 (λ q. n (number ∙ q))) (ap Err f)
 
-  pub accepted : {k : Clock} → r.code ≡ 0 → k ≡ g → updated r k ≡ updated a (cond (eqb a.code 0) g c)
-  accepted z e = simp (eq-eqb a.code 0 (sym number ∙ z)) (ap₂ updated f e)
+pub given : (a : Refusal) {g k : Clock} → a.code ≡ 0 → k ≡ g
+    → ◌≡◌ {A = Result Clock Refusal} (Ok k) (cond (eqb a.code 0) (Ok g) (Err a))
+given a z e = simp (eq-eqb a.code 0 z) (ap Ok e)
+
+-- of a row of checks, whose first refusal is a: code has it as x, or comes to the end of the row
+pub refused-as : {x : Refusal} (a : Refusal) {n : ℕ} → x ≡ refusal n → T (ltb 0 n) → x ≡ a → Err x ≡ passes a
+refused-as {x} a {n} e p f = refuses (λ z. go (ltb→lt 0 n p) (ap (λ (r : Refusal). r.code) e) z) ∙ ap passes f
+  where
+    go : 0 < n → x.code ≡ n → x.code ≡ 0 → ⊥
+    go h c z = omega arith
+
+pub passed-as : (a : Refusal) → passed ≡ a → Ok tt ≡ passes a
+passed-as a f = quiet-passes passed refl ∙ ap passes f
 
 -- a window that is taken: it is a server's, and its receipt is not before its request or the last receipt
 pub record Takeable (c : Clock) (s : ℕ) (w : Kept) : Type 0 where
@@ -53,17 +62,11 @@ takeable c s w z =
           (test-quiet refusals (ltb w.received (newest c s).received) (refusal 26) tt r.0);
     }
 
--- states are the same where their arrays are
-pub arrays : {drift : ℕ} {a b c d e i j k l m : List ℕ} → a ≡ i → b ≡ j → c ≡ k → d ≡ l → e ≡ m
-    → ◌≡◌ {A = Clock} (record { drift = drift; low = a; high = b; maxt = c; sent = d; received = e })
-    (record { drift = drift; low = i; high = j; maxt = k; sent = l; received = m })
-arrays p q r s t = cc
-
 -- the drift that a state allows stays
-pub taken-drift : (c : Clock) (s : ℕ) (w : Kept) → (taken_of c s w).clock.drift ≡ c.drift
-unfolding keeping
+pub taken-drift : (c : Clock) (s : ℕ) (w : Kept) → (next_of c (taken_of c s w)).drift ≡ c.drift
+unfolding keeping taken_of
 taken-drift c s w = by (eqb (take_code c s w).code 0)
   where
-    by : (b : Bool) → (cond b (keeping c s w) c).drift ≡ c.drift
+    by : (b : Bool) → (next_of c (cond b (Ok (keeping c s w)) (Err (take_code c s w)))).drift ≡ c.drift
     by true = refl
     by false = refl

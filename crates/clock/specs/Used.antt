@@ -1,8 +1,9 @@
 -- What the state says of the moment t that is asked about: which windows are used, and when the servers are counted.
 -- That is the newest receipt among the windows that are used, and not t: counted at t, two servers that contradict each
 -- other would come to agree, as the drift widens what both say.
-use Rattle.std.specs.Prelude.{Bool, cond, List, [], ◌∷◌, ℕ, zero, suc, max, ltb, get_or}
+use Rattle.std.specs.Prelude.{Bool, cond, List, ℕ, zero, suc, max, ltb}
 use Rattle.laws.specs.Least.{somewhere}
+use Rattle.laws.specs.Upto.{upto}
 use Rattle.clock_spans.specs.Spans.{used_at, server_span}
 use Rattle.clock_spans.specs.declared.Span.{Span}
 use Rattle.clock.specs.State.{kept_in, newest, older}
@@ -10,7 +11,7 @@ use Rattle.clock.specs.declared.Clock.{Clock}
 
 -- t is before the receipt of a window that is kept
 unfoldable pub too_early : Clock → ℕ → Bool
-too_early c t = somewhere (λ i. ltb t (get_or c.received i 0)) 16
+too_early c t = somewhere (λ i. ltb t (kept_in c i).received) 16
 
 -- window i is used at t
 abbrev pub used_in : Clock → ℕ → ℕ → Bool
@@ -31,13 +32,4 @@ span_of c t counting s = server_span c.drift t counting (newest c s) (older c s)
 
 -- those of the eight
 unfoldable pub spans_of : Clock → ℕ → ℕ → List Span
-spans_of c t counting =
-    span_of c t counting 0
-    ∷ span_of c t counting 1
-    ∷ span_of c t counting 2
-    ∷ span_of c t counting 3
-    ∷ span_of c t counting 4
-    ∷ span_of c t counting 5
-    ∷ span_of c t counting 6
-    ∷ span_of c t counting 7
-    ∷ []
+spans_of c t counting = upto (span_of c t counting) 8

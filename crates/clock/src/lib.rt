@@ -7,33 +7,22 @@ mod keeping;
 mod reading;
 mod telling;
 
+use clock_spans::Kept;
 pub use keeping::{start, take};
-use refusal::Refusal;
 pub use telling::time_at;
 
 // The state: how far the host's own clock may go wrong, in parts per million, and the windows that are kept, of which
-// 2 s and 2 s + 1 are the newest of server s and the one before it. Each field is an array of its own, so that a host
-// can hold the state.
+// 2 s and 2 s + 1 are the newest of server s and the one before it. Where the last second of use is 0 there is none.
 #[derive(Clone, Copy)]
 pub struct Clock {
     pub drift: u32,
-    pub low: [u64; 16],
-    pub high: [u64; 16],
-    pub maxt: [u64; 16],
-    pub sent: [u64; 16],
-    pub received: [u64; 16],
-}
-
-// What a start, and a window that is taken, answer: a refusal or none, and the state for the next call.
-#[derive(Clone, Copy)]
-pub struct Updated {
-    pub refusal: Refusal,
-    pub clock: Clock,
+    pub kept: [Kept; 16],
 }
 
 // The time at a moment: its two ends, in microseconds since 1970, whether the high one stopped at 2^64 - 1, and how
 // many servers were counted. `agree` and `suspects` are sets of these, in which server s counts 2^s: those whose span
-// meets the time, and those whose span does not.
+// meets the time, and those whose span does not. `stopped` says no more than that the high end is 2^64 - 1: it is told
+// to C by itself.
 #[derive(Clone, Copy)]
 pub struct Time {
     pub low: u64,
@@ -42,11 +31,4 @@ pub struct Time {
     pub counted: u64,
     pub agree: u64,
     pub suspects: u64,
-}
-
-// What is said of a moment.
-#[derive(Clone, Copy)]
-pub enum Answer {
-    Refused(Refusal),
-    Given(Time),
 }

@@ -1,57 +1,36 @@
 // What the kept windows say of a moment: whether it comes too early to be asked about, the moment of counting, and the
 // spans of the servers.
-ghost use Rattle.std.specs.Prelude.{◌≡◌, ◌<◌};
-ghost use Rattle.clock.specs.State.{kept_in};
+ghost use Rattle.std.specs.Prelude.{◌≡◌, ◌<◌, cond};
+ghost use Rattle.clock_spans.specs.Spans.{used_at};
 ghost use Rattle.clock.specs.Used.{too_early, counting_at, span_of, spans_of};
 
 use super::Clock;
-use clock_spans::{Kept, Span, is_used, larger, server_span};
-
-// Window i of the state.
-fn kept_at(clock: Clock, i: usize) -> Kept
-    requires { i < 16 }
-    ensures { result ≡ kept_in clock i }
-{
-    let low = clock.low;
-    let high = clock.high;
-    let maxt = clock.maxt;
-    let sent = clock.sent;
-    let received = clock.received;
-    Kept {
-        low: low[i],
-        high: high[i],
-        maxt: maxt[i],
-        sent: sent[i],
-        received: received[i],
-    }
-}
+use clock_spans::{Kept, Span, Spans, is_used, server_span};
+use std::array;
 
 // Whether some window was received after the moment t.
 pub fn is_too_early(clock: Clock, t: u64) -> bool
     ensures { result ≡ too_early clock t }
 {
-    let received = clock.received;
-    for i in 0..16 {
-        if t < received[i] {
-            return true;
-        }
-    }
-    false
+    clock.kept.iter().any(|w| t < w.received)
 }
 
 // When the newest window was received of those that are used at the moment t.
 pub fn counting_at(clock: Clock, t: u64) -> u64
     ensures { result ≡ counting_at clock t }
 {
-    let mut newest = 0;
-    for i in 0..16 {
-        let w = kept_at(clock, i);
-        let next = larger(newest, w.received);
-        if is_used(clock.drift, w, t) {
-            newest = next;
-        }
-    }
-    newest
+    clock
+        .kept
+        .iter()
+        .map(|w| receipt(clock.drift, *w, t))
+        .fold(0, |newest, received| newest.max(received))
+}
+
+// When a window was received that is used at the moment t, and else 0.
+fn receipt(drift: u32, w: Kept, t: u64) -> u64
+    ensures { result ≡ cond (used_at drift w t) w.received 0 }
+{
+    if is_used(drift, w, t) { w.received } else { 0 }
 }
 
 // The span of a server.
@@ -59,22 +38,18 @@ fn span_of(clock: Clock, t: u64, counting: u64, server: usize) -> Span
     requires { server < 8 }
     ensures { result ≡ span_of clock t counting server }
 {
-    let newest = kept_at(clock, 2 * server);
-    let older = kept_at(clock, 2 * server + 1);
+    let newest = clock.kept[2 * server];
+    let older = clock.kept[2 * server + 1];
     server_span(clock.drift, newest, older, t, counting)
 }
 
 // The spans of the eight.
-pub fn spans_of(clock: Clock, t: u64, counting: u64) -> [Span; 8]
+pub fn spans_of(clock: Clock, t: u64, counting: u64) -> Spans
     ensures { result ≡ spans_of clock t counting }
 {
-    let a = span_of(clock, t, counting, 0);
-    let b = span_of(clock, t, counting, 1);
-    let c = span_of(clock, t, counting, 2);
-    let d = span_of(clock, t, counting, 3);
-    let e = span_of(clock, t, counting, 4);
-    let f = span_of(clock, t, counting, 5);
-    let g = span_of(clock, t, counting, 6);
-    let h = span_of(clock, t, counting, 7);
-    [a, b, c, d, e, f, g, h]
+    array::from_fn(
+        |s|
+            requires { s < 8 }
+        { span_of(clock, t, counting, s) },
+    )
 }

@@ -1,5 +1,6 @@
 -- What is agreed on, as code finds out. Code has the number of servers as k, the least point as from, and the number of
 -- spans that hold it as depth.
+use Rattle.std.specs.Prelude.{Err, Ok}
 use mathlib.Core.Path.{◌≡◌, refl, sym, ap, ap₂, ◌∙◌}
 use mathlib.Core.Bool.{Bool, true, false, true≢false}
 use mathlib.Core.List.{List}
@@ -16,7 +17,6 @@ use Rattle.clock_agreement.specs.Many.{set_of}
 use Rattle.clock_agreement.specs.Count.{points, count_of, depth_of, enough, agreeing, suspect, lowest_of, highest_of}
 use Rattle.clock_agreement.specs.Agreement.{agreed_on, agreement_of}
 use Rattle.clock_agreement.specs.declared.Agreed.{Agreed}
-use Rattle.clock_agreement.specs.declared.Agreement.TheVariants.{Refused, Found}
 
 module _ (rs : List Span) (n : ℕ) where
   -- the least point is one that n spans hold, if any is
@@ -38,9 +38,9 @@ fields : {a b k p q i j l m o : ℕ} → a ≡ i → b ≡ j → k ≡ l → p �
 fields a b c d e = cc
 
 module _ (rs : List Span) (f : ℕ) {k : ℕ} (h : k ≡ count_of rs) where
-  pub too_few : {r : Refusal} → k ≤ f → r ≡ refusal 33 → Refused r ≡ agreement_of rs f
+  pub too_few : {r : Refusal} → k ≤ f → r ≡ refusal 33 → Err r ≡ agreement_of rs f
   unfolding agreement_of
-  too_few l e = simp (le-leb (count_of rs) f (rw (← h) l)) (ap Refused e)
+  too_few l e = simp (le-leb (count_of rs) f (rw (← h) l)) (ap Err e)
 
   module _ (more : f < k) {from depth : ℕ} (e : from ≡ lowest_of rs (k - f)) (g : depth ≡ depth_of rs from) where
     n : ℕ
@@ -59,10 +59,10 @@ module _ (rs : List Span) (f : ℕ) {k : ℕ} (h : k ≡ count_of rs) where
     enough-servers : f < count_of rs
     enough-servers = rw (← h) more
 
-    pub no-agreement : {r : Refusal} → depth < k - f → r ≡ refusal 34 → Refused r ≡ agreement_of rs f
+    pub no-agreement : {r : Refusal} → depth < k - f → r ≡ refusal 34 → Err r ≡ agreement_of rs f
     unfolding agreement_of n
     no-agreement {r} l q =
-        simp (lt-leb (count_of rs) f enough-servers, by (somewhere (enough rs n) points) refl) (ap Refused q)
+        simp (lt-leb (count_of rs) f enough-servers, by (somewhere (enough rs n) points) refl) (ap Err q)
       where
         by : (t : Bool) → somewhere (enough rs n) points ≡ t → t ≡ false
         by false s = refl
@@ -71,7 +71,7 @@ module _ (rs : List Span) (f : ℕ) {k : ℕ} (h : k ≡ count_of rs) where
 
     pub agreement : {to agree suspects : ℕ} → k - f ≤ depth → to ≡ highest_of rs (k - f)
         → agree ≡ set_of (agreeing rs from to) 8 → suspects ≡ set_of (suspect rs from to) 8
-        → Found (record { from = from; to = to; counted = k; agree = agree; suspects = suspects }) ≡ agreement_of rs f
+        → Ok (record { from = from; to = to; counted = k; agree = agree; suspects = suspects }) ≡ agreement_of rs f
     unfolding agreement_of n
     agreement {to = to} l q a s =
         simp (
@@ -79,4 +79,4 @@ module _ (rs : List Span) (f : ℕ) {k : ℕ} (h : k ≡ count_of rs) where
           somewhere-here (enough rs n) points (lowest_of rs n) (lowest-below rs n)
               (le-leb n _ (rw (← depth_is, ← need) l)),
         )
-        (ap Found (fields refl refl h a s ∙ ap₂ (agreed_on rs) from_is (q ∙ ap (highest_of rs) need)))
+        (ap Ok (fields refl refl h a s ∙ ap₂ (agreed_on rs) from_is (q ∙ ap (highest_of rs) need)))

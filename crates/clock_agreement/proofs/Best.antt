@@ -1,5 +1,5 @@
--- A loop that goes through eight candidates and keeps the least one at which a test holds: where the first point at
--- which it holds is a candidate, that is what is kept in the end.
+-- Of eight candidates the least one at which a test holds, kept one after the other: where the first point at which it
+-- holds is a candidate, that is what is kept in the end.
 use mathlib.Core.Path.{◌≡◌, refl, sym, ap, ◌∙◌, subst}
 use mathlib.Core.Bool.{Bool, true, false, true≢false}
 use mathlib.Core.Logic.{◌⊎◌, inl, inr, ⊎_elim}

@@ -1,4 +1,6 @@
 -- When servers agree, and on what, as sentences.
+use Rattle.refusal.specs.declared.Refusal.{Refusal}
+use Rattle.std.specs.Prelude.{Err, Ok, Result}
 use mathlib.Core.Path.{◌≡◌, refl, sym, ap, ◌∙◌}
 use mathlib.Core.Bool.{Bool, true, false, cond}
 use mathlib.Core.List.{List}
@@ -17,8 +19,6 @@ use Rattle.clock_agreement.specs.Meaning.{Agrees, Disagrees}
 use Rattle.clock_agreement.specs.Count.{points, count_of, depth_of, enough, lowest_of, highest_of}
 use Rattle.clock_agreement.specs.Agreement.{agreed_by, agreement_of, number}
 use Rattle.clock_agreement.specs.declared.Agreed.{Agreed}
-use Rattle.clock_agreement.specs.declared.Agreement.{Agreement}
-use Rattle.clock_agreement.specs.declared.Agreement.TheVariants.{Refused, Found}
 use Rattle.clock_agreement.proofs.Edges.{down}
 
 -- the first point at which p holds is no later than any
@@ -57,8 +57,8 @@ module _ (rs : List Span) (f : ℕ) where
   abbrev some : Bool
   some = somewhere (enough rs n) points
 
-  abbrev answer : Bool → Bool → Agreement
-  answer a b = cond a (Refused (refusal 33)) (cond b (Found (agreed_by rs n)) (Refused (refusal 34)))
+  abbrev answer : Bool → Bool → Result Agreed Refusal
+  answer a b = cond a (Err (refusal 33)) (cond b (Ok (agreed_by rs n)) (Err (refusal 34)))
 
   agrees : f < count_of rs → some ≡ true → Agrees rs f (agreed_by rs n)
   agrees more e =
@@ -78,11 +78,11 @@ module _ (rs : List Span) (f : ℕ) where
       }
 
   -- what is found is what all but f of the servers agree on
-  pub found-exactly : (a : Agreed) → agreement_of rs f ≡ Found a → Agrees rs f a
+  pub found-exactly : (a : Agreed) → agreement_of rs f ≡ Ok a → Agrees rs f a
   unfolding agreement_of
   found-exactly a e = by (leb (count_of rs) f) some refl refl e
     where
-      by : (p q : Bool) → leb (count_of rs) f ≡ p → some ≡ q → answer p q ≡ Found a → Agrees rs f a
+      by : (p q : Bool) → leb (count_of rs) f ≡ p → some ≡ q → answer p q ≡ Ok a → Agrees rs f a
       by true q g h r = absurd (omega (arith, ap number r))
       by false true g h r = let i : agreed_by rs n ≡ a = cc in rw i at (agrees (leb-false (count_of rs) f g) h)
       by false false g h r = absurd (omega (arith, ap number r))

@@ -4,6 +4,7 @@ pub mod Counts
 pub mod Sets
 pub mod Inside
 pub mod Best
+pub mod Lists
 pub mod Edges
 pub mod AnswerLaws
 pub mod Exactly

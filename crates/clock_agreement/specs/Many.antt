@@ -1,5 +1,5 @@
 -- At how many places a test holds, and at which.
-use Rattle.std.specs.Prelude.{Bool, cond, ◌≡◌, ℕ, zero, suc, ◌+◌, ◌^◌, ◌≤◌}
+use Rattle.std.specs.Prelude.{Bool, cond, ℕ, zero, suc, ◌+◌, ◌^◌}
 
 -- at how many places below n
 unfoldable pub many : (ℕ → Bool) → ℕ → ℕ
@@ -10,8 +10,3 @@ many p (suc n) = many p n + cond (p n) 1 0
 unfoldable pub set_of : (ℕ → Bool) → ℕ → ℕ
 set_of p zero = 0
 set_of p (suc n) = set_of p n + cond (p n) (2 ^ n) 0
-
--- x is what a place counts for: m where the test's answer b is yes, and else 0
-pub record Picked (b : Bool) (m x : ℕ) : Type 0 where
-  pub is : x ≡ cond b m 0
-  pub small : x ≤ m

@@ -1,53 +1,36 @@
 // Which servers agree with the time, and which are suspect: sets in which server s counts 2^s.
-ghost use Rattle.std.specs.Prelude.{◌≡◌};
+ghost use Rattle.std.specs.Prelude.{◌≡◌, Bool};
+ghost use Rattle.clock_spans.specs.declared.Span.{Span};
 ghost use Rattle.clock_agreement.specs.Many.{set_of};
-ghost use Rattle.clock_agreement.specs.Count.{meets, misses, agreeing, suspect};
+ghost use Rattle.clock_agreement.specs.Count.{meets, misses, span_in};
 
-use super::counting::picked;
-use clock_spans::{Span, larger, smaller};
+use clock_spans::{Span, Spans};
 
-pub fn agree(spans: [Span; 8], low: u64, high: u64) -> u64
-    ensures { result ≡ set_of (agreeing spans low high) 8 }
+// The servers whose spans pass a test.
+pub fn set_of<F: Fn(Span) -> bool>(spans: Spans, test: F) -> u64
+    requires { F.IsAlwaysCallable test }
+    ensures { (p : Span → Bool) → ((r : Span) (b : Bool) → F.post test r b → b ≡ p r)
+        → result ≡ set_of (λ s. p (span_in spans s)) 8 }
 {
     let mut set = 0;
-    let mut bit = 1;
-    for s in 0..8 {
-        let span = spans[s];
-        set += picked(is_meeting(span, low, high), bit);
-        bit = 2 * bit;
-    }
-    set
-}
-
-pub fn suspects(spans: [Span; 8], low: u64, high: u64) -> u64
-    ensures { result ≡ set_of (suspect spans low high) 8 }
-{
-    let mut set = 0;
-    let mut bit = 1;
-    for s in 0..8 {
-        let span = spans[s];
-        set += picked(is_missing(span, low, high), bit);
-        bit = 2 * bit;
+    for (s, span) in spans.iter().enumerate() {
+        if test(*span) {
+            set += 1 << s;
+        }
     }
     set
 }
 
 // Whether a server is counted and a point from low to high lies in its span.
-fn is_meeting(span: Span, low: u64, high: u64) -> bool
+pub fn is_meeting(span: Span, low: u64, high: u64) -> bool
     ensures { result ≡ meets low high span }
 {
-    if !span.counted {
-        return false;
-    }
-    larger(low, span.low) <= smaller(high, span.high)
+    span.counted && low.max(span.low) <= high.min(span.high)
 }
 
 // Whether it is counted and none does.
-fn is_missing(span: Span, low: u64, high: u64) -> bool
+pub fn is_missing(span: Span, low: u64, high: u64) -> bool
     ensures { result ≡ misses low high span }
 {
-    if !span.counted {
-        return false;
-    }
-    smaller(high, span.high) < larger(low, span.low)
+    span.counted && high.min(span.high) < low.max(span.low)
 }

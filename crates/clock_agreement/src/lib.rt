@@ -20,9 +20,3 @@ pub struct Agreed {
     pub agree: u64,
     pub suspects: u64,
 }
-
-#[derive(Clone, Copy)]
-pub enum Agreement {
-    Refused(Refusal),
-    Found(Agreed),
-}

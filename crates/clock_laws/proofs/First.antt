@@ -19,9 +19,9 @@ use Rattle.clock.specs.State.{newest, take_code, keeping}
 use Rattle.clock.specs.Used.{counting_at, span_of}
 use Rattle.clock.specs.Meaning.{spans_then}
 use Rattle.clock.specs.declared.Clock.{Clock}
+use Rattle.clock.proofs.Places.{at-server}
 use Rattle.clock.proofs.Takes.{Takeable, takeable}
 use Rattle.clock_laws.specs.History.{Heard, after, IsTaken}
-use Rattle.clock_laws.proofs.Inside.{at-server}
 use Rattle.clock_laws.proofs.Places.{kept-newest, newest-stays, taken-or-left}
 use Rattle.clock_laws.proofs.Taking.{after-shaped}
 

@@ -20,6 +20,7 @@ use Rattle.clock.specs.State.{newest, older, kept_in}
 use Rattle.clock.specs.Used.{too_early, used_in, newest_used, counting_at, span_of, spans_of}
 use Rattle.clock.specs.Meaning.{spans_then}
 use Rattle.clock.specs.declared.Clock.{Clock}
+use Rattle.clock.proofs.Places.{at-server}
 use Rattle.clock_laws.specs.Truth.{Within, IsTrue, Story}
 
 -- what can be told of a time: it stops at the last microsecond
@@ -104,7 +105,7 @@ module _ (c : Clock) (t : ℕ) where
   module _ (in-time : too_early c t ≡ false) where
     pub received-by : (i : ℕ) → i < 16 → (kept_in c i).received ≤ t
     unfolding too_early
-    received-by i l = ltb-false t _ (nowhere-at (λ k. ltb t (get_or c.received k 0)) 16 i in-time l)
+    received-by i l = ltb-false t _ (nowhere-at (λ k. ltb t ((kept_in c k).received)) 16 i in-time l)
 
     newest-by : (n : ℕ) → n ≤ 16 → newest_used c t n ≤ t
     unfolding newest_used
@@ -120,19 +121,6 @@ module _ (c : Clock) (t : ℕ) where
     counted-by = newest-by 16 (omega arith)
 
 -- ---- of the state
-
--- the span in the list is that of the server
-pub at-server : (c : Clock) (t counting s : ℕ) → s < 8 → span_in (spans_of c t counting) s ≡ span_of c t counting s
-unfolding spans_of
-at-server c t counting zero h = refl
-at-server c t counting (suc zero) h = refl
-at-server c t counting (suc (suc zero)) h = refl
-at-server c t counting (suc (suc (suc zero))) h = refl
-at-server c t counting (suc (suc (suc (suc zero)))) h = refl
-at-server c t counting (suc (suc (suc (suc (suc zero))))) h = refl
-at-server c t counting (suc (suc (suc (suc (suc (suc zero)))))) h = refl
-at-server c t counting (suc (suc (suc (suc (suc (suc (suc zero))))))) h = refl
-at-server c t counting (suc (suc (suc (suc (suc (suc (suc (suc n)))))))) h = absurd (omega arith)
 
 -- the true time lies in the span of each honest server
 pub honest-in : {c : Clock} {T : ℕ → ℕ} {lies : ℕ → Bool} → Story c T lies → (t s : ℕ) → s < 8 → lies s ≡ false

@@ -7,12 +7,11 @@ use Prim.Native.Nat.{ℕ, zero, suc, ◌+◌, ◌*◌, ◌≤◌, ◌<◌}
 use native.Mathlib.Nat.{eq-or-lt_of_le, le_of_suc-le-suc}
 use native.Mathlib.Omega.{arith}
 use lib.Dec.{eqb, ltb}
-use lib.ListN.{get_or}
 use borrow.Author.Tests.{eqb-true, eqb-false, ltb-true, lt-ltb}
 use Rattle.laws.proofs.Least.{somewhere-at, somewhere-here}
 use Rattle.laws.specs.Least.{least}
 use Rattle.clock_spans.specs.declared.Kept.{Kept}
-use Rattle.clock.specs.State.{kept_in, newest, take_code, keeping, taken_of}
+use Rattle.clock.specs.State.{kept_in, newest, take_code, keeping, taken_of, next_of}
 use Rattle.clock.specs.Used.{too_early}
 use Rattle.clock.specs.declared.Clock.{Clock}
 use Rattle.clock.proofs.Takes.{takeable}
@@ -82,14 +81,14 @@ module _ (drift : ℕ) (h : ℕ → Heard) where
       w : Kept
       w = (h n).window
 
-      last : IsTaken drift h n → w.received ≤ (newest (taken_of c s w).clock s).received
+      last : IsTaken drift h n → w.received ≤ (newest (next_of c (taken_of c s w)) s).received
       last y =
           taken-or-left (λ (d : Clock). w.received ≤ (newest d s).received) c s w
           (λ q. kept-latest c (after-shaped drift h n) s w q w.received s (λ e. omega arith) (λ e. absurd (e refl)))
           (λ q. absurd (q y))
 
       before : (h k).window.received ≤ (newest c (h k).server).received
-          → (h k).window.received ≤ (newest (taken_of c s w).clock (h k).server).received
+          → (h k).window.received ≤ (newest (next_of c (taken_of c s w)) (h k).server).received
       before y =
           let x = (h k).window.received in
           let j = (h k).server in
@@ -143,4 +142,4 @@ module _ (drift : ℕ) (h : ℕ → Heard) where
   )
     where
       p : ℕ → Bool
-      p = λ i. ltb t (get_or (after drift h n).received i 0)
+      p = λ i. ltb t ((kept_in (after drift h n) i).received)

@@ -1,5 +1,8 @@
 -- Waiting changes nothing but the two ends: what is refused stays so, and so does who agrees and who is suspect, until
 -- a window more is taken or one passes its MAXT. For the servers are counted at a receipt, and not when it is asked.
+use Rattle.clock_agreement.specs.declared.Agreed.{Agreed}
+use Rattle.refusal.specs.declared.Refusal.{Refusal}
+use Rattle.std.specs.Prelude.{Err, Ok, Result}
 use mathlib.Core.Path.{◌≡◌, refl, sym, ap, ap₂, ◌∙◌, subst}
 use mathlib.Core.Bool.{Bool, true, false, cond}
 use mathlib.Core.List.{List}
@@ -16,14 +19,12 @@ use Rattle.clock_spans.specs.Spans.{low_at, high_at, used_at, unknown, span_at, 
 use Rattle.clock_spans.specs.declared.Kept.{Kept}
 use Rattle.clock_spans.specs.declared.Span.{Span}
 use Rattle.clock_agreement.specs.Agreement.{agreement_of}
-use Rattle.clock_agreement.specs.declared.Agreement.{Agreement}
-use Rattle.clock_agreement.specs.declared.Agreement.TheVariants as variants
 use Rattle.clock.specs.State.{kept_in}
 use Rattle.clock.specs.Used.{too_early, used_in, newest_used, counting_at, span_of, spans_of}
 use Rattle.clock.specs.Answer.{later, answer_of}
 use Rattle.clock.specs.Meaning.{spans_then}
 use Rattle.clock.specs.declared.Clock.{Clock}
-use Rattle.clock.proofs.Places.{eight}
+use Rattle.laws.proofs.Upto.{upto-same}
 use Rattle.clock_laws.specs.Meaning.{SameServers}
 
 -- ---- a window that is used later was used before
@@ -72,28 +73,25 @@ module _ (c : Clock) (a b : ℕ) (same : (i : ℕ) → i < 16 → used_in c a i 
   at_same : (counting : ℕ) → spans_of c a counting ≡ spans_of c b counting
   unfolding spans_of
   at_same counting =
-      eight (server-same counting 0 (omega arith)) (server-same counting 1 (omega arith))
-      (server-same counting 2 (omega arith)) (server-same counting 3 (omega arith))
-      (server-same counting 4 (omega arith)) (server-same counting 5 (omega arith))
-      (server-same counting 6 (omega arith)) (server-same counting 7 (omega arith))
+      upto-same (span_of c a counting) (span_of c b counting) 8 (server-same counting)
 
   spans-same : spans_then c a ≡ spans_then c b
   spans-same = at_same (counting_at c a) ∙ ap (spans_of c b) (newest-same 16 (omega arith))
 
 -- ---- so the answer is the same, but for its ends
 
-servers-same : (drift d e : ℕ) (x : Agreement) → SameServers (later drift d x) (later drift e x)
-servers-same drift d e (variants.Refused why) = refl
-servers-same drift d e (variants.Found a) = (refl, refl, refl)
+servers-same : (drift d e : ℕ) (x : Result Agreed Refusal) → SameServers (later drift d x) (later drift e x)
+servers-same drift d e (Err why) = refl
+servers-same drift d e (Ok a) = (refl, refl, refl)
 
 -- a moment after one that is not before a receipt is not either
 in-time-later : (c : Clock) (a b : ℕ) → a ≤ b → too_early c a ≡ false → too_early c b ≡ false
 unfolding too_early
 in-time-later c a b h e =
-    nowhere (λ i. ltb b (get_or c.received i 0)) 16
+    nowhere (λ i. ltb b ((kept_in c i).received)) 16
     (λ i l.
-    let k = ltb-false a (get_or c.received i 0) (nowhere-at (λ j. ltb a (get_or c.received j 0)) 16 i e l) in
-    le-ltb b (get_or c.received i 0) (omega (arith, k)))
+    let k = ltb-false a ((kept_in c i).received) (nowhere-at (λ j. ltb a ((kept_in c j).received)) 16 i e l) in
+    le-ltb b ((kept_in c i).received) (omega (arith, k)))
 
 -- two tests of which each holds where the other does
 same_test : (x y : Bool) → (x ≡ true → y ≡ true) → (y ≡ true → x ≡ true) → x ≡ y

@@ -1,4 +1,5 @@
 -- What the clock claims of any state, as it may have come about; and the bits of what it tells.
+use Rattle.std.specs.Prelude.{Ok}
 use mathlib.Core.Path.{◌≡◌, refl, sym, ap, ap₂, ◌∙◌}
 use mathlib.Core.Bool.{Bool, true, false, cond, ◌&&◌}
 use Prim.Native.Nat.{ℕ, ◌+◌, ◌/◌, ◌%◌, ◌^◌, ◌≤◌, ◌<◌, min, max}
@@ -17,7 +18,6 @@ use Rattle.clock.specs.Answer.{answer_of, number}
 use Rattle.clock.specs.Meaning.{spans_then, count_then, IsTime}
 use Rattle.clock.specs.declared.Clock.{Clock}
 use Rattle.clock.specs.declared.Time.{Time}
-use Rattle.clock.specs.declared.Answer.TheVariants.{Given}
 use Rattle.clock.proofs.Exactly.{number_is, none-exactly, given-exactly}
 use Rattle.clock_laws.specs.Truth.{Story, liars}
 use Rattle.clock_laws.specs.Meaning.{Right, Unstretched}
@@ -90,7 +90,7 @@ module _ {c : Clock} {T : ℕ → ℕ} {lies : ℕ → Bool} (y : Story c T lies
         (λ e. omega (arith, more, (agreed.few-exactly (spans_then c t) f).0 e))
         (λ e. omega (arith, few, story-no-agreement (n ∙ e)))
 
-    module _ (a : Time) (e : answer_of c t f ≡ Given a) where
+    module _ (a : Time) (e : answer_of c t f ≡ Ok a) where
       g : IsTime c t f a
       g = given-exactly c t f a e
 

@@ -1,5 +1,6 @@
 -- What the clock claims: of every state that comes from a start by windows that are taken one by one, of every true
 -- time and of every set of liars with which the windows can have come about.
+use Rattle.std.specs.Prelude.{Ok}
 use mathlib.Core.Path.{◌≡◌}
 use mathlib.Core.Bool.{Bool, true, false}
 use Prim.Native.Nat.{ℕ, ◌+◌, ◌≤◌, ◌<◌}
@@ -8,7 +9,6 @@ use Rattle.clock.specs.Answer.{answer_of, number}
 use Rattle.clock.specs.Meaning.{count_then}
 use Rattle.clock.specs.declared.Clock.{Clock}
 use Rattle.clock.specs.declared.Time.{Time}
-use Rattle.clock.specs.declared.Answer.TheVariants.{Given}
 use Rattle.clock_laws.specs.Truth.{liars}
 use Rattle.clock_laws.specs.History.{Heard, after, World}
 use Rattle.clock_laws.specs.Meaning.{Right, Unstretched}
@@ -31,7 +31,7 @@ module _ {drift : ℕ} {h : ℕ → Heard} {n : ℕ} {T : ℕ → ℕ} {lies : �
     pub never-refused : too_early c t ≡ false → f < count_then c t → number (answer_of c t f) ≡ 0
     never-refused = story-never-refused (story w) t f few
 
-    module _ (a : Time) (e : answer_of c t f ≡ Given a) where
+    module _ (a : Time) (e : answer_of c t f ≡ Ok a) where
       -- (1) the true time is between the two ends
       pub right : Right (T t) a
       right = story-right (story w) t f few a e

@@ -1,5 +1,6 @@
 -- With a walk: where at most f lie and more than f have answered, the time is told, whether the walk ends consistent,
 -- in malfeasance, or not at all since a server is silent.
+use Rattle.std.specs.Prelude.{Ok}
 use mathlib.Core.Path.{◌≡◌, refl}
 use mathlib.Core.Bool.{Bool, true, false}
 use mathlib.Core.List.{List}
@@ -18,7 +19,6 @@ use Rattle.clock.specs.Meaning.{spans_then, count_then}
 use Rattle.clock.specs.declared.Clock.{Clock}
 use Rattle.pile.specs.Pile.{record_at, request_packet, response_packet}
 use Rattle.check_response.specs.Check.{verdict_of}
-use Rattle.check_response.specs.declared.Verdict.TheVariants.{Valid}
 use Rattle.walk.specs.Trace.{Reached}
 use Rattle.walk.specs.Standing.{InStep}
 use Rattle.walk.specs.declared.Walk.{Walk}
@@ -53,7 +53,7 @@ module _ (keys nonce : List ℕ) (most : ℕ) (n32 : length nonce ≡ 32) (w : W
   -- what is taken of record k is the window of a valid response
   pub walked-valid : (k : ℕ) → k < w.step
       → verdict_of (request_packet (record_at pile k)) (response_packet (record_at pile k)) true true
-      ≡ Valid (window_of pile k)
+      ≡ Ok (window_of pile k)
   unfolding verdict_of
   walked-valid k l = rw (st.entries k l).passes refl
 

@@ -1,7 +1,7 @@
 -- How a state comes about: from a start, by windows that are taken one by one.
 use Rattle.std.specs.Prelude.{◌≡◌, Bool, false, ℕ, zero, suc, ◌<◌}
 use Rattle.clock_spans.specs.declared.Kept.{Kept}
-use Rattle.clock.specs.State.{start_of, take_code, taken_of}
+use Rattle.clock.specs.State.{start_of, take_code, taken_of, next_of}
 use Rattle.clock.specs.declared.Clock.{Clock}
 use Rattle.clock_laws.specs.Truth.{Within, IsTrue}
 
@@ -13,7 +13,7 @@ pub record Heard : Type 0 where
 -- the state after the first n of them; refused ones leave it
 unfoldable pub after : ℕ → (ℕ → Heard) → ℕ → Clock
 after drift h zero = start_of drift
-after drift h (suc n) = (taken_of (after drift h n) (h n).server (h n).window).clock
+after drift h (suc n) = next_of (after drift h n) (taken_of (after drift h n) (h n).server (h n).window)
 
 -- window k of these is taken, and not refused
 abbrev pub IsTaken : ℕ → (ℕ → Heard) → ℕ → Type 0

@@ -1,5 +1,6 @@
 -- What is concluded, in sentences.
-use Rattle.std.specs.Prelude.{◌≡◌, Bool, true, false, ℕ, ◌*◌, ◌-◌, ◌≤◌, ◌<◌}
+use Rattle.refusal.specs.declared.Refusal.{Refusal}
+use Rattle.std.specs.Prelude.{◌≡◌, Bool, true, false, ℕ, ◌*◌, ◌-◌, ◌≤◌, ◌<◌, Err, Ok, Result}
 use Rattle.clock_spans.specs.Drift.{million, last, low_later, high_later}
 use Rattle.clock_spans.specs.declared.Span.{Span}
 use Rattle.clock_agreement.specs.Count.{span_in}
@@ -7,8 +8,6 @@ use Rattle.clock.specs.Meaning.{spans_then}
 use Rattle.clock.specs.Used.{counting_at}
 use Rattle.clock.specs.declared.Clock.{Clock}
 use Rattle.clock.specs.declared.Time.{Time}
-use Rattle.clock.specs.declared.Answer.{Answer}
-use Rattle.clock.specs.declared.Answer.TheVariants.{Refused, Given}
 
 -- the true time `now`, in millionths of a microsecond, is between the ends that are told; where the high one has
 -- stopped at the last microsecond, it may be later
@@ -42,9 +41,9 @@ pub record Unstretched (c : Clock) (t : ℕ) (T : ℕ → ℕ) (lies : ℕ → B
   pub high-backed : Backed c t T lies to
 
 -- two answers say the same but for the two ends: the same refusal, or the same servers
-abbrev pub SameServers : Answer → Answer → Type 0
-SameServers (Refused x) (Refused y) = x ≡ y
-SameServers (Given a) (Given b) =
+abbrev pub SameServers : Result Time Refusal → Result Time Refusal → Type 0
+SameServers (Err x) (Err y) = x ≡ y
+SameServers (Ok a) (Ok b) =
     (a.counted ≡ b.counted) × (a.agree ≡ b.agree) × (a.suspects ≡ b.suspects)
-SameServers (Refused x) (Given b) = ⊥
-SameServers (Given a) (Refused y) = ⊥
+SameServers (Err x) (Ok b) = ⊥
+SameServers (Ok a) (Err y) = ⊥

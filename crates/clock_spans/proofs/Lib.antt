@@ -1,4 +1,3 @@
 -- Laws that belong to no one function. Once has what the crate claims of itself.
 pub mod Parts
-pub mod Used
 pub mod Once

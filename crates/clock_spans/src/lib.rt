@@ -4,11 +4,9 @@
 #![tactic(auto)]
 
 mod drifting;
-mod numbers;
 mod spanning;
 
 pub use drifting::{high_later, low_later};
-pub use numbers::{LAST, larger, minus, smaller};
 pub use spanning::{is_used, server_span};
 
 // A window that was kept: its ends and the last second at which it may be used, in seconds since 1970; and when its
@@ -23,9 +21,13 @@ pub struct Kept {
 }
 
 // What a window, or a server, says of a moment: whether it is counted, and between which points the time is then.
+// The flag stands beside the ends, since where nothing is said any time is possible: so two meet with no case between.
 #[derive(Clone, Copy)]
 pub struct Span {
     pub counted: bool,
     pub low: u64,
     pub high: u64,
 }
+
+// What eight servers say, server s at place s. Whether one is counted stands in its own span, and no count beside them.
+pub type Spans = [Span; 8];

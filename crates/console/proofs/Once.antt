@@ -1,11 +1,12 @@
 -- The text is settled: the cutter's answer is, and so is what is put for it.
+use Rattle.refusal.specs.declared.Refusal.{Refusal}
+use Rattle.std.specs.Prelude.{Result}
 use mathlib.Core.Path.{◌≡◌, refl, sym, ap, ◌∙◌}
 use mathlib.Core.List.{List}
 use Prim.Native.Nat.{ℕ}
 use Rattle.laws.proofs.Once.{Settles}
 use Rattle.pile_report.proofs.Runs.{takes-once}
 use Rattle.pile_report.specs.Taking.{Takes}
-use Rattle.pile_report.specs.declared.Taken.{Taken}
 use Rattle.console.specs.Text.{verdict_text}
 use Rattle.console.proofs.answering.put_answers.Kinds as put-answers-kinds
 use Rattle.console.proofs.answering.put_answers.Reads as put-answers-reads
@@ -22,7 +23,7 @@ put-verdict-once κs a x u y v p q =
     (p.ends ∙ sym q.ends, ap (λ (out : List ℕ). (tt, (tt, (tt, (out, tt))))) (p.is ∙ sym q.is))
 
 -- so a pile and its answers have one text
-pub text-once : (pile answers : List ℕ) (t u : Taken) → Takes pile answers 65536 t → Takes pile answers 65536 u
+pub text-once : (pile answers : List ℕ) (t u : Result (ℕ × ℕ) Refusal) → Takes pile answers 65536 t → Takes pile answers 65536 u
     → verdict_text pile answers t ≡ verdict_text pile answers u
 text-once pile answers t u p q = ap (verdict_text pile answers) (takes-once pile answers 65536 t u p q)
 

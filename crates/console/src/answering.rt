@@ -7,7 +7,6 @@ ghost use Rattle.wire_request.specs.Answered.{wrote_number, wrote_length, answer
 ghost use Rattle.pile_signed.specs.OwnAnswers.{own_answers};
 
 use pile_signed::pile_answers;
-use wire_request::Wrote;
 
 // The answers of our own Ed25519 at the front of out, and how many bytes they are: none where the pile is not 1 to 16
 // whole records, or out is too short.
@@ -20,7 +19,7 @@ pub fn put_answers(pile: &[u8], out: &mut [u8]) -> usize
         out.old)) (own_answers pile.now) out.old }
 {
     match pile_answers(pile, out) {
-        Wrote::Done(n) => n,
-        Wrote::Refused(_) => 0,
+        Ok(n) => n,
+        Err(_) => 0,
     }
 }

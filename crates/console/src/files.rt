@@ -38,6 +38,7 @@ fn read_full<F: Read>(file: &mut F, buf: &mut [u8]) -> usize
     ensures { (result ≤ length buf.new) × (result ≡ length (take result buf.new)) }
 {
     let mut n: usize = 0;
+    // A read gives as many bytes as it likes, so that no range counts them; `read_to_end` takes a heap.
     while n < buf.len() {
         match file.read(&mut buf[n..]) {
             Ok(0) => return n,
@@ -51,11 +52,7 @@ fn read_full<F: Read>(file: &mut F, buf: &mut [u8]) -> usize
 // How many arguments there are, with the program's own name.
 pub fn argument_count<R: Env>(rt: &R) -> usize {
     let mut name = [0u8; 1];
-    for i in 0..usize::MAX {
-        match rt.arg(i, &mut name) {
-            Err(FillError::NotPresent) => return i,
-            _ => {}
-        }
-    }
-    usize::MAX
+    (0..usize::MAX)
+        .find(|i| matches!(rt.arg(*i, &mut name), Err(FillError::NotPresent)))
+        .unwrap_or(usize::MAX)
 }

@@ -8,8 +8,8 @@ ghost use Rattle.console.specs.Text.{record_lines, records_text, verdict_text};
 
 use console_lines::{put_labelled, put_record, put_run, put_word};
 use pile::{RECORD, judge};
-use pile_report::{Taken, cut_run};
-use refusal::codes;
+use pile_report::cut_run;
+use refusal::{Refusal, codes};
 use std::io::Print;
 
 // The length of sixteen records, the most that a pile has.
@@ -24,7 +24,7 @@ pub fn tell<'a, R: Print>(rt: &R, pile: &'a [u8], answers: &'a [u8]) -> std::io:
 }
 
 // What the cutter answers. Its buffer has room for the longest pile, so that it is never short.
-pub fn taken_from<'a>(pile: &'a [u8], answers: &'a [u8]) -> Taken
+pub fn taken_from<'a>(pile: &'a [u8], answers: &'a [u8]) -> Result<(usize, usize), Refusal>
     ensures { Takes pile.now answers.now 65536 result }
 {
     let mut run = [0u8; LONGEST];
@@ -32,17 +32,22 @@ pub fn taken_from<'a>(pile: &'a [u8], answers: &'a [u8]) -> Taken
 }
 
 // The whole text, where the cutter answered this. A refusal is 15 or 18: 19 it never answers, as 15 comes before.
-pub fn put_verdict<'a>(pile: &'a [u8], answers: &'a [u8], taken: Taken, out: &mut [u8]) -> usize
+pub fn put_verdict<'a>(
+    pile: &'a [u8],
+    answers: &'a [u8],
+    taken: Result<(usize, usize), Refusal>,
+    out: &mut [u8],
+) -> usize
     requires { Takes pile.now answers.now 65536 taken × (2048 ≤ length out.old) }
     ensures { Puts out.old 0 (verdict_text pile.now answers.now taken)
         out.new result }
 {
     match taken {
-        Taken::Run(first, last) => {
+        Ok((first, last)) => {
             let a = put_records(pile, answers, out);
             put_run(out, a, first, last)
         }
-        Taken::Refused(why) => {
+        Err(why) => {
             if why.code == codes::NO_CONTRADICTION {
                 let a = put_records(pile, answers, out);
                 return put_word(out, a, b"run none\n");
@@ -72,10 +77,10 @@ fn put_lines<'a>(pile: &'a [u8], answers: &'a [u8], n: usize, out: &mut [u8], at
     ensures upper_bound { result ≤ at + 1728 }
 {
     let mut end = at;
+    // By the place of a record, which `judge` takes: its answers stand in another slice.
     for k in 0..n {
         let j = judge(pile, answers, k);
-        let v = j.verdict;
-        end = put_record(out, end, k, v);
+        end = put_record(out, end, k, j.verdict);
     }
     end
 }

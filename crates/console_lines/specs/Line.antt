@@ -1,9 +1,9 @@
 -- The lines that the program prints of a pile (document 01, "Examples"), as bytes.
-use Rattle.std.specs.Prelude.{cond, List, [], ◌∷◌, ◌++◌, ℕ, zero, suc, ◌+◌, ◌/◌, ◌%◌, ltb}
+use Rattle.check_response.specs.declared.Window.{Window}
+use Rattle.refusal.specs.declared.Refusal.{Refusal}
+use Rattle.std.specs.Prelude.{cond, List, [], ◌∷◌, ◌++◌, ℕ, zero, suc, ◌+◌, ◌/◌, ◌%◌, ltb, Err, Ok, Result}
 use Rattle.laws.specs.Ascii.{ascii}
 use Rattle.refusal.specs.Refusal.{carries}
-use Rattle.check_response.specs.declared.Verdict.{Verdict}
-use Rattle.check_response.specs.declared.Verdict.TheVariants.{Valid, Refused}
 
 -- n in decimal: its tens, where it has any, and then its last digit; of a longer number the last k digits
 unfoldable pub decimal_in : ℕ → ℕ → List ℕ
@@ -48,9 +48,9 @@ refusal_line k code place =
     decimal k ++ ascii " refused" ++ spaced code ++ place_text code place ++ ascii "\n"
 
 -- record k: its window, or its refusal
-abbrev pub record_line : ℕ → Verdict → List ℕ
-record_line k (Valid w) = window_line k w.low w.high w.mint w.maxt
-record_line k (Refused why) = refusal_line k why.code why.at
+abbrev pub record_line : ℕ → Result Window Refusal → List ℕ
+record_line k (Ok w) = window_line k w.low w.high w.mint w.maxt
+record_line k (Err why) = refusal_line k why.code why.at
 
 -- `run 2 3`
 unfoldable pub run_line : ℕ → ℕ → List ℕ

@@ -3,7 +3,7 @@ ghost use Rattle.std.specs.Prelude.{◌+◌, ◌≤◌, length};
 ghost use Rattle.laws.specs.Written.{Puts};
 ghost use Rattle.console_lines.specs.Line.{labelled, window_line, place_text, refusal_line, record_line, run_line};
 
-use super::pieces::{put_number, put_spaced, put_two, put_word};
+use super::pieces::{put_number, put_spaced, put_word};
 use check_response::{Verdict, Window};
 use refusal::codes;
 
@@ -27,9 +27,11 @@ fn put_window(out: &mut [u8], at: usize, k: usize, w: Window) -> usize
 {
     let a = put_number(out, at, k as u64);
     let b = put_word(out, a, b" ok");
-    let c = put_two(out, b, w.low, w.high);
-    let d = put_two(out, c, w.mint, w.maxt);
-    put_word(out, d, b"\n")
+    let c = put_spaced(out, b, w.low);
+    let d = put_spaced(out, c, w.high);
+    let e = put_spaced(out, d, w.mint);
+    let f = put_spaced(out, e, w.maxt);
+    put_word(out, f, b"\n")
 }
 
 // Record k with its refusal.
@@ -67,8 +69,8 @@ pub fn put_record(out: &mut [u8], at: usize, k: usize, v: Verdict) -> usize
     ensures upper_bound { result ≤ at + 108 }
 {
     match v {
-        Verdict::Valid(w) => put_window(out, at, k, w),
-        Verdict::Refused(why) => put_refusal(out, at, k, why.code, why.at),
+        Ok(w) => put_window(out, at, k, w),
+        Err(why) => put_refusal(out, at, k, why.code, why.at),
     }
 }
 
@@ -79,6 +81,7 @@ pub fn put_run(out: &mut [u8], at: usize, first: usize, last: usize) -> usize
     ensures upper_bound { result ≤ at + 46 }
 {
     let a = put_word(out, at, b"run");
-    let b = put_two(out, a, first as u64, last as u64);
-    put_word(out, b, b"\n")
+    let b = put_spaced(out, a, first as u64);
+    let c = put_spaced(out, b, last as u64);
+    put_word(out, c, b"\n")
 }

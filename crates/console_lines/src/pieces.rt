@@ -1,7 +1,8 @@
 // Pieces of text, put into a buffer one behind the other. Each function answers the index at which its piece ends.
+// No `write!`: the library says what it leaves of a String, which is on the heap, and of no other writer.
 ghost use Rattle.std.specs.Prelude.{◌+◌, ◌≤◌, length};
 ghost use Rattle.laws.specs.Written.{Puts};
-ghost use Rattle.console_lines.specs.Line.{decimal, spaced, two_spaced};
+ghost use Rattle.console_lines.specs.Line.{decimal, spaced};
 
 use octets::put;
 
@@ -33,14 +34,4 @@ pub fn put_spaced(out: &mut [u8], at: usize, x: u64) -> usize
 {
     let digits = put_word(out, at, b" ");
     put_number(out, digits, x)
-}
-
-// Two numbers, each behind a space.
-pub fn put_two(out: &mut [u8], at: usize, x: u64, y: u64) -> usize
-    requires { at + 42 ≤ length out.old }
-    ensures puts { Puts out.old at (two_spaced x y) out.new result }
-    ensures upper_bound { result ≤ at + 42 }
-{
-    let a = put_spaced(out, at, x);
-    put_spaced(out, a, y)
 }

@@ -3,7 +3,7 @@ use Prim.Native.Nat.{ℕ, ◌+◌, ◌%◌, ◌^◌, ◌≤◌, ◌<◌}
 use mathlib.Core.Path.{◌≡◌, sym, ap, ◌∙◌}
 use mathlib.Core.Bool.{Bool, true, false}
 use mathlib.Core.List.{List, ◌++◌}
-use native.Mathlib.Nat.{mod-eq_of_lt, mod-lt, lt_trans}
+use native.Mathlib.Nat.{mod-lt, lt_trans}
 use borrow.Author.Tests.{ltb-true, lt-ltb, le-ltb, eq-eqb, ne_eqb}
 use lib.Dec.{ltb, lit<}
 use lib.ListN.{length, take, drop}
@@ -46,24 +46,15 @@ digest-number m d e = ap (value 256) e ∙ sym (le-bytes 64 (Sha512 m) (Sha512-l
 pub decoded-itself : (s : List ℕ) (D : Decoding) → D ≡ decode_of s → D.ok ≡ true → Itself D.point
 decoded-itself s D e t = rw e (decoded-stands s (rw e at t))
 
--- `check`: v is the number in the bytes s
-module _ (key m r s : List ℕ) (A R : Decoding) (ea : A ≡ decode_of key) where
-  pub check-1 : A.ok ≡ false → false ≡ accepts key m r s
-  check-1 t = rw (← ea, t)
+-- `check`, where both decode: v is the number in the bytes s
+module _ (key m r s : List ℕ) (A R : Decoding) (ea : A ≡ decode_of key) (ta : A.ok ≡ true) (er : R ≡ decode_of r)
+    (tr : R.ok ≡ true) (v : ℕ) (ev : le 32 s 0 ≡ v) where
+  pub check-high : ltb v L ≡ false → false ≡ accepts key m r s
+  check-high e = rw (← ea, ta, ← er, tr, ev, e)
 
-  module _ (ta : A.ok ≡ true) (er : R ≡ decode_of r) where
-    pub check-2 : R.ok ≡ false → false ≡ accepts key m r s
-    check-2 t = rw (← ea, ta, ← er, t)
-
-    module _ (tr : R.ok ≡ true) (b : Bool) (v : ℕ) (ev : le 32 s 0 ≡ v) (eb : b ≡ ltb v L) where
-      pub check-3 : b ≡ false → false ≡ accepts key m r s
-      check-3 t = let e : ltb v L ≡ false = sym eb ∙ t in rw (← ea, ta, ← er, tr, ev, e)
-
-      pub check-4 : (z : Bool) (S k : ℕ) → b ≡ true → S ≡ v → k ≡ k_of r key m
-          → z ≡ group_equation A.point R.point S k → z ≡ accepts key m r s
-      check-4 z S k t f g h =
-          let e : ltb v L ≡ true = sym eb ∙ t in
-          rw (← ea, ta, ← er, tr, ev, e) (h ∙ (rw (f, g)))
+  pub check-low : (z : Bool) (S k : ℕ) → ltb v L ≡ true → S ≡ v → k ≡ k_of r key m
+      → z ≡ group_equation A.point R.point S k → z ≡ accepts key m r s
+  check-low z S k e f g h = rw (← ea, ta, ← er, tr, ev, e) (h ∙ (rw (f, g)))
 
 -- `verify_parts`
 module _ (key context text sig : List ℕ) where

@@ -13,6 +13,7 @@ use ed25519_field::limbs_of;
 use ed25519_point::decode;
 use ed25519_scalar::{Scalar, below_order};
 use ed25519_windows::times_two;
+use octets::copy32;
 
 // The most bytes that a text may have: with R and A as many as a message in pieces may, 2^64 - 1.
 pub const MOST_TEXT: usize = 0xffff_ffff_ffff_ffbf;
@@ -27,24 +28,18 @@ fn group_equation(a: Point, r: Point, s: Scalar, k: Scalar) -> bool
 }
 
 // Of a key and the halves of a signature.
-fn check(key: &[u8], context: &[u8], text: &[u8], r: &[u8], s: &[u8]) -> bool
-    requires { (length key.now ≡ 32) × (length r.now ≡ 32) × (length s.now ≡ 32)
-        × (64 + (length context.now + length text.now) < 2 ^ 64) }
+fn check(key: &[u8; 32], context: &[u8], text: &[u8], r: &[u8; 32], s: &[u8; 32]) -> bool
+    requires { 64 + (length context.now + length text.now) < 2 ^ 64 }
     ensures { result ≡ accepts key.now (context.now ++ text.now) r.now
         s.now }
 {
-    let a = decode(key);
-    if a.ok {
-        let q = decode(r);
-        if q.ok {
-            if below_order(s) {
-                let ap = a.point;
-                let qp = q.point;
-                return group_equation(ap, qp, limbs_of(s), hash(r, key, context, text));
-            }
-        }
-    }
-    false
+    let Some(a) = decode(key) else {
+        return false;
+    };
+    let Some(q) = decode(r) else {
+        return false;
+    };
+    below_order(s) && group_equation(a, q, limbs_of(s), hash(r, key, context, text))
 }
 
 // Whether the signature of the text that is context and then value verifies under the key.
@@ -61,13 +56,15 @@ pub fn verify_parts(key: &[u8], context: &[u8], value: &[u8], signature: &[u8]) 
     if signature.len() != 64 {
         return false;
     }
-    check(key, context, value, &signature[..32], &signature[32..])
+    let a = copy32(key, 0);
+    let r = copy32(signature, 0);
+    let s = copy32(signature, 32);
+    check(&a, context, value, &r, &s)
 }
 
 // Whether the signature of the text verifies under the key.
 pub fn verify(key: &[u8], text: &[u8], signature: &[u8]) -> bool
     ensures { result ≡ verifies key.now text.now signature.now }
 {
-    let none = [0u8; 1];
-    verify_parts(key, &none[..0], text, signature)
+    verify_parts(key, &[], text, signature)
 }

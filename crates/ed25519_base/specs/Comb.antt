@@ -1,12 +1,11 @@
 -- The comb of four teeth: columns of four words, and the table of the multiples that they stand for.
-use Rattle.std.specs.Prelude.{ℕ, ◌+◌, ◌*◌, ◌/◌, ◌%◌, ◌^◌, ◌<◌, ◌≡◌, List, [], ◌∷◌, length, get_or}
+use Rattle.std.specs.Prelude.{ℕ, ◌+◌, ◌*◌, ◌/◌, ◌%◌, ◌^◌, [], ◌∷◌}
 use Rattle.digits.specs.Digits.{value}
 use Rattle.ed25519_curve.specs.declared.Flat.{Flat}
-use Rattle.ed25519_curve.specs.declared.Thin.{Thin}
 use Rattle.ed25519_curve.specs.declared.Addend.{Addend}
-use Rattle.ed25519_curve.specs.Coords.{GoodFlat, whole_of}
+use Rattle.ed25519_curve.specs.Coords.{GoodFlat}
 use Rattle.ed25519_group_laws.specs.Affine.{Affine, sum_of}
-use Rattle.ed25519_windows.specs.Windows.{FlatFor, RowFor, BaseRow}
+use Rattle.ed25519_windows.specs.Windows.{FlatFor, RowFor}
 
 -- 2^64
 abbrev pub word_radix : ℕ
@@ -27,19 +26,6 @@ column_of a b c d i = a / 2 ^ i % 2 + 2 * (b / 2 ^ i % 2) + 4 * (c / 2 ^ i % 2) 
 -- what a column counts: each of its bits is the lowest of a word
 unfoldable pub teeth_of : ℕ → ℕ
 teeth_of k = words_of (k % 2) (k / 2 % 2) (k / 4 % 2) (k / 8 % 2)
-
--- five numbers of a list from place k on
-unfoldable pub five_of : List ℕ → ℕ → List ℕ
-five_of t k = get_or t k 0 ∷ get_or t (k + 1) 0 ∷ get_or t (k + 2) 0 ∷ get_or t (k + 3) 0 ∷ get_or t (k + 4) 0 ∷ []
-
--- row k of a table of rows of fifteen numbers
-unfoldable pub row_of : List ℕ → ℕ → Thin
-row_of t k = record { minus = five_of t (15 * k); plus = five_of t (15 * k + 5); scaled = five_of t (15 * k + 10) }
-
--- the table of the comb
-pub record Table (t : List ℕ) : Type 0 where
-  pub long : length t ≡ 240
-  pub row : (k : ℕ) → k < 16 → BaseRow (teeth_of k) (whole_of (row_of t k))
 
 -- n is 2 q, and the point of a row
 pub record Turn (q : Flat) (r : Addend) (n : Flat) : Type 0 where

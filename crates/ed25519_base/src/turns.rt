@@ -1,5 +1,5 @@
 // The multiple itself.
-ghost use Rattle.std.specs.Prelude.{◌≡◌, length};
+ghost use Rattle.std.specs.Prelude.{◌≡◌};
 ghost use Rattle.digits.specs.Digits.{value};
 ghost use Rattle.ed25519_curve.specs.Points.{base};
 ghost use Rattle.ed25519_curve.specs.Coords.{GoodFlat, Even, whole_of};
@@ -8,7 +8,6 @@ ghost use Rattle.ed25519_windows.specs.Windows.{FlatFor};
 ghost use Rattle.ed25519_base.specs.Comb.{comb_of, Turn};
 
 use super::columns::{column, row};
-use super::table::table;
 use ed25519_curve::{Flat, Thin, doubled, summed_thin, with_t, without_t, zero_flat};
 use octets::le64;
 
@@ -17,33 +16,27 @@ fn turned(q: Flat, r: Thin) -> Flat
     requires { GoodFlat q × Even (whole_of r) }
     ensures { Turn q (whole_of r) result }
 {
-    let x = q.x;
-    let y = q.y;
-    let z = q.z;
-    let m = with_t(doubled(x, y, z));
+    let m = with_t(doubled(q.x, q.y, q.z));
     without_t(summed_thin(m, r))
 }
 
-// [s]B, of the four words of s.
+// [s]B, of the four words of s: by name and not in an array, as a column's contract speaks of each.
 fn times_words(a: u64, b: u64, c: u64, d: u64, zero: u64) -> Flat
     requires { zero ≡ 0 }
     ensures { GoodFlat result × FlatFor result (times_of (comb_of a b c d 0) (point_of base)) }
 {
-    let t = table();
     let mut q = zero_flat();
-    let mut i: usize = 64;
-    while 0 < i {
-        i -= 1;
+    // over the bits' numbers
+    for i in (0..64).rev() {
         let k = column(a, b, c, d, i, zero);
-        let next = turned(q, row(&t, k, zero));
-        q = next;
+        q = turned(q, row(k, zero));
     }
     q
 }
 
 // [s]B, of the 32 bytes of s. zero is 0, which the compiler should not know.
-pub fn times_base(s: &[u8], zero: u64) -> Flat
-    requires { (length s.now ≡ 32) × (zero ≡ 0) }
+pub fn times_base(s: &[u8; 32], zero: u64) -> Flat
+    requires { zero ≡ 0 }
     ensures { GoodFlat result × FlatFor result (times_of (value 256 s.now) (point_of base)) }
 {
     times_words(le64(s, 0), le64(s, 8), le64(s, 16), le64(s, 24), zero)

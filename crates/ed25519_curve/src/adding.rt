@@ -24,36 +24,22 @@ pub fn summed(p: Point, r: Addend) -> Ends
     requires { Good p × Even r }
     ensures { (end_of result ≡ sum_with p r) × Loose result }
 {
-    let x = p.x;
-    let y = p.y;
-    let z = p.z;
-    let t = p.t;
-    let minus = r.minus;
-    let plus = r.plus;
-    let twice = r.twice;
-    let scaled = r.scaled;
-    let a = mul(sub(y, x), minus);
-    let b = mul(add(y, x), plus);
-    let c = mul(t, scaled);
-    let d = mul(z, twice);
+    let a = mul(sub(p.y, p.x), r.minus);
+    let b = mul(add(p.y, p.x), r.plus);
+    let c = mul(p.t, r.scaled);
+    let d = mul(p.z, r.twice);
     add_with(a, b, c, d)
 }
 
-// The same where the row's point has Z = 1: D is no product but a sum.
+// The same where the row's point has Z = 1: D is no product but a sum. Not generic over the row: a trait with a law of
+// its D would be longer than the three lines that are alike.
 pub fn summed_thin(p: Point, r: Thin) -> Ends
     requires { Good p × Even (whole_of r) }
     ensures { (end_of result ≡ sum_with p (whole_of r)) × Loose result }
 {
-    let x = p.x;
-    let y = p.y;
-    let z = p.z;
-    let t = p.t;
-    let minus = r.minus;
-    let plus = r.plus;
-    let scaled = r.scaled;
-    let a = mul(sub(y, x), minus);
-    let b = mul(add(y, x), plus);
-    let c = mul(t, scaled);
-    let d = add(z, z);
+    let a = mul(sub(p.y, p.x), r.minus);
+    let b = mul(add(p.y, p.x), r.plus);
+    let c = mul(p.t, r.scaled);
+    let d = add(p.z, p.z);
     add_with(a, b, c, d)
 }

@@ -10,14 +10,5 @@ pub fn point_equal(a: Flat, b: Point) -> bool
     requires { GoodFlat a × Good b }
     ensures { (t : ℕ) → result ≡ point_equal (flat_of a t) (pt_of b) }
 {
-    let ax = a.x;
-    let ay = a.y;
-    let az = a.z;
-    let bx = b.x;
-    let by = b.y;
-    let bz = b.z;
-    if same(mul(ax, bz), mul(bx, az)) {
-        return same(mul(ay, bz), mul(by, az));
-    }
-    false
+    same(mul(a.x, b.z), mul(b.x, a.z)) && same(mul(a.y, b.z), mul(b.y, a.z))
 }

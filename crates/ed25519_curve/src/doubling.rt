@@ -7,7 +7,8 @@ ghost use Rattle.ed25519_curve.specs.Points.{double_with};
 use super::Ends;
 use ed25519_field::{Fe, add, square, sub};
 
-// The end of a doubling, from A, B, C and the square of X + Y.
+// The end of a doubling, from A, B, C and the square of X + Y. Not one with `add_with`: both take four sums and
+// differences, but of other numbers, as RFC 8032 has them.
 fn double_with(a: Fe, b: Fe, c: Fe, s: Fe) -> Ends
     requires { Limbs 1 a × Limbs 1 b × Limbs 2 c × Limbs 1 s }
     ensures { (end_of result ≡ double_with (num a) (num b) (num c) (num s)) × Loose result }

@@ -9,28 +9,21 @@ pub fn with_t(s: Ends) -> Point
     requires { Loose s }
     ensures { (pt_of result ≡ end_of s) × Good result }
 {
-    let e = s.e;
-    let f = s.f;
-    let g = s.g;
-    let h = s.h;
-    let x = mul(e, f);
-    let y = mul(g, h);
-    let z = mul(f, g);
-    let t = mul(e, h);
+    let x = mul(s.e, s.f);
+    let y = mul(s.g, s.h);
+    let z = mul(s.f, s.g);
+    let t = mul(s.e, s.h);
     Point { x, y, z, t }
 }
 
-// The same without T.
+// The same without T. Not one by the other, though it proves: X, Y and Z are then copied once more, and a verification
+// takes 32 bytes more of stack and 1,000 instructions more of 746,000.
 pub fn without_t(s: Ends) -> Flat
     requires { Loose s }
     ensures { (flat_of result (end_of s).T ≡ end_of s) × GoodFlat result }
 {
-    let e = s.e;
-    let f = s.f;
-    let g = s.g;
-    let h = s.h;
-    let x = mul(e, f);
-    let y = mul(g, h);
-    let z = mul(f, g);
+    let x = mul(s.e, s.f);
+    let y = mul(s.g, s.h);
+    let z = mul(s.f, s.g);
     Flat { x, y, z }
 }

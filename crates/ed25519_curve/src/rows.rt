@@ -5,20 +5,16 @@ ghost use Rattle.ed25519_curve.specs.Coords.{pt_of, Good, Cached, Opposed, whole
 
 use super::constants::two_d;
 use super::{Addend, Point, Thin};
-use ed25519_field::{add, mul, sub};
+use ed25519_field::{add, minus, mul, sub};
 
 pub fn row_of(p: Point) -> Addend
     requires { Good p }
     ensures { Cached (pt_of p) result }
 {
-    let x = p.x;
-    let y = p.y;
-    let z = p.z;
-    let t = p.t;
-    let minus = sub(y, x);
-    let plus = add(y, x);
-    let twice = add(z, z);
-    let scaled = mul(t, two_d());
+    let minus = sub(p.y, p.x);
+    let plus = add(p.y, p.x);
+    let twice = add(p.z, p.z);
+    let scaled = mul(p.t, two_d());
     Addend {
         minus,
         plus,
@@ -32,11 +28,10 @@ pub fn opposite(r: Addend) -> Addend
     requires { Limbs 1 r.scaled }
     ensures { Opposed r result }
 {
+    let scaled = minus(r.scaled);
     let minus = r.plus;
     let plus = r.minus;
     let twice = r.twice;
-    let t = r.scaled;
-    let scaled = ed25519_field::minus(t);
     Addend {
         minus,
         plus,
@@ -45,14 +40,14 @@ pub fn opposite(r: Addend) -> Addend
     }
 }
 
+// The same of a row without 2 Z. Not generic: a trait of rows with a law of the opposite would be longer than this is.
 pub fn opposite_thin(r: Thin) -> Thin
     requires { Limbs 1 r.scaled }
     ensures { Opposed (whole_of r) (whole_of result) }
 {
+    let scaled = minus(r.scaled);
     let minus = r.plus;
     let plus = r.minus;
-    let t = r.scaled;
-    let scaled = ed25519_field::minus(t);
     Thin {
         minus,
         plus,

@@ -1,12 +1,14 @@
 -- The definitions' answers, of the code's. For contracts of helpers.
+use Rattle.std.specs.Prelude.{ℕ, true, List, Option, None, Some}
 use Rattle.ed25519_field.specs.Limbs.{num}
 use Rattle.ed25519_curve.specs.Coords.{pt_of}
-use Rattle.ed25519_point.specs.declared.Found.{Found}
-use Rattle.ed25519_point.specs.declared.Decoded.{Decoded}
-use Rattle.ed25519_point.specs.Decoding.{Root, Decoding}
+use Rattle.ed25519_curve.specs.declared.Point.{Point}
+use Rattle.ed25519_point.specs.Decoding.{Root, some, none, Decoding, no_point}
 
-abbrev pub root_in : Found → Root
-root_in f = record { ok = f.ok; x = num f.x }
+abbrev pub root_in : Option (List ℕ) → Root
+root_in None = none
+root_in (Some x) = some (num x)
 
-abbrev pub decoding_in : Decoded → Decoding
-decoding_in f = record { ok = f.ok; point = pt_of f.point }
+abbrev pub decoding_in : Option Point → Decoding
+decoding_in None = no_point
+decoding_in (Some q) = record { ok = true; point = pt_of q }

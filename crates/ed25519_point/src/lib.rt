@@ -8,21 +8,5 @@ mod reading;
 mod recovering;
 mod roots;
 
-use ed25519_curve::Point;
-use ed25519_field::Fe;
 pub use encoding::encode;
 pub use points::decode;
-
-// An element of the field, or none; where there is none it is 0.
-#[derive(Clone, Copy)]
-struct Found {
-    ok: bool,
-    x: Fe,
-}
-
-// A point, or none; where there is none it is the neutral point.
-#[derive(Clone, Copy)]
-pub struct Decoded {
-    pub ok: bool,
-    pub point: Point,
-}

@@ -14,9 +14,6 @@ pub fn encoded(q: Flat) -> [u8; 32]
     requires { GoodFlat q }
     ensures { (a : Affine) → FlatFor q a → result ≡ encode_of a.x a.y }
 {
-    let x = q.x;
-    let y = q.y;
-    let z = q.z;
-    let i = inverse(z);
-    encode(mul(x, i), mul(y, i))
+    let i = inverse(q.z);
+    encode(mul(q.x, i), mul(q.y, i))
 }

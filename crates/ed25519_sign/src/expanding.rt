@@ -15,8 +15,8 @@ pub fn secret_expand(seed: [u8; 32]) -> Secret
     let scalar = pruned(h);
     let prefix = copy32(&h, 32);
     Secret {
-        scalar: scalar,
-        prefix: prefix,
+        scalar,
+        prefix,
         zero: still(le64(&h, 0)),
     }
 }

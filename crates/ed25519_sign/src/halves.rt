@@ -15,18 +15,17 @@ use ed25519_field::{bytes_of, limbs_of};
 use ed25519_scalar::{Scalar, modulo, plus, times};
 
 // r: the digest of the prefix and the two parts of the text, modulo L (step 2).
-fn number_r(prefix: &[u8], context: &[u8], text: &[u8]) -> Scalar
-    requires { (length prefix.now ≡ 32) × (64 + (length context.now + length text.now) < 2 ^ 64) }
+fn number_r(prefix: &[u8; 32], context: &[u8], text: &[u8]) -> Scalar
+    requires { 64 + (length context.now + length text.now) < 2 ^ 64 }
     ensures { Hashed (prefix.now ++ (context.now ++ text.now)) result }
 {
-    let none = [0u8; 1];
-    let d = digest(prefix, &none[..0], context, text);
+    let d = digest(prefix, &[], context, text);
     modulo(&d)
 }
 
 // r and R (steps 2 and 3).
-pub fn first_half(prefix: &[u8], zero: u64, context: &[u8], text: &[u8]) -> First
-    requires { (length prefix.now ≡ 32) × (zero ≡ 0)
+pub fn first_half(prefix: &[u8; 32], zero: u64, context: &[u8], text: &[u8]) -> First
+    requires { (zero ≡ 0)
         × (64 + (length context.now + length text.now) < 2 ^ 64) }
     ensures { Begun (prefix.now ++ (context.now ++ text.now)) result }
 {
@@ -39,8 +38,8 @@ pub fn first_half(prefix: &[u8], zero: u64, context: &[u8], text: &[u8]) -> Firs
 }
 
 // S = (r + k s) mod L, of the bytes of k and of s (step 5).
-fn number_s(r: Scalar, k: &[u8], s: &[u8]) -> [u8; 32]
-    requires { Low r × (value radix r < L) × (length s.now ≡ 32) × (value 256 s.now < 2 ^ 255) }
+fn number_s(r: Scalar, k: &[u8], s: &[u8; 32]) -> [u8; 32]
+    requires { Low r × (value radix r < L) × (value 256 s.now < 2 ^ 255) }
     ensures { result
         ≡ le_bytes 32 ((value radix r + value 256 k.now % L * value 256 s.now) % L) }
 {
@@ -48,21 +47,19 @@ fn number_s(r: Scalar, k: &[u8], s: &[u8]) -> [u8; 32]
     bytes_of(plus(r, t))
 }
 
-// S, of r, R, A and the two parts of the text (steps 4 and 5).
+// S, of r and R, A and the two parts of the text (steps 4 and 5).
 pub fn second_half(
-    r: Scalar,
-    s: &[u8],
-    first: &[u8],
-    a: &[u8],
+    first: First,
+    s: &[u8; 32],
+    a: &[u8; 32],
     context: &[u8],
     text: &[u8],
 ) -> [u8; 32]
-    requires { Low r × (value radix r < L) × (length s.now ≡ 32) × (value 256 s.now < 2 ^ 255)
-        × (length first.now ≡ 32) × (length a.now ≡ 32)
+    requires { Low first.number × (value radix first.number < L) × (value 256 s.now < 2 ^ 255)
         × (64 + (length context.now + length text.now) < 2 ^ 64) }
-    ensures { result ≡ le_bytes 32 ((value radix r + k_of first.now a.now
+    ensures { result ≡ le_bytes 32 ((value radix first.number + k_of first.string a.now
         (context.now ++ text.now) * value 256 s.now) % L) }
 {
-    let k = digest(first, a, context, text);
-    number_s(r, &k, s)
+    let k = digest(&first.string, a, context, text);
+    number_s(first.number, &k, s)
 }

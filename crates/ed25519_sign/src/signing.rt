@@ -13,8 +13,7 @@ pub fn public_key(seed: [u8; 32]) -> [u8; 32]
     ensures { result ≡ public_of seed }
 {
     let e = secret_expand(seed);
-    let s = e.scalar;
-    encoded_times(&s, e.zero)
+    encoded_times(&e.scalar, e.zero)
 }
 
 // The two halves, one after the other (step 6).
@@ -33,17 +32,15 @@ fn signed(seed: [u8; 32], key: [u8; 32], context: &[u8], value: &[u8]) -> [u8; 6
     ensures { result ≡ signature_of seed (context.now ++ value.now) }
 {
     let e = secret_expand(seed);
-    let s = e.scalar;
-    let prefix = e.prefix;
-    let f = first_half(&prefix, e.zero, context, value);
-    let n = f.number;
-    let r = f.string;
-    joined(r, second_half(n, &s, &r, &key, context, value))
+    let f = first_half(&e.prefix, e.zero, context, value);
+    let s = second_half(f, &e.scalar, &key, context, value);
+    joined(f.string, s)
 }
 
 // The signature of the text that is context and then value, by one who has the public key at hand: one multiplication
 // less. It must be that of the seed, and so C is not offered this. Two signatures of one text under two keys have the
 // same r and show s, the secret scalar.
+// Zeros and no None where the text is too long: C's tb_sign_parts writes 64 bytes whatever the text.
 pub fn sign_parts_with(seed: [u8; 32], key: [u8; 32], context: &[u8], value: &[u8]) -> [u8; 64]
     requires { key ≡ public_of seed }
     ensures { result ≡ signature_parts seed context.now value.now }
@@ -65,6 +62,5 @@ pub fn sign_parts(seed: [u8; 32], context: &[u8], value: &[u8]) -> [u8; 64]
 pub fn sign(seed: [u8; 32], text: &[u8]) -> [u8; 64]
     ensures { result ≡ signature_of seed text.now }
 {
-    let none = [0u8; 1];
-    sign_parts(seed, &none[..0], text)
+    sign_parts(seed, &[], text)
 }

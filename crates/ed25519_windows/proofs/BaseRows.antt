@@ -1,11 +1,13 @@
 -- Rows of multiples of the base point with Z = 1: one test, which antt computes, holds a row to its multiple.
-use Prim.Native.Nat.{ℕ, ◌+◌, ◌/◌, ◌^◌, ◌<◌}
+use Prim.Native.Nat.{ℕ, zero, suc, ◌+◌, ◌*◌, ◌/◌, ◌^◌, ◌<◌}
 use mathlib.Core.Path.{◌≡◌, refl}
-use mathlib.Core.Bool.{Bool}
+use mathlib.Core.Bool.{Bool, true}
 use mathlib.Core.List.{List, [], ◌∷◌}
 use native.Mathlib.Omega.{arith}
+use native.Mathlib.Decide.{dec_lt}
+use native.Mathlib.Nat.{not-suc-le-zero}
 use lib.Dec.{T, eqb, eqb→eq, ltb, ltb→lt, leb}
-use lib.ListN.{length}
+use lib.ListN.{length, get_or}
 use Rattle.laws.proofs.Holds.{holds-exactly}
 use Rattle.digits.specs.Digits.{value}
 use Rattle.digits.proofs.Table.{both, both_left, both_right, every}
@@ -138,21 +140,20 @@ tested-row n a r low t =
 pub row-stands : (n : ℕ) (r : Thin) → n < 2 ^ 256 → T (holds n r) → BaseRow n (whole_of r)
 row-stands n r low t = tested-row n (point_from r.minus r.plus) r low t
 
--- the row that three lists of limbs make
-pub row_is : (i j : ℕ) (r : Thin) (m q s : List ℕ) → j ≡ i → i < 2 ^ 256
-    → (r.minus ≡ m) × (r.plus ≡ q) × (r.scaled ≡ s) → T (holds i (record { minus = m; plus = q; scaled = s }))
-    → BaseRow j (whole_of r)
-row_is i j r m q s e h f t =
-    rw (e, f.0, f.1, f.2) (row-stands i (record { minus = m; plus = q; scaled = s }) h t)
+-- a test of all numbers below n
+abbrev pub all : (ℕ → Bool) → ℕ → Bool
+all f zero = true
+all f (suc n) = both (f n) (all f n)
 
--- a number below 8 that is none of 0 to 6, in two steps, since `omega` splits six times at most
-module _ (j : ℕ) (n0 : j ≡ 0 → ⊥) (n1 : j ≡ 1 → ⊥) (n2 : j ≡ 2 → ⊥) where
-  from-three : 2 < j
-  from-three = omega arith
+pub all-at : (f : ℕ → Bool) (n : ℕ) → T (all f n) → (k : ℕ) → k < n → T (f k)
+all-at f zero t k h = absurd (not-suc-le-zero h)
+all-at f (suc n) t k h = elim (dec_lt k n) [
+  | yes g ↦ all-at f n (both_right (f n) (all f n) t) k g
+  | no g ↦ (let e : k ≡ n = omega arith in rw e (both_left (f n) (all f n) t))
+]
 
-pub seventh : (j : ℕ) → j < 8 → (j ≡ 0 → ⊥) → (j ≡ 1 → ⊥) → (j ≡ 2 → ⊥) → (j ≡ 3 → ⊥) → (j ≡ 4 → ⊥) → (j ≡ 5 → ⊥)
-    → (j ≡ 6 → ⊥) → j ≡ 7
-seventh j h n0 n1 n2 n3 n4 n5 n6 = last j h (from-three j n0 n1 n2) n3 n4 n5 n6
-  where
-    last : (j : ℕ) → j < 8 → 2 < j → (j ≡ 3 → ⊥) → (j ≡ 4 → ⊥) → (j ≡ 5 → ⊥) → (j ≡ 6 → ⊥) → j ≡ 7
-    last j h k n3 n4 n5 n6 = omega arith
+-- the rows of B, 3B, .. 15B, of which each passes the test
+pub odd-rows : (t : List Thin) (r : Thin) → T (all (λ k. holds (2 * k + 1) (get_or t k r)) 8) → (j : ℕ) → j < 8
+    → BaseRow (2 * j + 1) (whole_of (get_or t j r))
+odd-rows t r ok j h =
+    row-stands (2 * j + 1) (get_or t j r) (omega arith) (all-at (λ k. holds (2 * k + 1) (get_or t k r)) 8 ok j h)

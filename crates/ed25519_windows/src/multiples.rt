@@ -13,18 +13,16 @@ pub fn multiples(r: Addend) -> [Addend; 8]
     let mut q = with_t(summed(zero_point(), r));
     let two = row_of(with_t(summed(q, r)));
     let mut t = [r; 8];
-    let mut i: usize = 1;
-    while i < 8 {
+    // over places: what is promised of a row hangs on its place
+    for i in 1..8 {
         let n = with_t(summed(q, two));
-        let w = row_of(n);
-        t[i] = w;
+        t[i] = row_of(n);
         q = n;
-        i += 1;
     }
     t
 }
 
-// A row, or its opposite.
+// A row, or its opposite. off is a digit's own bit: an enum would be made of it and matched at once.
 pub fn signed(r: Addend, off: bool) -> Addend
     requires { Even r }
     ensures { Turned off r result }
@@ -35,6 +33,8 @@ pub fn signed(r: Addend, off: bool) -> Addend
     r
 }
 
+// The same of a row with Z = 1. Not generic: what the two share is one `if`, and a trait with a law of the opposite
+// would be longer than this is.
 pub fn signed_thin(r: Thin, off: bool) -> Thin
     requires { Even (whole_of r) }
     ensures { Turned off (whole_of r) (whole_of result) }

@@ -7,32 +7,17 @@ ghost use Rattle.ed25519_windows.specs.OddDigits.{Recoded, Above};
 
 use ed25519_scalar::{Scalar, bit};
 
-// Bit i, which is 0 beyond the limbs.
-fn bit_at(s: Scalar, i: usize) -> u64
-    requires { Digits s }
-    ensures { result ≡ value radix s / 2 ^ i % 2 }
-{
-    if i < 255 {
-        return bit(s, i);
-    }
-    0
-}
-
 // The bits from i to i + 4.
 fn five_bits(s: Scalar, i: usize) -> u64
     requires { (i < 256) × Digits s }
     ensures { result ≡ value radix s / 2 ^ i % 32 }
 {
-    let b0 = bit_at(s, i);
-    let b1 = bit_at(s, i + 1);
-    let b2 = bit_at(s, i + 2);
-    let b3 = bit_at(s, i + 3);
-    let b4 = bit_at(s, i + 4);
-    b0 + 2 * b1 + 4 * b2 + 8 * b3 + 16 * b4
+    bit(s, i) + 2 * bit(s, i + 1) + 4 * bit(s, i + 2) + 8 * bit(s, i + 3) + 16 * bit(s, i + 4)
 }
 
 // From the lowest bit on. Where five bits with the carry are odd they are a digit; from 16 on 32 is taken off, which
-// the carry puts back.
+// the carry puts back. A digit is a byte with 16 more and no i8, since what digits add and what they take off is counted
+// apart, by numbers that are not negative (`plus_of`, `less_of`).
 pub fn digits_of(s: Scalar) -> [u8; 256]
     requires { Digits s }
     ensures { Recoded (value radix s) result }
@@ -40,8 +25,9 @@ pub fn digits_of(s: Scalar) -> [u8; 256]
     let mut t = [0u8; 256];
     let mut i: usize = 0;
     let mut carry: u64 = 0;
+    // while: it goes on by one bit, or by five
     while i < 256 {
-        if bit_at(s, i) == carry {
+        if bit(s, i) == carry {
             i += 1;
         } else {
             let w = five_bits(s, i) + carry;
@@ -63,15 +49,11 @@ pub fn top(d: &[u8], e: &[u8]) -> usize
     requires { (length d.now ≡ 256) × (length e.now ≡ 256) }
     ensures { Above d.now result × Above e.now result }
 {
-    let mut i: usize = 256;
-    while 0 < i {
-        if d[i - 1] != 0 {
-            return i;
+    // over places, from the last on, since the answer is one
+    for i in (0..256).rev() {
+        if d[i] != 0 || e[i] != 0 {
+            return i + 1;
         }
-        if e[i - 1] != 0 {
-            return i;
-        }
-        i -= 1;
     }
-    i
+    0
 }

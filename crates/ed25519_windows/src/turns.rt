@@ -17,13 +17,11 @@ fn twice(q: Flat) -> Ends
     requires { GoodFlat q }
     ensures { Twice q result }
 {
-    let x = q.x;
-    let y = q.y;
-    let z = q.z;
-    doubled(x, y, z)
+    doubled(q.x, q.y, q.z)
 }
 
-// With the multiple of B that digit b is.
+// With the multiple of B that digit b is. What it needs meanwhile is not to lie on the stack below `multiples`.
+#[inline(never)]
 fn with_base(m: Ends, b: u8) -> Ends
     requires { Loose m × Digit b }
     ensures { WithBase m b result }
@@ -35,7 +33,8 @@ fn with_base(m: Ends, b: u8) -> Ends
     summed_thin(with_t(m), signed_thin(x, 16 <= b))
 }
 
-// With the point of a row, or its opposite.
+// With the point of a row, or its opposite: off as `signed` has it. A function in the machine code too, as `with_base`.
+#[inline(never)]
 fn with_row(m: Ends, y: Addend, off: bool) -> Ends
     requires { Loose m × Even y }
     ensures { WithRow m y off result }
@@ -52,9 +51,8 @@ pub fn times_two(s: Scalar, k: Scalar, u: Addend) -> Flat
     let d = digits_of(s);
     let e = digits_of(k);
     let mut q = zero_flat();
-    let mut i = top(&d, &e);
-    while 0 < i {
-        i -= 1;
+    // over places, from the first with a digit down
+    for i in (0..top(&d, &e)).rev() {
         let b = d[i];
         let c = e[i];
         let m = with_base(twice(q), b);

@@ -1,4 +1,5 @@
 -- The response check where no check before the path's refuses.
+use Rattle.std.specs.Prelude.{Ok}
 use mathlib.Core.Path.{◌≡◌, refl, sym, ap, ◌∙◌}
 use mathlib.Core.Bool.{Bool, true, false, and-false}
 use mathlib.Core.List.{List, [], ◌∷◌}
@@ -18,7 +19,6 @@ use Rattle.wire_packet.specs.Packet.{body}
 use Rattle.wire_packet.specs.Response.{midp_in, mint_in, maxt_in}
 use Rattle.check_response.specs.Check.{path_misses, time_outside, answers_code, agreement_code, check_code, window_in, verdict_of}
 use Rattle.check_response.specs.Check.{verdict_number}
-use Rattle.check_response.specs.declared.Verdict.TheVariants.{Valid}
 use Rattle.check_response.proofs.Lent.{verdict-says, valid-by}
 use Rattle.examples.specs.Claims.{Before10, Climbs, Misses}
 
@@ -67,6 +67,6 @@ module _ (q p : List ℕ) (b : Before10 q p) (leads : path_misses q (body p) ≡
   unfolding time_outside any first_of when_of
   answers-left d s h = sym (from-10 q p d s b) ∙ rw (leads, le-ltb _ _ from, le-ltb _ _ h)
 
-  pub in-time-passes : midp_in (body p) ≤ maxt_in (body p) → verdict_of q p true true ≡ Valid (window_in (body p))
+  pub in-time-passes : midp_in (body p) ≤ maxt_in (body p) → verdict_of q p true true ≡ Ok (window_in (body p))
   unfolding verdict_of answers_code first_of when_of
   in-time-passes h = valid-by _ _ (ap (λ (r : Refusal). r.code) (answers-left true true h))

@@ -9,7 +9,8 @@ use Rattle.laws.proofs.First.{says-0, says-more, is_last, none-quiet}
 use Rattle.refusal.specs.Refusal.{refusals, first, shifted}
 use Rattle.refusal.specs.declared.Refusal.{Refusal}
 use Rattle.wire_message.specs.Frame.{count, tag_at, frame_code}
-use Rattle.wire_message.specs.Rules.{TagRule, message_code}
+use Rattle.wire_message.specs.Rules.{message_code}
+use Rattle.wire_message.specs.declared.rules.TagRule.{TagRule}
 use Rattle.wire_message.specs.Sentences.{TagsRise}
 use Rattle.wire_message.proofs.Codes.{code-5}
 use Rattle.wire_packet.specs.Packet.{packet_code, packet_of, body, body_start}

@@ -1,5 +1,6 @@
 -- There is something of which each row of the table speaks, so that no claim is empty: piles for examples 5 to 7,
 -- batches for 8 and 9, requests and responses for 10 and 11, messages for 12.
+use Rattle.std.specs.Prelude.{Err}
 use mathlib.Core.Path.{◌≡◌, refl}
 use mathlib.Core.Bool.{Bool, true, false, ◌&&◌}
 use mathlib.Core.List.{List, [], ◌∷◌}
@@ -23,7 +24,6 @@ use Rattle.wire_packet.specs.Blank.{zeros32}
 use Rattle.wire_packet.specs.Packet.{packet_of}
 use Rattle.wire_packet.proofs.Packets.{length-packet}
 use Rattle.check_response.specs.Check.{answers_code}
-use Rattle.check_response.specs.declared.Verdict.TheVariants.{Refused}
 use Rattle.examples.specs.Claims.{Climbs, Late, EqualTags}
 use Rattle.examples.specs.Table.{table}
 use Rattle.examples.specs.Spoken.{SomeBytes, SomePile, SomeExchange, EachSpeaks, Reply, verdict_on}
@@ -136,7 +136,7 @@ infixr 70 ◌then◌
 a then b = (a, b)
 
 -- every row speaks of something, where an answer refuses record 1 of example 7
-speaks : (d s : Bool) (why : Refusal) → verdict_on (doubted d s) ≡ Refused why → EachSpeaks (table why)
+speaks : (d s : Bool) (why : Refusal) → verdict_on (doubted d s) ≡ Err why → EachSpeaks (table why)
 unfolding answers_code first_of when_of
 speaks d s why e =
     -- 1 to 4

@@ -1,10 +1,11 @@
 -- That there is something of which an example speaks: a claim about every pile, request, response or message of some
 -- kind says nothing where there is none.
-use Rattle.std.specs.Prelude.{◌≡◌, Bool, true, ◌&&◌, List, [], ◌∷◌, ℕ, ◌*◌, ◌^◌, ◌≤◌, ltb, length}
+use Rattle.check_response.specs.declared.Window.{Window}
+use Rattle.refusal.specs.declared.Refusal.{Refusal}
+use Rattle.std.specs.Prelude.{◌≡◌, Bool, true, ◌&&◌, List, [], ◌∷◌, ℕ, ◌*◌, ◌^◌, ◌≤◌, ltb, length, Result}
 use Rattle.laws.specs.Bytes.{Bytes}
 use Rattle.wire_packet.specs.Packet.{packet_of}
 use Rattle.check_response.specs.Check.{answers_code, verdict_by}
-use Rattle.check_response.specs.declared.Verdict.{Verdict}
 use Rattle.examples.specs.Claims.{◌±◌, Row, low_end, high_end, contradicts, run, no_run, depth, path, indx}
 use Rattle.examples.specs.Claims.{at-maxt, above-maxt, message, equal-tags, ◌and◌}
 use Rattle.examples.specs.Claims.{Linked, Climbs, Late, EqualTags}
@@ -18,7 +19,7 @@ pub record SomeBytes (P : List ℕ → Type 0) : Type 0 where
   pub holds : P it
 
 -- a pile of bytes, with answers, that is linked and has these verdicts on its records
-abbrev pub SomePile : List Verdict → Type 0
+abbrev pub SomePile : List (Result Window Refusal) → Type 0
 SomePile verdicts = SomeBytes (λ pile. SomeBytes (λ answers. Linked pile answers verdicts))
 
 -- a request and a response of which P holds
@@ -55,10 +56,10 @@ pub record Reply : Type 0 where
   pub signature : Bool
 
 -- its verdict: the window, or 12 or 13 where an answer is no
-abbrev pub verdict_on : Reply → Verdict
+abbrev pub verdict_on : Reply → Result Window Refusal
 verdict_on r = verdict_by (answers_code r.delegation r.signature) (r.midp ± r.radi)
 
-abbrev pub verdicts_on : List Reply → List Verdict
+abbrev pub verdicts_on : List Reply → List (Result Window Refusal)
 verdicts_on [] = []
 verdicts_on (r ∷ rs) = verdict_on r ∷ verdicts_on rs
 

@@ -1,7 +1,6 @@
 -- Document 01's starred examples, by its numbers and in its order.
-use Rattle.std.specs.Prelude.{true, false, List, [], ◌∷◌, ◌-◌, ◌^◌, replicate}
+use Rattle.std.specs.Prelude.{true, false, List, [], ◌∷◌, ◌-◌, ◌^◌, replicate, Err, Ok}
 use Rattle.refusal.specs.declared.Refusal.{Refusal}
-use Rattle.check_response.specs.declared.Verdict.TheVariants.{Valid, Refused}
 use Rattle.examples.specs.Claims.{◌±◌, Row, low_end, high_end, contradicts, run, no_run, depth, path, indx}
 use Rattle.examples.specs.Claims.{at-maxt, above-maxt, message, equal-tags, ◌and◌, Claim}
 
@@ -17,12 +16,12 @@ table why =
     -- 4. MIDP 2^64-1, RADI 1: high end 2^64-1
     ∷ high_end ((2 ^ 64 - 1) ± 1) (2 ^ 64 - 1)
     -- 5. run 2..3
-    ∷ run (Valid (1000 ± 10) ∷ Valid (1500 ± 10) ∷ Valid (1495 ± 1) ∷ Valid (1400 ± 10) ∷ []) 2 3
+    ∷ run (Ok (1000 ± 10) ∷ Ok (1500 ± 10) ∷ Ok (1495 ± 1) ∷ Ok (1400 ± 10) ∷ []) 2 3
     -- 6. run 0..1, not 1..2
-    ∷ run (Valid (100 ± 1) ∷ Valid (90 ± 1) ∷ Valid (80 ± 1) ∷ []) 0 1
+    ∷ run (Ok (100 ± 1) ∷ Ok (90 ± 1) ∷ Ok (80 ± 1) ∷ []) 0 1
     -- 7. run 0..2; with record 1 refused: 18
-    ∷ run (Valid (100 ± 1) ∷ Valid (95 ± 20) ∷ Valid (80 ± 1) ∷ []) 0 2
-    and no_run (Valid (100 ± 1) ∷ Refused why ∷ Valid (80 ± 1) ∷ []) 18
+    ∷ run (Ok (100 ± 1) ∷ Ok (95 ± 20) ∷ Ok (80 ± 1) ∷ []) 0 2
+    and no_run (Ok (100 ± 1) ∷ Err why ∷ Ok (80 ± 1) ∷ []) 18
     -- 8. one leaf: d 0, INDX 0, empty path
     ∷ depth 1 0 and path 1 0 0 0
     -- 9. three leaves: d 2; places 0 and 2 have INDX 0 and 2 (and two siblings each; request P2)

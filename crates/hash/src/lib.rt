@@ -3,19 +3,20 @@
 
 ghost use Rattle.std.specs.Prelude.{◌≡◌, [], ◌∷◌, take};
 ghost use Rattle.sha512.specs.State.{state_of};
-ghost use Rattle.hash.specs.Hashes.{leaf_of, parent_of, empty_place, srv_of, link_of, hash_of};
+ghost use Rattle.hash.specs.Hashes.{H32, leaf_of, parent_of, empty_place, srv_of, link_of, hash_of};
 
 use octets::{copy32, put};
-use sha512::{Running, finish, sha512, sha512_pair, sha512_tagged, start, take_piece};
+use sha512::{Running, finish, sha512, sha512_pair, sha512_tagged, start, update};
 
 // A leaf: H(0x00, packet), of a whole request packet, header included.
 pub fn leaf(packet: &[u8]) -> [u8; 32]
     ensures { result ≡ leaf_of packet.now }
 {
-    front(sha512_tagged(0x00, packet))
+    tagged(0x00, packet)
 }
 
-// A parent: H(0x01, left, right). Put together in one array, since a tree's inner work is all of this.
+// A parent: H(0x01, left, right). Put together in one array, and not by `tagged`, which would copy it once more: a tree's
+// inner work is all of this.
 pub fn parent(left: [u8; 32], right: [u8; 32]) -> [u8; 32]
     ensures { result ≡ parent_of left right }
 {
@@ -37,7 +38,7 @@ pub fn empty_place() -> [u8; 32]
 pub fn srv_value(key: [u8; 32]) -> [u8; 32]
     ensures { result ≡ srv_of key }
 {
-    front(sha512_tagged(0xff, &key))
+    tagged(0xff, &key)
 }
 
 // The nonce that links a request to the response before it: H(response, rand), of the whole response packet.
@@ -47,19 +48,28 @@ pub fn link(response: &[u8], rand: [u8; 32]) -> [u8; 32]
     front(sha512_pair(response, &rand))
 }
 
-// The state of a leaf before any piece of its packet: 0x00 is taken. `take_piece` takes the packet, and `finish_hash`
-// says the leaf.
+// The state of a leaf before any piece of its packet: 0x00 is taken. sha512's `take_piece` takes the packet, and
+// `finish_hash` says the leaf.
 pub fn start_leaf() -> Running
     ensures { result ≡ state_of (0x00 ∷ []) }
 {
-    take_piece(start(), b"\x00").state
+    update(start(), b"\x00")
 }
 
 // H of what a state has taken: the leaf, where it began as one; the link, where the rand was the last piece.
+#[tactic(auto, unfolding(crate::specs::Hashes::hash_of))]
 pub fn finish_hash(r: Running) -> [u8; 32]
     ensures { result ≡ hash_of r }
 {
     front(finish(r))
+}
+
+// H(tag, bytes).
+#[tactic(auto, unfolding(crate::specs::Hashes::H32))]
+fn tagged(tag: u8, bytes: &[u8]) -> [u8; 32]
+    ensures { result ≡ H32 (tag ∷ bytes.now) }
+{
+    front(sha512_tagged(tag, bytes))
 }
 
 // The first 32 bytes of a digest.

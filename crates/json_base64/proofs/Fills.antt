@@ -1,19 +1,17 @@
 -- Laws about groups of characters, for the writer of what they stand for.
-use Prim.Native.Nat.{ℕ, ◌+◌, ◌-◌, ◌≤◌, ◌<◌}
-use mathlib.Core.Path.{◌≡◌, refl, sym, ◌∙◌, ap}
-use mathlib.Core.Bool.{Bool, true, false}
+use Rattle.std.specs.Prelude.{None, Option, Some}
+use Prim.Native.Nat.{ℕ, ◌+◌, ◌≤◌}
+use mathlib.Core.Path.{◌≡◌, refl}
+use mathlib.Core.Bool.{true}
 use mathlib.Core.List.{List, [], ◌∷◌, ◌++◌}
 use native.Mathlib.Omega.{arith}
-use lib.ListN.{length, drop}
+use lib.ListN.{length}
 use Rattle.laws.specs.Pasted.{pasted, fronted}
 use Rattle.laws.proofs.Filled.{Filled, filled-first, filled_next, filled-fit, filled-last}
 use Rattle.json_strings.specs.Text.{content_at}
 use Rattle.base64_strict.specs.declared.Group.{Group}
 use Rattle.base64_strict.specs.declared.Group.TheVariants.{Three, Two, One}
-use Rattle.base64_strict.specs.declared.Group.TheVariants.{Bad as BadGroup}
-use Rattle.base64_strict.specs.Decode.{Decoded, bytes, none, onto, with_group, group_of, decode64}
-use Rattle.json_base64.specs.declared.Size.{Size}
-use Rattle.json_base64.specs.declared.Size.TheVariants.{Of, Bad}
+use Rattle.base64_strict.specs.Decode.{Decoded, bytes, none, onto, with_group, decode64}
 use Rattle.json_base64.specs.Sized.{size_of, good, plain, Grouped, Begun}
 use Rattle.json_base64.proofs.Quads.{decode-at}
 
@@ -57,16 +55,16 @@ three-rest : {x y z : ℕ} (d : Decoded) {l : List ℕ} → onto (x ∷ y ∷ z 
 three-rest (bytes m) e = (refl, cc)
 three-rest none e = let q : ◌≡◌ {A = ℕ} 0 1 = cc in absurd (omega arith)
 
-two-rest : {x y : ℕ} (m : List ℕ) (d : Decoded) {l : List ℕ} → with_group (Two x y) m d ≡ bytes l → l ≡ (x ∷ y ∷ []) ++ []
+two-rest : {x y : ℕ} (m : List ℕ) (d : Decoded) {l : List ℕ} → with_group (Some (Two x y)) m d ≡ bytes l → l ≡ (x ∷ y ∷ []) ++ []
 two-rest [] d e = cc
 two-rest (a ∷ m) d e = let q : ◌≡◌ {A = ℕ} 0 1 = cc in absurd (omega arith)
 
-one-rest : {x : ℕ} (m : List ℕ) (d : Decoded) {l : List ℕ} → with_group (One x) m d ≡ bytes l → l ≡ (x ∷ []) ++ []
+one-rest : {x : ℕ} (m : List ℕ) (d : Decoded) {l : List ℕ} → with_group (Some (One x)) m d ≡ bytes l → l ≡ (x ∷ []) ++ []
 one-rest [] d e = cc
 one-rest (a ∷ m) d e = let q : ◌≡◌ {A = ℕ} 0 1 = cc in absurd (omega arith)
 
-module _ {E s was out : List ℕ} {k n j : ℕ} {g : Group} (f : Filling E s k was n out) (q : Grouped s k g j) where
-  module _ {x y z : ℕ} (e : g ≡ Three x y z) where
+module _ {E s was out : List ℕ} {k n j : ℕ} {g : Option Group} (f : Filling E s k was n out) (q : Grouped s k g j) where
+  module _ {x y z : ℕ} (e : g ≡ Some (Three x y z)) where
     three : (decode64 (content_at s j) ≡ bytes (plain (decode64 (content_at s j)))) × (f.rest ≡ (x ∷ y ∷ z ∷ [])
         ++ plain (decode64 (content_at s j)))
     three = three-rest (decode64 (content_at s j)) (rw (decode-at q, e) at f.reads)
@@ -83,7 +81,7 @@ module _ {E s was out : List ℕ} {k n j : ℕ} {g : Group} (f : Filling E s k w
               f.filled three.1 h;
         }
 
-  module _ {x y : ℕ} (e : g ≡ Two x y) where
+  module _ {x y : ℕ} (e : g ≡ Some (Two x y)) where
     two : f.rest ≡ (x ∷ y ∷ []) ++ []
     two = two-rest (content_at s j) (decode64 (content_at s j)) (rw (decode-at q, e) at f.reads)
 
@@ -93,7 +91,7 @@ module _ {E s was out : List ℕ} {k n j : ℕ} {g : Group} (f : Filling E s k w
     pub filling-two : {to : List ℕ} → to ≡ pasted out n (x ∷ y ∷ []) → to ≡ fronted E was
     filling-two h = filled-last (filled_next (x ∷ y ∷ []) [] f.filled two h)
 
-  module _ {x : ℕ} (e : g ≡ One x) where
+  module _ {x : ℕ} (e : g ≡ Some (One x)) where
     one : f.rest ≡ (x ∷ []) ++ []
     one = one-rest (content_at s j) (decode64 (content_at s j)) (rw (decode-at q, e) at f.reads)
 
@@ -102,10 +100,6 @@ module _ {E s was out : List ℕ} {k n j : ℕ} {g : Group} (f : Filling E s k w
 
     pub filling-one : {to : List ℕ} → to ≡ pasted out n (x ∷ []) → to ≡ fronted E was
     filling-one h = filled-last (filled_next (x ∷ []) [] f.filled one h)
-
-  pub filling-never : g ≡ BadGroup → ⊥
-  filling-never e = let h : none ≡ bytes f.rest = rw (decode-at q, e) at f.reads in
-      let z : ◌≡◌ {A = ℕ} 0 1 = cc in omega arith
 
 module _ {E s was out : List ℕ} {k n : ℕ} (f : Filling E s k was n out) where
   pub filling-end : content_at s k ≡ [] → out ≡ fronted E was
@@ -117,10 +111,10 @@ module _ {E s was out : List ℕ} {k n : ℕ} (f : Filling E s k was n out) wher
   filling-fewer e = let z : ◌≡◌ {A = ℕ} 0 1 = cc f.reads in omega arith
 
 -- ---- The ways out of `decode`.
-pub decode-none : (d : Decoded) (out : List ℕ) → Bad ≡ size_of 0 d → out ≡ fronted (plain d) out
+pub decode-none : (d : Decoded) (out : List ℕ) → None ≡ size_of 0 d → out ≡ fronted (plain d) out
 decode-none (bytes x) out e = let z : ◌≡◌ {A = ℕ} 0 1 = cc in absurd (omega arith)
 decode-none none out e = refl
 
-pub decode-good : (d : Decoded) {n : ℕ} → Of n ≡ size_of 0 d → good d ≡ true
+pub decode-good : (d : Decoded) {n : ℕ} → Some n ≡ size_of 0 d → good d ≡ true
 decode-good (bytes x) e = refl
 decode-good none e = let z : ◌≡◌ {A = ℕ} 0 1 = cc in absurd (omega arith)

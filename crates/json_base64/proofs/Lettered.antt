@@ -1,10 +1,11 @@
 -- Laws about letters that are not escaped: each is itself, and takes one byte.
+use Rattle.std.specs.Prelude.{Option, Some}
 use Prim.Native.Nat.{ℕ, zero, suc, ◌+◌, ◌*◌, ◌-◌, ◌≤◌, ◌<◌}
 use mathlib.Core.Path.{◌≡◌, refl, sym, ◌∙◌, ap}
-use mathlib.Core.Bool.{Bool, true, false, not, ◌&&◌, true≢false}
+use mathlib.Core.Bool.{Bool, true, false, ◌&&◌, true≢false}
 use mathlib.Core.List.{List}
 use native.Mathlib.Omega.{arith}
-use lib.Dec.{eqb, ltb}
+use lib.Dec.{ltb}
 use lib.ListN.{length, get_or}
 use borrow.Author.Tests.{ne_eqb, lt-ltb, le-ltb, ltb-true, ltb-false}
 use Rattle.json_tokens.specs.Scan.{Passes}
@@ -13,8 +14,8 @@ use Rattle.json_strings.proofs.Content.{content-code, content-falls}
 use Rattle.json_strings.proofs.Runs.{unit-unescaped}
 use Rattle.base64_strict.specs.declared.Group.{Group}
 use Rattle.base64_strict.specs.declared.Group.TheVariants.{Three}
-use Rattle.base64_strict.specs.Alphabet.{sextet_of, is_letter}
-use Rattle.base64_strict.specs.Decode.{group_of, decode64, high, middle, low}
+use Rattle.base64_strict.specs.Alphabet.{is_letter}
+use Rattle.base64_strict.specs.Decode.{group_of, decode64}
 use Rattle.base64_strict.proofs.Tables.{letter-ranged}
 use Rattle.base64_strict.proofs.Decodes.{group-letters}
 use Rattle.json_base64.specs.Sized.{size_of, Reads, Grouped, Lettered}
@@ -63,11 +64,11 @@ lettered-four {a} {b} {c} {d} s k ea eb ec ed h e =
     by p q r t (suc (suc (suc zero))) g = t
     by p q r t (suc (suc (suc (suc i)))) g = absurd (omega arith)
 
-pub record Threes (g : Group) : Type 0 where
+pub record Threes (g : Option Group) : Type 0 where
   pub x : ℕ
   pub y : ℕ
   pub z : ℕ
-  pub is : g ≡ Three x y z
+  pub is : g ≡ Some (Three x y z)
 
 -- four of them are a group
 module _ {s : List ℕ} {k : ℕ} (l : Lettered s k 1) where
@@ -77,7 +78,7 @@ module _ {s : List ℕ} {k : ℕ} (l : Lettered s k 1) where
   pub letter-then : (i : ℕ) → i < 4 → is_letter (get_or s (k + i) 0) ≡ true
   letter-then i h = l.letters i (omega arith)
 
-  pub grouped-letters : {g : Group}
+  pub grouped-letters : {g : Option Group}
       → g ≡ group_of (get_or s k 0) (get_or s (k + 1) 0) (get_or s (k + 2) 0) (get_or s (k + 3) 0) → Grouped s k g (k + 4)
   grouped-letters e =
       grouped (reads-letter refl letter-first) (reads-letter (omega arith) (letter-then 1 (omega arith)))
@@ -91,7 +92,7 @@ module _ {s : List ℕ} {k : ℕ} (l : Lettered s k 1) where
     y = _;
     z = _;
     is = sym (group-letters (get_or s k 0) (get_or s (k + 1) 0) (get_or s (k + 2) 0) (get_or s (k + 3) 0) letter-first
-        (letter-then 1 (omega arith)) (letter-then 2 (omega arith)) (letter-then 3 (omega arith)) refl refl refl refl);
+        (letter-then 1 (omega arith)) (letter-then 2 (omega arith)) (letter-then 3 (omega arith)));
   }
 
   one-group : (n : ℕ) → size_of (n + 3) (decode64 (content_at s (k + 4))) ≡ size_of n (decode64 (content_at s k))

@@ -1,5 +1,5 @@
 -- What a string of base64 stands for, and how many bytes that is. A reader must believe `size_of`, `good` and `plain`.
-use Rattle.std.specs.Prelude.{ℕ, ◌+◌, ◌*◌, ◌-◌, ◌≤◌, ◌<◌, ◌≡◌, Bool, true, false, List, [], ◌∷◌, ◌++◌, length}
+use Rattle.std.specs.Prelude.{ℕ, ◌+◌, ◌*◌, ◌-◌, ◌≤◌, ◌<◌, ◌≡◌, Bool, true, false, List, [], ◌∷◌, ◌++◌, length, None, Option, Some}
 use Rattle.json_tokens.specs.Scan.{Passes}
 use Rattle.json_strings.specs.Text.{content_at}
 use Rattle.base64_strict.specs.Alphabet.{is_letter}
@@ -7,17 +7,13 @@ use Rattle.laws.specs.Pasted.{pasted}
 use Rattle.base64_strict.specs.declared.Group.{Group}
 use Rattle.base64_strict.specs.declared.Group.TheVariants.{Three}
 use Rattle.base64_strict.specs.Decode.{Decoded, bytes, none, group_of, decode64}
-use Rattle.json_base64.specs.declared.Size.{Size}
-use Rattle.json_base64.specs.declared.Size.TheVariants.{Of, Bad}
-use Rattle.json_base64.specs.declared.Letter.{Letter}
-use Rattle.json_base64.specs.declared.Letter.TheVariants.{Is, Stop}
 use Rattle.json_base64.specs.declared.Quad.{Quad}
-use Rattle.json_base64.specs.declared.Quad.TheVariants.{Four, End, Fewer}
+use Rattle.json_base64.specs.declared.Quad.TheVariants.{Four, End}
 
 -- n bytes and what a text stands for
-abbrev pub size_of : ℕ → Decoded → Size
-size_of n (bytes x) = Of (n + length x)
-size_of n none = Bad
+abbrev pub size_of : ℕ → Decoded → Option ℕ
+size_of n (bytes x) = Some (n + length x)
+size_of n none = None
 
 abbrev pub empty : List ℕ → Bool
 empty [] = true
@@ -43,11 +39,11 @@ pub record Reads (s : List ℕ) (k c j : ℕ) : Type 0 where
   pub text : content_at s k ≡ c ∷ content_at s j
   pub on : length s - j < length s - k
 
-abbrev pub CharOf : List ℕ → ℕ → Letter → Type 0
-CharOf s k (Is c j) = Reads s k c j
-CharOf s k Stop = content_at s k ≡ []
+abbrev pub CharOf : List ℕ → ℕ → Option (ℕ × ℕ) → Type 0
+CharOf s k (Some (c, j)) = Reads s k c j
+CharOf s k None = content_at s k ≡ []
 
-pub record Grouped (s : List ℕ) (k : ℕ) (g : Group) (j : ℕ) : Type 0 where
+pub record Grouped (s : List ℕ) (k : ℕ) (g : Option Group) (j : ℕ) : Type 0 where
   pub a : ℕ
   pub b : ℕ
   pub c : ℕ
@@ -56,17 +52,17 @@ pub record Grouped (s : List ℕ) (k : ℕ) (g : Group) (j : ℕ) : Type 0 where
   pub group : g ≡ group_of a b c d
   pub on : length s - j + 4 ≤ length s - k
 
-abbrev pub QuadOf : List ℕ → ℕ → Quad → Type 0
-QuadOf s k (Four g j) = Grouped s k g j
-QuadOf s k End = content_at s k ≡ []
-QuadOf s k Fewer = decode64 (content_at s k) ≡ none
+abbrev pub QuadOf : List ℕ → ℕ → Option Quad → Type 0
+QuadOf s k (Some (Four g j)) = Grouped s k (Some g) j
+QuadOf s k (Some End) = content_at s k ≡ []
+QuadOf s k None = decode64 (content_at s k) ≡ none
 
 -- the bytes of the four letters at k stand from index n on
 pub record Tripled (s : List ℕ) (k : ℕ) (was : List ℕ) (n : ℕ) (out : List ℕ) : Type 0 where
   pub x : ℕ
   pub y : ℕ
   pub z : ℕ
-  pub group : Grouped s k (Three x y z) (k + 4)
+  pub group : Grouped s k (Some (Three x y z)) (k + 4)
   pub put : out ≡ pasted was n (x ∷ y ∷ z ∷ [])
 
 -- of the bytes E, which the string's characters from some place on stand for, the first n stand at the front of a

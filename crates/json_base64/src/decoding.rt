@@ -5,10 +5,10 @@ ghost use Rattle.base64_strict.specs.Decode.{decode64};
 ghost use Rattle.laws.specs.Pasted.{fronted};
 ghost use Rattle.json_base64.specs.Sized.{good, plain, Lettered, Tripled, Begun};
 
+use super::Quad;
 use super::groups::quad_of;
 use super::letters::groups;
 use super::sizing::size_of;
-use super::{Quad, Size};
 use base64_strict::Group;
 use octets::put;
 
@@ -17,9 +17,8 @@ fn put_three(s: &[u8], k: usize, out: &mut [u8], n: usize)
     requires { Lettered s.now k 1 × (n + 3 ≤ length out.old) }
     ensures { Tripled s.now k out.old n out.new }
 {
-    let t = base64_strict::triple_of(s[k], s[k + 1], s[k + 2], s[k + 3]);
-    let three = [t.x, t.y, t.z];
-    put(out, n, &three);
+    let (x, y, z) = base64_strict::three_of(s[k], s[k + 1], s[k + 2], s[k + 3]);
+    put(out, n, &[x, y, z]);
 }
 
 // The bytes of so many groups of four letters at a place, at the front of out, where those of the whole string fit.
@@ -30,14 +29,9 @@ fn put_groups(s: &[u8], at: usize, groups: usize, out: &mut [u8])
     ensures { Begun (plain (decode64 (content_at s.now at))) s.now (at + 4 * groups) out.old
         (3 * groups) out.new }
 {
-    let mut k = at;
-    let mut n = 0;
-    let mut i = 0;
-    while i < groups {
-        put_three(s, k, out, n);
-        k += 4;
-        n += 3;
-        i += 1;
+    // for over places: i counts by fours in the text, and by threes in out.
+    for i in 0..groups {
+        put_three(s, at + 4 * i, out, 3 * i);
     }
 }
 
@@ -51,47 +45,36 @@ pub fn fill(s: &[u8], at: usize, out: &mut [u8])
     put_groups(s, at, quick, out);
     let mut k = at + 4 * quick;
     let mut n = 3 * quick;
-    loop {
-        match quad_of(s, k) {
-            Quad::End => {
+    while let Some(quad) = quad_of(s, k) {
+        let Quad::Four(group, j) = quad else {
+            return;
+        };
+        match group {
+            Group::Three(x, y, z) => {
+                put(out, n, &[x, y, z]);
+                k = j;
+                n += 3;
+            }
+            Group::Two(x, y) => {
+                put(out, n, &[x, y]);
                 return;
             }
-            Quad::Fewer => {
+            Group::One(x) => {
+                put(out, n, &[x]);
                 return;
             }
-            Quad::Four(g, j) => match g {
-                Group::Three(x, y, z) => {
-                    let three = [x, y, z];
-                    put(out, n, &three);
-                    k = j;
-                    n += 3;
-                }
-                Group::Two(x, y) => {
-                    let two = [x, y];
-                    put(out, n, &two);
-                    return;
-                }
-                Group::One(x) => {
-                    let one = [x];
-                    put(out, n, &one);
-                    return;
-                }
-                Group::Bad => {
-                    return;
-                }
-            },
         }
     }
 }
 
 // The same of any string: nothing is written where it is no base64. It is a helper: its callers have tested that there
-// is room.
+// is room. As `put_text` of json_text, for another reading of strings: one function over both would be handed its two
+// calls, and what each says, for one `if`.
 pub fn decode(s: &[u8], at: usize, out: &mut [u8])
     requires { length (plain (decode64 (content_at s.now at))) ≤ length out.old }
     ensures { out.new ≡ fronted (plain (decode64 (content_at s.now at))) out.old }
 {
-    let Size::Of(_) = size_of(s, at) else {
-        return;
-    };
-    fill(s, at, out);
+    if size_of(s, at).is_some() {
+        fill(s, at, out);
+    }
 }

@@ -23,6 +23,7 @@ pub fn groups(s: &[u8], at: usize) -> usize
 {
     let mut k = at;
     let mut n = 0;
+    // while: it ends with the letters, of which no range tells how many there are.
     while four(s, k) {
         k += 4;
         n += 1;

@@ -1,5 +1,6 @@
 // Base64 in the strings of a JSON text, read where it lies: after unescaping, character by character, since a writer of
 // JSON may escape any letter, and some escape each `/`. Letters that stand unescaped, as most do, are read together.
+// That a string's bytes fit a buffer is asked by each writer: it is a fact of both, and no type of one could have it.
 #![tactic(auto)]
 
 mod decoding;
@@ -11,24 +12,10 @@ use base64_strict::Group;
 pub use decoding::{decode, fill};
 pub use sizing::size_of;
 
-// How many bytes a string stands for, if it is base64.
-#[derive(Clone, Copy)]
-pub enum Size {
-    Of(usize),
-    Bad,
-}
-
-// One character, with the place past it; or the string's end.
-#[derive(Clone, Copy)]
-pub enum Letter {
-    Is(u32, usize),
-    Stop,
-}
-
-// Four characters as a group, with the place past them; the string's end; or fewer than four.
+// Four characters as a group, with the place past them, or the string's end. Where None stands in its place, there are
+// fewer than four, or they are no group.
 #[derive(Clone, Copy)]
 pub enum Quad {
     Four(Group, usize),
     End,
-    Fewer,
 }

@@ -1,5 +1,6 @@
 -- At a place of a text stands a value with a tree: what the readers of json say there, by the value's kind. The members
 -- of an object and the elements of an array, as the readers find them, are those of the tree, in order.
+use Rattle.std.specs.Prelude.{None, Option, Some}
 use Prim.Native.Nat.{ℕ, zero, suc, ◌+◌, ◌-◌, ◌≤◌}
 use mathlib.Core.Path.{◌≡◌, refl, ◌∙◌, ap}
 use mathlib.Core.List.{List, [], ◌∷◌, ◌++◌, append_assoc}
@@ -7,8 +8,6 @@ use native.Mathlib.Omega.{arith}
 use lib.ListN.{length, get_or, take, drop, length-append, length-drop}
 use lib.Seq.{take-append_seam}
 use Rattle.laws.specs.Pick.{pick, either}
-use Rattle.json_tokens.specs.declared.Skip.{Skip}
-use Rattle.json_tokens.specs.declared.Skip.TheVariants.{Past, Bad}
 use Rattle.json_tokens.specs.Scan.{after, past_colon}
 use Rattle.json_tokens.specs.Number.{number_at}
 use Rattle.json_strings.specs.Text.{string_at, content_at}
@@ -48,9 +47,9 @@ pub data Each {A : Type 0} (P : ℕ → A → Type 0) : List ℕ → List A → 
   one : {k : ℕ} {ks : List ℕ} {a : A} {l : List A} → P k a → Each P ks l → Each P (k ∷ ks) (a ∷ l)
 
 -- the text from k to where a reader ends
-abbrev pub text_to : List ℕ → ℕ → Skip → List ℕ
-text_to s k (Past e) = take (e - k) (drop k s)
-text_to s k Bad = []
+abbrev pub text_to : List ℕ → ℕ → Option ℕ → List ℕ
+text_to s k (Some e) = take (e - k) (drop k s)
+text_to s k None = []
 
 -- what the readers say of a value with the tree t at k, by its first byte
 pub data Shows (s : List ℕ) (k : ℕ) : ℕ → Json → Type 0 where
@@ -70,7 +69,7 @@ module _ (s : List ℕ) (k : ℕ) where
   untrimmed : (l : List ℕ) → 33 ≤ front l → Rest s k (trim l) → Rest s k l
   untrimmed l g h = rest-as (trim-front l (no-blank (front l) g)) h
 
-  ends-at : {r : Skip} (x t : List ℕ) → Passes s t r → Rest s k (x ++ t) → text_to s k r ≡ x
+  ends-at : {r : Option ℕ} (x t : List ℕ) → Passes s t r → Rest s k (x ++ t) → text_to s k r ≡ x
   ends-at x t (passes {e = e} g) h =
       let z : e - k ≡ length x =
       omega (
@@ -101,7 +100,7 @@ module _ (s : List ℕ) (k : ℕ) where
       a-string (rest-front r ∙ f) (string-held s k x t q r)
 
 -- ---- Objects and arrays.
-placed : {s t : List ℕ} {r : Skip} → Passes s t r → Rest s (place_of r) t
+placed : {s t : List ℕ} {r : Option ℕ} → Passes s t r → Rest s (place_of r) t
 unfolding place_of
 placed (passes h) = h
 

@@ -1,4 +1,5 @@
 -- What derives from RFC 8259's grammar is accepted by the readers.
+use Rattle.std.specs.Prelude.{None, Option, Some}
 use Prim.Native.Nat.{ℕ, zero, suc, ◌+◌, ◌≤◌}
 use mathlib.Core.Path.{◌≡◌, refl, sym, ◌∙◌, ap}
 use mathlib.Core.Bool.{true, false}
@@ -8,8 +9,6 @@ use borrow.Author.Tests.{eq-eqb, ne_eqb}
 use lib.Dec.{eqb}
 use lib.ListN.{length, get_or, length-drop}
 use Rattle.laws.specs.Pick.{pick, either, both}
-use Rattle.json_tokens.specs.declared.Skip.{Skip}
-use Rattle.json_tokens.specs.declared.Skip.TheVariants.{Past, Bad}
 use Rattle.json_tokens.specs.declared.Step.{Step}
 use Rattle.json_tokens.specs.Scan.{then, then_step, starts_with, blank, past_while, after, past_colon}
 use Rattle.json_strings.specs.Text.{string_at}
@@ -26,16 +25,16 @@ use Rattle.json_laws.proofs.CompleteNumber.{Stops, number-reads}
 use Rattle.json_laws.proofs.CompleteString.{string-reads}
 
 -- ---- Members.
-step-assoc : (r : Skip) (f : ℕ → Skip) (g : ℕ → Step) → then_step r (λ e. then_step (f e) g) ≡ then_step (then r f) g
+step-assoc : (r : Option ℕ) (f : ℕ → Option ℕ) (g : ℕ → Step) → then_step r (λ e. then_step (f e) g) ≡ then_step (then r f) g
 unfolding then_step then
-step-assoc (Past e) f g = refl
-step-assoc Bad f g = refl
+step-assoc (Some e) f g = refl
+step-assoc None f g = refl
 
-pub steps-assoc : (r : Skip) (f : ℕ → Skip) (p : ℕ → Skip) (g : ℕ → Step)
+pub steps-assoc : (r : Option ℕ) (f : ℕ → Option ℕ) (p : ℕ → Option ℕ) (g : ℕ → Step)
     → then_step r (λ e. then_step (f e) (λ v. then_step (p v) g)) ≡ then_step (then r (λ e. then (f e) p)) g
 unfolding then_step then
-steps-assoc (Past e) f p g = step-assoc (f e) p g
-steps-assoc Bad f p g = refl
+steps-assoc (Some e) f p g = step-assoc (f e) p g
+steps-assoc None f p g = refl
 
 pub string-front : (x t : List ℕ) → Abnf.string x → front (x ++ t) ≡ 34
 unfolding Abnf.string Abnf.quotation-mark
@@ -52,13 +51,13 @@ quoted l e = trim-front l (rw e refl)
 pub member-first : (W : Rule) (x t : List ℕ) → Abnf.member W x → front (trim (x ++ t)) ≡ 125 → ⊥
 member-first W x t m e = let f = member-front W x t m in let z = ap front (quoted (x ++ t) f) in omega arith
 
-lands-then : {s t u : List ℕ} {r : Skip} {f : ℕ → Skip} → Passes s t r → ((e : ℕ) → Rest s e t → Lands s u (f e))
+lands-then : {s t u : List ℕ} {r : Option ℕ} {f : ℕ → Option ℕ} → Passes s t r → ((e : ℕ) → Rest s e t → Lands s u (f e))
     → Lands s u (then r f)
 unfolding then
 lands-then (passes {e = e} h) g = g e h
 
 -- a member, where p reads a value
-abbrev pub member_at : List ℕ → (ℕ → Skip) → ℕ → Skip
+abbrev pub member_at : List ℕ → (ℕ → Option ℕ) → ℕ → Option ℕ
 member_at s p k = then (string_at s k) (λ e. then (past_colon s e) p)
 
 pub colon-passes : (s : List ℕ) (k : ℕ) (n t : List ℕ) → Abnf.name-separator n → Rest s k (n ++ t)
@@ -67,12 +66,12 @@ unfolding past_colon Abnf.name-separator either
 colon-passes s k n t c h = by (mark 58 n t refl c)
   where
     by : Marked 58 n t → Passes s (trim t) (pick (eqb (get_or s (past_while blank s k) 0) 58)
-        (Past (past_while blank s (past_while blank s k + 1))) Bad)
+        (Some (past_while blank s (past_while blank s k + 1))) None)
     by (marked w m g) =
         let r = rest-as g (rest-blanks h) in
-        if-is (Passes s (trim t)) Bad (rest-front r) (passes (rest-as (trim-ws w t m) (rest-blanks (rest-next r))))
+        if-is (Passes s (trim t)) None (rest-front r) (passes (rest-as (trim-ws w t m) (rest-blanks (rest-next r))))
 
-module _ (s : List ℕ) (W : Rule) (p : ℕ → Skip) (values : Values s W p) where
+module _ (s : List ℕ) (W : Rule) (p : ℕ → Option ℕ) (values : Values s W p) where
   pub member-lands : Values s (Abnf.member W) (member_at s p)
   unfolding Abnf.member
   member-lands k x t (join {x = q} a (join {x = n} {y = v} b c)) d h =
@@ -88,7 +87,7 @@ starts-with (x ∷ w) t = rw (eq-eqb x x refl) (starts-with w t)
 
 literal-reads : (s w : List ℕ) → Reads s (octets w) Any (literal_at w s)
 unfolding literal_at
-literal-reads s w k x t these c h = if-true (Passes s t) Bad (rw h.is (starts-with w t)) (passes (rest-past w t h))
+literal-reads s w k x t these c h = if-true (Passes s t) None (rw h.is (starts-with w t)) (passes (rest-past w t h))
 
 pub number-front : (x t : List ℕ) → Abnf.number x → (45 ≤ front (x ++ t)) × (front (x ++ t) ≤ 57)
 unfolding Abnf.number Abnf.minus Abnf.int Abnf.zero Abnf.digit1-9 Abnf.DIGIT
@@ -161,7 +160,7 @@ module _ (s : List ℕ) where
   plain-reads k x t (right (right (right (right q)))) c h =
       as-string k h (string-front x t q) (string-reads s k x t q tt h)
 
-  plain-lands : (o a : ℕ → Skip) → Values s (Abnf.value 0) (value_by o a s)
+  plain-lands : (o a : ℕ → Option ℕ) → Values s (Abnf.value 0) (value_by o a s)
   unfolding value_by
   plain-lands o a k x t v c h =
       let z = scalar-front x t v in
@@ -235,11 +234,11 @@ module _ (s : List ℕ) (d : ℕ) (values : Values s (Abnf.value d) (value_at s 
 
 pub value-lands : (s : List ℕ) (d : ℕ) → Values s (Abnf.value d) (value_at s d)
 unfolding value_at
-value-lands s zero k x t v c h = plain-lands s (λ j. Bad) (λ j. Bad) k x t v c h
+value-lands s zero k x t v c h = plain-lands s (λ j. None) (λ j. None) k x t v c h
 value-lands s (suc d) k x t v c h = deeper-lands s d (λ j y u. value-lands s d j y u) k x t (kind d x v) c h
 
 -- ---- Texts.
-lands-end : (s : List ℕ) {r : Skip} (w : List ℕ) → Abnf.ws w → Lands s (w ++ []) r → ends_at s r ≡ true
+lands-end : (s : List ℕ) {r : Option ℕ} (w : List ℕ) → Abnf.ws w → Lands s (w ++ []) r → ends_at s r ≡ true
 unfolding ends_at
 lands-end s w m (lands {e = e} h z) =
     let r = rest-as (z ∙ trim-ws w [] m) (rest-blanks h) in

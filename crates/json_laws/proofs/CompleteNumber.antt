@@ -1,4 +1,5 @@
 -- The reader of a number reads what derives from `number`, if nothing follows that would go on with it.
+use Rattle.std.specs.Prelude.{None, Some}
 use Prim.Native.Nat.{ℕ, zero, ◌+◌, ◌≤◌}
 use mathlib.Core.Path.{◌≡◌, refl, sym, ◌∙◌}
 use mathlib.Core.Bool.{Bool, true, false}
@@ -8,7 +9,6 @@ use borrow.Author.Tests.{ne_eqb, le-leb}
 use lib.Dec.{eqb}
 use lib.ListN.{length, get_or, length-append}
 use Rattle.laws.specs.Pick.{pick, either, both}
-use Rattle.json_tokens.specs.declared.Skip.TheVariants.{Past, Bad}
 use Rattle.json_tokens.specs.Scan.{then, digit, run, past_while}
 use Rattle.json_tokens.specs.Number.{some_digits, past_minus, past_sign, whole_at, integer_at, fraction_at, signed_at, exponent_at}
 use Rattle.json_tokens.specs.Number.{number_at}
@@ -78,7 +78,7 @@ module _ (s : List ℕ) where
   some-reads : Reads s (1* Abnf.DIGIT) NoDigit (some_digits s)
   unfolding some_digits
   some-reads k z t (join {x = x} {y = y} p m) c h =
-      if-not (Passes s t) Bad moved (passes (rw reach (rest-past (x ++ y) t h)))
+      if-not (Passes s t) None moved (passes (rw reach (rest-past (x ++ y) t h)))
     where
       reach : past_while digit s k ≡ k + length (x ++ y)
       reach = many-reads digit digit-one k (x ++ y) t (more p m) (digit-run t c) h
@@ -91,7 +91,7 @@ module _ (s : List ℕ) where
   whole-reads k x t (left these) c h = if-is (Passes s t) (some_digits s k) (rest-front h) (passes (rest-next h))
   whole-reads k x t (right (join {y = y} (within {b = b} l g) m)) c h =
       let f : get_or s k 0 ≡ b = rest-front h in
-      if-not (Passes s t) (Past (k + 1)) (λ (e : get_or s k 0 ≡ 48). omega arith)
+      if-not (Passes s t) (Some (k + 1)) (λ (e : get_or s k 0 ≡ 48). omega arith)
       (some-reads k (b ∷ y) t (join (within (omega arith) g) m) c h)
 
   fraction-reads : Reads s (optional Abnf.frac) NoPoint (fraction_at s)
@@ -99,7 +99,7 @@ module _ (s : List ℕ) where
   fraction-reads k x t absent c h =
       if-not (Passes s t) (some_digits s (k + 1)) (λ e. c.point (sym (rest-front h) ∙ e)) (passes h)
   fraction-reads k x t (present (join {y = y} these d)) c h =
-      if-is (Passes s t) (Past k) (rest-front h) (some-reads (k + 1) y t d c.digit (rest-next h))
+      if-is (Passes s t) (Some k) (rest-front h) (some-reads (k + 1) y t d c.digit (rest-next h))
 
   signed_reads : Reads s (optional (Abnf.minus ∣ Abnf.plus) · 1* Abnf.DIGIT) NoDigit (signed_at s)
   unfolding signed_at past_sign either Abnf.minus Abnf.plus
@@ -119,9 +119,9 @@ module _ (s : List ℕ) where
       if-false (Passes s t) (signed_at s (k + 1)) (rw (rest-front h) (neither (front t) 101 69 c.small c.large))
       (passes h)
   exponent-reads k x t (present (join {y = y} (left these) q)) c h =
-      if-true (Passes s t) (Past k) (rw (rest-front h) refl) (signed_reads (k + 1) y t q c.digit (rest-next h))
+      if-true (Passes s t) (Some k) (rw (rest-front h) refl) (signed_reads (k + 1) y t q c.digit (rest-next h))
   exponent-reads k x t (present (join {y = y} (right these) q)) c h =
-      if-true (Passes s t) (Past k) (rw (rest-front h) refl) (signed_reads (k + 1) y t q c.digit (rest-next h))
+      if-true (Passes s t) (Some k) (rw (rest-front h) refl) (signed_reads (k + 1) y t q c.digit (rest-next h))
 
   parts-read : Reads s (Abnf.int · optional Abnf.frac · optional Abnf.exp) Stops
       (λ k. then (whole_at s k) (λ e. then (fraction_at s e) (exponent_at s)))

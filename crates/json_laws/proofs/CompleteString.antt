@@ -1,4 +1,5 @@
 -- The reader of a string reads what derives from `string`, whatever follows, and finds in it what the derivation means.
+use Rattle.std.specs.Prelude.{None}
 use Prim.Native.Nat.{ℕ, ◌+◌, ◌-◌, ◌*◌, ◌%◌, ◌≤◌, ◌<◌}
 use mathlib.Core.Path.{◌≡◌, refl, sym, ◌∙◌, ap}
 use mathlib.Core.Bool.{true}
@@ -8,7 +9,6 @@ use borrow.Author.Tests.{eqb-true, le-leb, lt-leb, lt-ltb, le-ltb}
 use lib.Dec.{eqb}
 use lib.ListN.{length, get_or}
 use Rattle.laws.specs.Pick.{pick, both}
-use Rattle.json_tokens.specs.declared.Skip.TheVariants.{Bad}
 use Rattle.json_strings.specs.declared.Unit.{Unit}
 use Rattle.json_strings.specs.declared.Unit.TheVariants.{Code, Close, Ill}
 use Rattle.json_tokens.specs.Walk.{walked}
@@ -300,7 +300,7 @@ module _ (s : List ℕ) where
   pub string-reads : Reads s Abnf.string Any (string_at s)
   unfolding string_at Abnf.string Abnf.quotation-mark
   string-reads k z t (join these (join {x = x} m these)) c h =
-      if-is (Passes s t) Bad (rest-front h) (chars-walk (k + 1) x t m
+      if-is (Passes s t) None (rest-front h) (chars-walk (k + 1) x t m
       (rest-as (append_assoc x (34 ∷ []) t) (rest-next h)))
 
   -- ---- What a string holds.

@@ -1,4 +1,5 @@
 -- Lists of elements and of members: their readers read what derives from the grammar, and leave no more than blanks.
+use Rattle.std.specs.Prelude.{Option, Some}
 use Prim.Native.Nat.{ℕ, suc, ◌+◌, ◌<◌}
 use mathlib.Core.Path.{◌≡◌, refl, sym, ◌∙◌, ap}
 use mathlib.Core.Bool.{false}
@@ -8,8 +9,6 @@ use borrow.Author.Tests.{lt-leb}
 use lib.Dec.{eqb}
 use lib.ListN.{length, get_or}
 use Rattle.laws.specs.Pick.{pick, either, both}
-use Rattle.json_tokens.specs.declared.Skip.{Skip}
-use Rattle.json_tokens.specs.declared.Skip.TheVariants.{Past}
 use Rattle.json_tokens.specs.declared.Step.{Step}
 use Rattle.json_tokens.specs.declared.Step.TheVariants.{End, Wrong}
 use Rattle.json_tokens.specs.Scan.{then_step, blank, digit, past_while, after}
@@ -24,14 +23,14 @@ use Rattle.json_laws.proofs.Spans.{Mark}
 use Rattle.json_laws.proofs.CompleteNumber.{Stops}
 
 -- A reader reads up to where t stands, but for blanks: a bracket's own blanks may be left to what follows.
-pub data Lands (s t : List ℕ) : Skip → Type 0 where
-  lands : {e : ℕ} {u : List ℕ} → Rest s e u → trim u ≡ trim t → Lands s t (Past e)
+pub data Lands (s t : List ℕ) : Option ℕ → Type 0 where
+  lands : {e : ℕ} {u : List ℕ} → Rest s e u → trim u ≡ trim t → Lands s t (Some e)
 
-pub passes-lands : {s t : List ℕ} {r : Skip} → Passes s t r → Lands s t r
+pub passes-lands : {s t : List ℕ} {r : Option ℕ} → Passes s t r → Lands s t r
 passes-lands (passes h) = lands h refl
 
 -- the reader g of values reads W, from where no blank stands
-abbrev pub Values : List ℕ → Rule → (ℕ → Skip) → Type 0
+abbrev pub Values : List ℕ → Rule → (ℕ → Option ℕ) → Type 0
 Values s W g = (k : ℕ) (x t : List ℕ) → W x → Stops t → Rest s k (trim (x ++ t)) → Lands s t (g k)
 
 -- ---- Marks.
@@ -111,12 +110,12 @@ module _ {s : List ℕ} (a : ℕ) where
   unfolding after
   after-close e h z = let r = rest-as z (rest-blanks h) in if-is (Stays s _) _ (rest-front r) (stays (rest-next r))
 
-  lands-goes : {r : Skip} (c u : List ℕ) → (44 ≡ a → ⊥) → Lands s (c ++ u) r → Marked 44 c u
+  lands-goes : {r : Option ℕ} (c u : List ℕ) → (44 ≡ a → ⊥) → Lands s (c ++ u) r → Marked 44 c u
       → Goes s (trim u) (then_step r (after s a))
   unfolding then_step
   lands-goes c u n (lands {e = e} h z) (marked w m g) = rw (← trim-ws w u m) (after-comma e n h (z ∙ g))
 
-  lands-shut : {r : Skip} (c t : List ℕ) → Lands s (c ++ t) r → Marked a c t
+  lands-shut : {r : Option ℕ} (c t : List ℕ) → Lands s (c ++ t) r → Marked a c t
       → Shut s t (then_step r (after s a))
   unfolding then_step
   lands-shut c t (lands {e = e} h z) (marked w m g) = closed (trim-ws w t m) (after-close e h (z ∙ g))
@@ -148,8 +147,8 @@ three-assoc x y z t = simp append_assoc
 
 -- ---- Lists: W is the rule of an element or a member, g its reader, f a turn; a closes the list.
 -- a list from past its opening bracket and the blanks after that
-abbrev pub inner : List ℕ → ℕ → (ℕ → Step) → ℕ → Skip
-inner s a f k = pick (eqb (get_or s k 0) a) (Past (k + 1)) (walked (length s) f k)
+abbrev pub inner : List ℕ → ℕ → (ℕ → Step) → ℕ → Option ℕ
+inner s a f k = pick (eqb (get_or s k 0) a) (Some (k + 1)) (walked (length s) f k)
 
 -- where its parts stand
 abbrev pub places : List ℕ → ℕ → (ℕ → Step) → ℕ → List ℕ
@@ -165,7 +164,7 @@ opened {s} o n k b i t p h = by (mark o b (i ++ t) n p)
         let r = rest-as (ap trim (append_assoc b i t) ∙ z) h in
         rest-as (trim-ws w (i ++ t) m) (rest-blanks (rest-next r))
 
-module _ (s : List ℕ) (W : Rule) (g : ℕ → Skip) (values : Values s W g)
+module _ (s : List ℕ) (W : Rule) (g : ℕ → Option ℕ) (values : Values s W g)
     (f : ℕ → Step) (forth : (k : ℕ) → Forth (length s) k (f k))
     (a : ℕ) (closes : Closes a) (first : (x t : List ℕ) → W x → front (trim (x ++ t)) ≡ a → ⊥)
     (turn : (k : ℕ) → f k ≡ then_step (g k) (after s a)) where

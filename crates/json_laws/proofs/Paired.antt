@@ -1,5 +1,6 @@
 -- The characters of a string are compared and decoded as the readers do it, which take the two halves of a surrogate
 -- pair for two: no word has such a half or a character above U+FFFF, and base64 has neither.
+use Rattle.std.specs.Prelude.{None, Option, Some}
 use Prim.Native.Nat.{ℕ, ◌≤◌, ◌<◌}
 use mathlib.Core.Path.{◌≡◌, refl, sym, ◌∙◌, ap}
 use mathlib.Core.Bool.{Bool, true, false}
@@ -11,7 +12,7 @@ use lib.Dec.{eqb, ltb}
 use Rattle.laws.specs.Pick.{pick, both}
 use Rattle.json_strings.specs.Text.{same_list}
 use Rattle.base64_strict.specs.declared.Group.{Group}
-use Rattle.base64_strict.specs.declared.Group.TheVariants.{Three, Two, One, Bad}
+use Rattle.base64_strict.specs.declared.Group.TheVariants.{Three, Two, One}
 use Rattle.base64_strict.specs.Alphabet.{sextet_of}
 use Rattle.base64_strict.specs.Decode.{none, two_of, three_of, group_of, with_group, decode64}
 use Rattle.json_laws.specs.Tree.{is_high, is_low, pair_of, paired}
@@ -94,38 +95,38 @@ no-sextet c h =
     ) refl
 
 module _ (a b c d : ℕ) where
-  bad-1 : 128 ≤ a → group_of a b c d ≡ Bad
+  bad-1 : 128 ≤ a → group_of a b c d ≡ None
   unfolding group_of pick
   bad-1 h = rw (no-sextet a h) refl
 
-  bad-2 : 128 ≤ b → group_of a b c d ≡ Bad
+  bad-2 : 128 ≤ b → group_of a b c d ≡ None
   unfolding group_of pick
   bad-2 h =
-      of-pick-cases (λ g. g ≡ Bad) (eqb (sextet_of a) 64) (λ t. refl) (λ t. rw (no-sextet b h) refl)
+      of-pick-cases (λ g. g ≡ None) (eqb (sextet_of a) 64) (λ t. refl) (λ t. rw (no-sextet b h) refl)
 
-  bad-3 : 128 ≤ c → group_of a b c d ≡ Bad
+  bad-3 : 128 ≤ c → group_of a b c d ≡ None
   unfolding group_of two_of three_of pick
   bad-3 h =
-      of-pick-cases (λ g. g ≡ Bad) (eqb (sextet_of a) 64) (λ t. refl)
-      (λ t. of-pick-cases (λ g. g ≡ Bad) (eqb (sextet_of b) 64) (λ u. refl)
-      (λ u. of-pick-cases (λ g. g ≡ Bad) (eqb d 61)
+      of-pick-cases (λ g. g ≡ None) (eqb (sextet_of a) 64) (λ t. refl)
+      (λ t. of-pick-cases (λ g. g ≡ None) (eqb (sextet_of b) 64) (λ u. refl)
+      (λ u. of-pick-cases (λ g. g ≡ None) (eqb d 61)
       (λ v. rw (ne_eqb c 61 (λ e. omega arith), no-sextet c h) refl) (λ v. rw (no-sextet c h) refl)))
 
-  bad-4 : 128 ≤ d → group_of a b c d ≡ Bad
+  bad-4 : 128 ≤ d → group_of a b c d ≡ None
   unfolding group_of three_of pick
   bad-4 h =
-      of-pick-cases (λ g. g ≡ Bad) (eqb (sextet_of a) 64) (λ t. refl)
-      (λ t. of-pick-cases (λ g. g ≡ Bad) (eqb (sextet_of b) 64) (λ u. refl)
+      of-pick-cases (λ g. g ≡ None) (eqb (sextet_of a) 64) (λ t. refl)
+      (λ t. of-pick-cases (λ g. g ≡ None) (eqb (sextet_of b) 64) (λ u. refl)
       (λ u. rw (ne_eqb d 61 (λ e. omega arith), no-sextet d h)
-      (of-pick-cases (λ g. g ≡ Bad) (eqb (sextet_of c) 64) (λ v. refl) (λ v. refl))))
+      (of-pick-cases (λ g. g ≡ None) (eqb (sextet_of c) 64) (λ v. refl) (λ v. refl))))
 
-none-behind : (g : Group) (x : List ℕ) → Wide x → with_group g x none ≡ none
-none-behind (Three p q r) x w = refl
-none-behind (Two p q) [] w = elim w [ ]
-none-behind (Two p q) (c ∷ x) w = refl
-none-behind (One p) [] w = elim w [ ]
-none-behind (One p) (c ∷ x) w = refl
-none-behind Bad x w = refl
+none-behind : (g : Option Group) (x : List ℕ) → Wide x → with_group g x none ≡ none
+none-behind (Some (Three p q r)) x w = refl
+none-behind (Some (Two p q)) [] w = elim w [ ]
+none-behind (Some (Two p q)) (c ∷ x) w = refl
+none-behind (Some (One p)) [] w = elim w [ ]
+none-behind (Some (One p)) (c ∷ x) w = refl
+none-behind None x w = refl
 
 wide-none : (x : List ℕ) → Wide x → decode64 x ≡ none
 unfolding decode64

@@ -1,4 +1,5 @@
 -- Readers at a place whose text is known: a reader of a rule passes over what the rule derives, and no further.
+use Rattle.std.specs.Prelude.{Option, Some}
 use Prim.Native.Nat.{ℕ, suc, ◌+◌, ◌≤◌}
 use mathlib.Core.Path.{◌≡◌, refl, sym, ◌∙◌, ap}
 use mathlib.Core.Bool.{Bool, true, false}
@@ -10,8 +11,6 @@ use lib.Dec.{T, eqb}
 use lib.ListN.{length, get_or, drop, length-append, length-drop}
 use lib.Seq.{get_or-drop, drop-drop, drop-append_seam}
 use Rattle.laws.specs.Pick.{pick, either}
-use Rattle.json_tokens.specs.declared.Skip.{Skip}
-use Rattle.json_tokens.specs.declared.Skip.TheVariants.{Past}
 use Rattle.json_tokens.specs.declared.Step.{Step}
 use Rattle.json_tokens.specs.declared.Step.TheVariants.{More, End}
 use Rattle.json_tokens.specs.Scan.{then, blank, run, past_while}
@@ -27,8 +26,8 @@ pub record Rest (s : List ℕ) (k : ℕ) (x : List ℕ) : Type 0 where
   pub inside : k ≤ length s
 
 -- a reader reads up to where t stands
-pub data Passes (s t : List ℕ) : Skip → Type 0 where
-  passes : {e : ℕ} → Rest s e t → Passes s t (Past e)
+pub data Passes (s t : List ℕ) : Option ℕ → Type 0 where
+  passes : {e : ℕ} → Rest s e t → Passes s t (Some e)
 
 -- the byte at the front, 0 of an empty list
 abbrev pub front : List ℕ → ℕ
@@ -73,15 +72,15 @@ abbrev pub Any : List ℕ → Type 0
 Any t = T true
 
 -- ---- A reader f reads the rule P wherever C holds of what follows.
-abbrev pub Reads : List ℕ → Rule → (List ℕ → Type 0) → (ℕ → Skip) → Type 0
+abbrev pub Reads : List ℕ → Rule → (List ℕ → Type 0) → (ℕ → Option ℕ) → Type 0
 Reads s P C f = (k : ℕ) (x t : List ℕ) → P x → C t → Rest s k (x ++ t) → Passes s t (f k)
 
-pub passes_then : {s t u : List ℕ} {r : Skip} {f : ℕ → Skip} → Passes s t r → ((e : ℕ) → Rest s e t → Passes s u (f e))
+pub passes_then : {s t u : List ℕ} {r : Option ℕ} {f : ℕ → Option ℕ} → Passes s t r → ((e : ℕ) → Rest s e t → Passes s u (f e))
     → Passes s u (then r f)
 unfolding then
 passes_then (passes {e = e} h) g = g e h
 
-pub reads_then : {s : List ℕ} {P Q : Rule} {C D : List ℕ → Type 0} {f g : ℕ → Skip} → Reads s P C f → Reads s Q D g
+pub reads_then : {s : List ℕ} {P Q : Rule} {C D : List ℕ → Type 0} {f g : ℕ → Option ℕ} → Reads s P C f → Reads s Q D g
     → ((y t : List ℕ) → Q y → D t → C (y ++ t)) → Reads s (P · Q) D (λ k. then (f k) g)
 reads_then F G c k z t (join {x = x} {y = y} p q) d h =
     passes_then (F k x (y ++ t) p (c y t q d) (rest-as (append_assoc x y t) h)) (λ e r. G e y t q d r)
@@ -169,7 +168,7 @@ pub data Stays (s t : List ℕ) : Step → Type 0 where
   stays : {e : ℕ} → Rest s e t → Stays s t (End e)
 
 -- the first turn goes on, or is the last
-pub walk-on : {s t : List ℕ} {x : Step} (P : Skip → Type 0) (f : ℕ → Step)
+pub walk-on : {s t : List ℕ} {x : Step} (P : Option ℕ → Type 0) (f : ℕ → Step)
     (forth : (k : ℕ) → Forth (length s) k (f k)) (k : ℕ) → x ≡ f k → Goes s t x
     → ((j : ℕ) → Rest s j t → P (walked (length s) f j)) → P (walked (length s) f k)
 walk-on {s} P f forth k e (goes {j = j} h) g = rw (← walked_more (length s) f forth k e refl) (g j h)

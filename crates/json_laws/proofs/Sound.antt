@@ -1,4 +1,5 @@
 -- What the readers accept derives from RFC 8259's grammar.
+use Rattle.std.specs.Prelude.{Option}
 use Prim.Native.Nat.{ℕ, zero, suc, ◌+◌, ◌<◌}
 use mathlib.Core.Path.{◌≡◌, refl, sym, ◌∙◌, ap, subst}
 use mathlib.Core.Bool.{true, false}
@@ -8,7 +9,6 @@ use borrow.Author.Tests.{eqb-true}
 use lib.ListN.{length, get_or, take, drop, take-append-drop}
 use lib.Seq.{drop-drop, drop-length}
 use Rattle.laws.specs.Pick.{both}
-use Rattle.json_tokens.specs.declared.Skip.{Skip}
 use Rattle.json_tokens.specs.Scan.{starts_with, blank, past_while, after, past_colon}
 use Rattle.json_values.specs.Value.{literal_at, plain_at, item_step, member_step, array_of, object_of, value_by, value_at, ends_at}
 use Rattle.json_values.specs.Value.{is_text}
@@ -98,7 +98,7 @@ module _ (s : List ℕ) where
       (λ t. bad)
 
   -- ---- Lists of values: W is the rule of the values within.
-  module _ {W : Rule} (p : ℕ → Skip) (sound : (k : ℕ) → Sound W s k (p k)) where
+  module _ {W : Rule} (p : ℕ → Option ℕ) (sound : (k : ℕ) → Sound W s k (p k)) where
     turns-item : (k : ℕ) → Turns (W · Abnf.value-separator) (W · Abnf.end-array) s k (item_step s p k)
     unfolding item_step Abnf.end-array
     turns-item k = turns_then (sound k) (λ e. turns-after 93 e (omega arith))
@@ -178,7 +178,7 @@ module _ (s : List ℕ) where
   whole : {P : Rule} {e : ℕ} → Spans P s 0 e → e ≡ length s → P s
   whole {P} p h = subst P (sym (p.stands ∙ rw (h, drop-length s) (append-nil p.text))) p.derived
 
-  ends : (d : ℕ) {r : Skip} → Sound (Abnf.value d) s (past_while blank s 0) r → ends_at s r ≡ true → Abnf.JSON-text d s
+  ends : (d : ℕ) {r : Option ℕ} → Sound (Abnf.value d) s (past_while blank s 0) r → ends_at s r ≡ true → Abnf.JSON-text d s
   unfolding ends_at Abnf.JSON-text
   ends d (past {e = e} p) h = whole (spans-join (spans-ws s 0) (spans-join p (spans-ws s e))) (eqb-true _ _ h)
   ends d bad h = let z : ◌≡◌ {A = ℕ} 0 1 = cc in absurd (omega arith)

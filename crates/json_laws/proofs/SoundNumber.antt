@@ -1,4 +1,5 @@
 -- What the reader of a number passes over derives from `number`; and what the reader of blanks passes over from `ws`.
+use Rattle.std.specs.Prelude.{Option, Some}
 use Prim.Native.Nat.{ℕ, ◌+◌, ◌≤◌, ◌<◌}
 use mathlib.Core.Path.{◌≡◌, refl, ◌∙◌}
 use mathlib.Core.Bool.{Bool, true, false}
@@ -8,8 +9,6 @@ use borrow.Author.Tests.{eqb-true, eqb-false, leb-true}
 use lib.Dec.{eqb, leb}
 use lib.ListN.{get_or, drop}
 use Rattle.laws.specs.Pick.{pick, either}
-use Rattle.json_tokens.specs.declared.Skip.{Skip}
-use Rattle.json_tokens.specs.declared.Skip.TheVariants.{Past}
 use Rattle.json_tokens.specs.Scan.{blank, digit, run, past_while}
 use Rattle.json_tokens.specs.Number.{some_digits, past_minus, past_sign, whole_at, integer_at, fraction_at, signed_at, exponent_at}
 use Rattle.json_tokens.specs.Number.{number_at}
@@ -76,7 +75,7 @@ module _ (s : List ℕ) where
       let o : 49 ≤ b = by_contra 49 b (λ n. g (stands_at_lem t ∙ omega arith)) in right
       (join (within {b = b} (omega arith) (omega arith)) m)
 
-  whole_of : {k : ℕ} {r : Skip} → Sound (1* Abnf.DIGIT) s k r → (get_or s k 0 ≡ 48 → ⊥) → Sound Abnf.int s k r
+  whole_of : {k : ℕ} {r : Option ℕ} → Sound (1* Abnf.DIGIT) s k r → (get_or s k 0 ≡ 48 → ⊥) → Sound Abnf.int s k r
   whole_of (past {e = e} p) g =
       past (record {
         text = p.text;
@@ -110,7 +109,7 @@ module _ (s : List ℕ) where
   sound-exponent k = by (eqb (get_or s k 0) 101) (eqb (get_or s k 0) 69) refl refl
     where
       by : (p q : Bool) → eqb (get_or s k 0) 101 ≡ p → eqb (get_or s k 0) 69 ≡ q
-          → Sound (optional Abnf.exp) s k (pick (either p q) (signed_at s (k + 1)) (Past k))
+          → Sound (optional Abnf.exp) s k (pick (either p q) (signed_at s (k + 1)) (Some k))
       by true q e f =
           sound-by (λ x. present) (sound-join (spans-by (λ x. left)
           (spans-octet k 0x65 (omega arith) (eqb-true _ _ e))) (sound-signed (k + 1)))

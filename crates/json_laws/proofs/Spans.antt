@@ -1,4 +1,5 @@
 -- Between two places of a text stands what a rule derives: laws over any rule and any reader.
+use Rattle.std.specs.Prelude.{None, Option, Some}
 use Prim.Native.Nat.{ℕ, zero, suc, ◌+◌, ◌≤◌, ◌<◌}
 use mathlib.Core.Path.{◌≡◌, refl, sym, ◌∙◌, ap}
 use mathlib.Core.Bool.{Bool, true, false}
@@ -9,8 +10,6 @@ use native.Mathlib.Omega.{arith}
 use lib.ListN.{get_or, take, drop, take-append-drop}
 use lib.Seq.{drop-cons, drop-drop}
 use Rattle.laws.specs.Pick.{pick, both}
-use Rattle.json_tokens.specs.declared.Skip.{Skip}
-use Rattle.json_tokens.specs.declared.Skip.TheVariants.{Past, Bad}
 use Rattle.json_tokens.specs.declared.Step.{Step}
 use Rattle.json_tokens.specs.declared.Step.TheVariants.{More, End, Wrong}
 use Rattle.json_tokens.specs.Scan.{then, then_step, run, past_while}
@@ -37,9 +36,9 @@ pub record Spans (P : Rule) (s : List ℕ) (k e : ℕ) : Type 0 where
   pub stands : drop k s ≡ text ++ drop e s
 
 -- what a reader at k answers
-pub data Sound (P : Rule) (s : List ℕ) (k : ℕ) : Skip → Type 0 where
-  past : {e : ℕ} → Spans P s k e → Sound P s k (Past e)
-  bad : Sound P s k Bad
+pub data Sound (P : Rule) (s : List ℕ) (k : ℕ) : Option ℕ → Type 0 where
+  past : {e : ℕ} → Spans P s k e → Sound P s k (Some e)
+  bad : Sound P s k None
 
 -- what a turn at k answers: P where it is not the last, Q where it is
 pub data Turns (P Q : Rule) (s : List ℕ) (k : ℕ) : Step → Type 0 where
@@ -81,15 +80,15 @@ module _ {s : List ℕ} where
   spans-by c p = record { text = p.text; derived = c p.text p.derived; stands = p.stands }
 
   -- ---- Readers in a row.
-  pub sound-by : {P Q : Rule} {k : ℕ} {r : Skip} → ((x : List ℕ) → P x → Q x) → Sound P s k r → Sound Q s k r
+  pub sound-by : {P Q : Rule} {k : ℕ} {r : Option ℕ} → ((x : List ℕ) → P x → Q x) → Sound P s k r → Sound Q s k r
   sound-by c (past p) = past (spans-by c p)
   sound-by c bad = bad
 
-  pub sound-join : {P Q : Rule} {k e : ℕ} {r : Skip} → Spans P s k e → Sound Q s e r → Sound (P · Q) s k r
+  pub sound-join : {P Q : Rule} {k e : ℕ} {r : Option ℕ} → Spans P s k e → Sound Q s e r → Sound (P · Q) s k r
   sound-join p (past q) = past (spans-join p q)
   sound-join p bad = bad
 
-  pub sound-then : {P Q : Rule} {k : ℕ} {r : Skip} {f : ℕ → Skip} → Sound P s k r → ((e : ℕ) → Sound Q s e (f e))
+  pub sound-then : {P Q : Rule} {k : ℕ} {r : Option ℕ} {f : ℕ → Option ℕ} → Sound P s k r → ((e : ℕ) → Sound Q s e (f e))
       → Sound (P · Q) s k (then r f)
   unfolding then
   sound-then (past {e = e} p) q = sound-join p (q e)
@@ -100,7 +99,7 @@ module _ {s : List ℕ} where
   turns-join p (ending q) = ending (spans-join p q)
   turns-join p wrong = wrong
 
-  pub turns_then : {P Q R : Rule} {k : ℕ} {r : Skip} {f : ℕ → Step} → Sound P s k r → ((e : ℕ) → Turns Q R s e (f e))
+  pub turns_then : {P Q R : Rule} {k : ℕ} {r : Option ℕ} {f : ℕ → Step} → Sound P s k r → ((e : ℕ) → Turns Q R s e (f e))
       → Turns (P · Q) (P · R) s k (then_step r f)
   unfolding then_step
   turns_then (past {e = e} p) q = turns-join p (q e)
@@ -113,7 +112,7 @@ module _ {s : List ℕ} where
   turns-by c d wrong = wrong
 
   -- ---- Repetition.
-  on : {P R : Rule} {k j : ℕ} {r : Skip} → ((x y : List ℕ) → P x → R y → R (x ++ y)) → Spans P s k j → Sound R s j r
+  on : {P R : Rule} {k j : ℕ} {r : Option ℕ} → ((x y : List ℕ) → P x → R y → R (x ++ y)) → Spans P s k j → Sound R s j r
       → Sound R s k r
   on c p (past {e = e} q) = past (record {
     text = p.text ++ q.text;

@@ -1,5 +1,6 @@
 -- Which kind of value stands at a place is told by its first byte; of an object the members stand where the readers
 -- find them, of an array the elements, a string holds what its characters are, and a number is its text.
+use Rattle.std.specs.Prelude.{Option, Some}
 use Prim.Native.Nat.{ℕ, suc, ◌+◌, ◌-◌, ◌≤◌}
 use mathlib.Core.Path.{◌≡◌, refl, sym, ◌∙◌, ap}
 use mathlib.Core.List.{List, ◌++◌}
@@ -7,8 +8,6 @@ use native.Mathlib.Nat.{add-zero}
 use native.Mathlib.Omega.{arith}
 use lib.ListN.{get_or, take, drop}
 use lib.Seq.{get_or-drop}
-use Rattle.json_tokens.specs.declared.Skip.{Skip}
-use Rattle.json_tokens.specs.declared.Skip.TheVariants.{Past}
 use Rattle.json_tokens.specs.Number.{number_at}
 use Rattle.json_strings.specs.Text.{content_at}
 use Rattle.json_values.specs.Members.{members_of}
@@ -84,7 +83,7 @@ module _ {s : List ℕ} {d k : ℕ} {t : Json} where
       by (a-string e g) = absurd (omega arith)
 
 -- where the reader of numbers reads one, a minus sign or a digit stands first
-number-first : {s : List ℕ} {k e : ℕ} {r : Skip} → Sound Abnf.number s k r → r ≡ Past e
+number-first : {s : List ℕ} {k e : ℕ} {r : Option ℕ} → Sound Abnf.number s k r → r ≡ Some e
     → (45 ≤ get_or s k 0) × (get_or s k 0 ≤ 57)
 number-first {s} {k} (past {e = e} p) q =
     let f = number-front p.text (drop e s) p.derived in
@@ -93,7 +92,7 @@ number-first {s} {k} (past {e = e} p) q =
     (omega arith, omega arith)
 number-first bad q = let z : ◌≡◌ {A = ℕ} 0 1 = cc in absurd (omega arith)
 
-pub number_past : {s : List ℕ} {d k : ℕ} {t : Json} (e : ℕ) → At s d k t → number_at s k ≡ Past e
+pub number_past : {s : List ℕ} {d k : ℕ} {t : Json} (e : ℕ) → At s d k t → number_at s k ≡ Some e
     → t ≡ Json.number (take (e - k) (drop k s))
 number_past {s} {k = k} e a q =
     let f = number-first (sound-number s k) q in

@@ -1,4 +1,5 @@
 -- Every turn of the test of UTF-8 goes forth.
+use Rattle.std.specs.Prelude.{Option}
 use Prim.Native.Nat.{ℕ, ◌+◌}
 use mathlib.Core.Path.{◌≡◌, refl, ◌∙◌, ap}
 use mathlib.Core.Bool.{Bool, true, false}
@@ -9,7 +10,6 @@ use lib.ListN.{length, get_or}
 use borrow.Author.Tests.{leb-false}
 use Rattle.laws.specs.Pick.{pick}
 use Rattle.json_tokens.specs.declared.Step.TheVariants.{More, End}
-use Rattle.json_tokens.specs.declared.Skip.{Skip}
 use Rattle.json_tokens.specs.Walk.{walked}
 use Rattle.json_tokens.proofs.Ahead.{of-pick}
 use Rattle.json_tokens.proofs.Turns.{Forth}
@@ -29,7 +29,7 @@ forth-char x k = by (leb (length x) k) refl
         of-pick (Forth (length x) k) (ltb (get_or x k 0) 128) (omega arith, omega arith) (forth-unit x k)
 
 -- what the answer of the walk says, from the place at which the last turn stands
-pub reached-as : (x : List ℕ) {r : Skip} (k : ℕ) (b : Bool) → r ≡ walked (length x) (char_step x) k
+pub reached-as : (x : List ℕ) {r : Option ℕ} (k : ℕ) (b : Bool) → r ≡ walked (length x) (char_step x) k
     → walked (length x) (char_step x) k ≡ walked (length x) (char_step x) 0 → b ≡ reached r → b ≡ is_utf8 x
 unfolding is_utf8
 reached-as x k b e f g = g ∙ ap reached (e ∙ f)

@@ -1,4 +1,5 @@
 -- Laws of the string of a text, for loops over its octets.
+use Rattle.std.specs.Prelude.{Option}
 use Prim.Native.Nat.{ℕ, ◌+◌, ◌/◌, ◌%◌, ◌≤◌, ◌<◌}
 use mathlib.Core.Path.{◌≡◌, refl, sym, ◌∙◌, ap}
 use mathlib.Core.List.{List, [], ◌∷◌, ◌++◌}
@@ -6,13 +7,15 @@ use native.Mathlib.Omega.{arith}
 use native.Mathlib.Numerals.{add-one}
 use lib.ListN.{length, get_or, drop, drop_of_length-le, length-append}
 use lib.Seq.{drop-cons}
+use lib.Dec.{eqb, ltb}
+use mathlib.Core.Bool.{Bool, true, false}
+use Rattle.laws.specs.Ascii.{ascii}
 use borrow.Author.Tests.{eq-eqb, ne_eqb, lt-ltb, le-ltb}
 use Rattle.laws.specs.Pasted.{pasted}
-use Rattle.laws.specs.Pick.{pick}
+use Rattle.laws.specs.Pick.{pick, either}
 use Rattle.laws.specs.Written.{Puts}
 use Rattle.laws.proofs.Written.{puts_one, puts-more, puts-length}
 use Rattle.json_quote.specs.Quoted.{hex_of, escaped, quoted_rest, quoted}
-use Rattle.json_quote.specs.declared.Room.{Room}
 use Rattle.json_quote.specs.Room.{spent}
 use Rattle.json_quote.proofs.Putting.{Putting, putting-first, putting-fit, putting-next, putting-plain}
 use Rattle.json_quote.proofs.Putting.{putting-last}
@@ -56,15 +59,27 @@ module _ (b : ℕ) where
       unfolding escaped pick
       escaped-plain h = simp (ne_eqb b 34 q, ne_eqb b 92 s, le-ltb b 32 h)
 
+-- how many bytes that is
+pub width-of : (b : ℕ) → pick (either (eqb b 34) (eqb b 92)) 2 (pick (ltb b 32) 6 1) ≡ length (escaped b)
+unfolding escaped pick either
+width-of b = by (eqb b 34) (eqb b 92) (ltb b 32)
+  where
+    by : (p q r : Bool) → pick (either p q) 2 (pick r 6 1)
+        ≡ length (pick p (ascii "\\\"") (pick q (ascii "\\\\") (pick r (ascii "\\u00" ++ (hex_of (b / 16) ∷ hex_of (b % 16) ∷ [])) (b ∷ []))))
+    by true q r = refl
+    by false true r = refl
+    by false false true = refl
+    by false false false = refl
+
 -- ---- Room, by the turns of code.
-module _ (x : List ℕ) (i : ℕ) (a : Room) {b : Room} where
+module _ (x : List ℕ) (i : ℕ) (a : Option ℕ) {b : Option ℕ} where
   pub room-turn : {n : ℕ} → i < length x → n ≡ length (escaped (get_or x i 0)) → b ≡ spent a n
       → spent b (length (quoted_rest (drop (i + 1) x))) ≡ spent a (length (quoted_rest (drop i x)))
   room-turn {n} h e f =
       ap (λ r. spent r (length (quoted_rest (drop (i + 1) x)))) f ∙ spent-sum a n _
       ∙ ap (spent a) (omega (arith, rest-turn-length x i h))
 
-  pub room-last : {o : Room} (w : Room) → length x ≤ i → b ≡ spent a 1
+  pub room-last : {o : Option ℕ} (w : Option ℕ) → length x ≤ i → b ≡ spent a 1
       → spent a (length (quoted_rest (drop i x))) ≡ spent o (length (quoted_rest x)) → o ≡ spent w 1
       → b ≡ spent w (length (quoted x))
   unfolding quoted

@@ -1,4 +1,5 @@
 -- The string that is written of a text holds that text: read again, it is the same octets (RFC 8259, sections 7 and 8).
+use Rattle.std.specs.Prelude.{None, Option, Some}
 use Prim.Native.Nat.{ℕ, zero, suc, ◌+◌, ◌-◌, ◌*◌, ◌/◌, ◌%◌, ◌≤◌, ◌<◌}
 use mathlib.Core.Path.{◌≡◌, refl, sym, ◌∙◌, ap, ap₂}
 use mathlib.Core.Bool.{Bool, true, false}
@@ -11,8 +12,6 @@ use lib.Seq.{drop-cons}
 use borrow.Author.Tests.{eqb-true, eqb-false, ltb-true, ltb-false, leb-true, leb-false, ne_eqb, lt-ltb, le-ltb}
 use borrow.Author.Tests.{lt-leb, le-leb}
 use Rattle.laws.specs.Pick.{pick}
-use Rattle.json_tokens.specs.declared.Skip.{Skip}
-use Rattle.json_tokens.specs.declared.Skip.TheVariants.{Past, Bad}
 use Rattle.json_tokens.specs.declared.Step.TheVariants.{More, End}
 use Rattle.json_tokens.specs.Walk.{onward, walk, walked}
 use Rattle.json_tokens.proofs.Ahead.{of-pick}
@@ -202,7 +201,7 @@ module _ (x s : List ℕ) (p q : ℕ) (t : Stands s q (quoted_rest (drop p x))) 
 
   -- and the string ends where what is left of it does
   abbrev Ends : ℕ → ℕ → Type 0
-  Ends j r = walked (length s) (unit_step s) r ≡ Past (r + length (quoted_rest (drop j x)))
+  Ends j r = walked (length s) (unit_step s) r ≡ Some (r + length (quoted_rest (drop j x)))
 
   turn-over : {b r : ℕ} → unit_at s q ≡ Code b r
       → walked (length s) (unit_step s) q ≡ walked (length s) (unit_step s) r
@@ -214,7 +213,7 @@ module _ (x s : List ℕ) (p q : ℕ) (t : Stands s q (quoted_rest (drop p x))) 
   end-ends h =
       let w = rw (rest_end x p h) at t in
       sym (walked_end (length s) (unit_step s) q refl (ap step_of (unit-close s q (stands_at_lem w))))
-      ∙ ap (λ n. Past (q + n)) (sym (ap length (rest_end x p h)))
+      ∙ ap (λ n. Some (q + n)) (sym (ap length (rest_end x p h)))
 
   low-ends : p < length x → get_or x p 0 < 128
       → ((r : ℕ) → Stands s r (quoted_rest (drop (p + 1) x)) → Ends (p + 1) r) → Ends p q
@@ -222,7 +221,7 @@ module _ (x s : List ℕ) (p q : ℕ) (t : Stands s q (quoted_rest (drop p x))) 
       let w = rw (rest-turn x p h) at t in
       let u = octet-unit (get_or x p 0) g (stands-left (escaped (get_or x p 0)) _ w) in
       turn-over u ∙ go (q + length (escaped (get_or x p 0))) (stands-right (escaped (get_or x p 0)) _ w)
-      ∙ ap Past (omega (arith, rest-turn-length x p h))
+      ∙ ap Some (omega (arith, rest-turn-length x p h))
 
   wide-ends : {c j : ℕ} → 0x80 ≤ get_or x p 0 → unit_at x p ≡ Code c j
       → ((r : ℕ) → Stands s r (quoted_rest (drop j x)) → Ends j r) → Ends p q
@@ -234,13 +233,13 @@ module _ (x s : List ℕ) (p q : ℕ) (t : Stands s q (quoted_rest (drop p x))) 
       let t2 = rw z at t in
       let u = utf8-again c k.long k.below k.scalar (stands-left (utf8 c) _ t2) in
       turn-over u ∙ go (q + length (utf8 c)) (stands-right (utf8 c) _ t2)
-      ∙ ap Past (omega (arith, ap length z, length-append (utf8 c) (quoted_rest (drop j x))))
+      ∙ ap Some (omega (arith, ap length z, length-append (utf8 c) (quoted_rest (drop j x))))
 
 -- ---- All turns.
-bad : {A : Type 0} {e : ℕ} → Bad ≡ Past e → A
+bad : {A : Type 0} {e : ℕ} → None ≡ Some e → A
 bad h = absurd (let z : ◌≡◌ {A = ℕ} 0 1 = cc in omega arith)
 
-reads : (n : ℕ) (x s : List ℕ) (p q : ℕ) {e : ℕ} → walk n (char_step x) p ≡ Past e
+reads : (n : ℕ) (x s : List ℕ) (p q : ℕ) {e : ℕ} → walk n (char_step x) p ≡ Some e
     → Stands s q (quoted_rest (drop p x)) → text_of (content_at s q) ≡ octets (drop p x)
 unfolding walk onward char_step pick unit_step
 reads zero x s p q h t = bad h
@@ -248,8 +247,8 @@ reads (suc n) x s p q {e} h t =
     by (leb (length x) p) (ltb (get_or x p 0) 128) (unit_at x p) refl refl refl h (λ j r g k. reads n x s j r g k)
   where
     by : (a b : Bool) (u : Unit) → leb (length x) p ≡ a → ltb (get_or x p 0) 128 ≡ b → unit_at x p ≡ u
-        → onward (pick a (End p) (pick b (More (p + 1)) (step_of u))) (walk n (char_step x)) ≡ Past e
-        → ((j r : ℕ) → walk n (char_step x) j ≡ Past e → Stands s r (quoted_rest (drop j x))
+        → onward (pick a (End p) (pick b (More (p + 1)) (step_of u))) (walk n (char_step x)) ≡ Some e
+        → ((j r : ℕ) → walk n (char_step x) j ≡ Some e → Stands s r (quoted_rest (drop j x))
         → text_of (content_at s r) ≡ octets (drop j x))
         → text_of (content_at s q) ≡ octets (drop p x)
     by true b u f g i z go = end-case x s p q (leb-true (length x) p f) t
@@ -265,34 +264,34 @@ pub quoted-holds : {s : List ℕ} {k : ℕ} (x : List ℕ) → is_utf8 x ≡ tru
 unfolding is_utf8 quoted
 quoted-holds {s} {k} x h t = by (walked (length x) (char_step x) 0) refl h
   where
-    by : (r : Skip) → walked (length x) (char_step x) 0 ≡ r → reached r ≡ true
+    by : (r : Option ℕ) → walked (length x) (char_step x) 0 ≡ r → reached r ≡ true
         → text_of (content_at s (k + 1)) ≡ octets x
-    by (Past e) f g = reads (suc (length x)) x s 0 (k + 1) f (stands-next t)
-    by Bad f g = absurd (let z : false ≡ true = g in let w : ◌≡◌ {A = ℕ} 0 1 = cc in omega arith)
+    by (Some e) f g = reads (suc (length x)) x s 0 (k + 1) f (stands-next t)
+    by None f g = absurd (let z : false ≡ true = g in let w : ◌≡◌ {A = ℕ} 0 1 = cc in omega arith)
 
-turn_is : (x : List ℕ) (p n : ℕ) {e : ℕ} → onward (char_step x p) (walk n (char_step x)) ≡ Past e
+turn_is : (x : List ℕ) (p n : ℕ) {e : ℕ} → onward (char_step x p) (walk n (char_step x)) ≡ Some e
     → onward (pick (leb (length x) p) (End p) (pick (ltb (get_or x p 0) 128) (More (p + 1)) (step_of (unit_at x p))))
-    (walk n (char_step x)) ≡ Past e
+    (walk n (char_step x)) ≡ Some e
 unfolding char_step unit_step
 turn_is x p n g = g
 
-ends : (n : ℕ) (x s : List ℕ) (p q : ℕ) {e : ℕ} → walk n (char_step x) p ≡ Past e → Stands s q (quoted_rest (drop p x))
-    → walked (length s) (unit_step s) q ≡ Past (q + length (quoted_rest (drop p x)))
+ends : (n : ℕ) (x s : List ℕ) (p q : ℕ) {e : ℕ} → walk n (char_step x) p ≡ Some e → Stands s q (quoted_rest (drop p x))
+    → walked (length s) (unit_step s) q ≡ Some (q + length (quoted_rest (drop p x)))
 unfolding walk onward char_step pick
 ends zero x s p q h t = bad h
 ends (suc n) x s p q {e} h t =
     by (leb (length x) p) (ltb (get_or x p 0) 128) (unit_at x p) refl refl refl (step-as h) (λ j r g k. ends n x s j r g k)
   where
-    step-as : onward (char_step x p) (walk n (char_step x)) ≡ Past e
+    step-as : onward (char_step x p) (walk n (char_step x)) ≡ Some e
         → onward (pick (leb (length x) p) (End p) (pick (ltb (get_or x p 0) 128) (More (p + 1)) (step_of (unit_at x p))))
-        (walk n (char_step x)) ≡ Past e
+        (walk n (char_step x)) ≡ Some e
     step-as g = turn_is x p n g
 
     by : (a b : Bool) (u : Unit) → leb (length x) p ≡ a → ltb (get_or x p 0) 128 ≡ b → unit_at x p ≡ u
-        → onward (pick a (End p) (pick b (More (p + 1)) (step_of u))) (walk n (char_step x)) ≡ Past e
-        → ((j r : ℕ) → walk n (char_step x) j ≡ Past e → Stands s r (quoted_rest (drop j x))
-        → walked (length s) (unit_step s) r ≡ Past (r + length (quoted_rest (drop j x))))
-        → walked (length s) (unit_step s) q ≡ Past (q + length (quoted_rest (drop p x)))
+        → onward (pick a (End p) (pick b (More (p + 1)) (step_of u))) (walk n (char_step x)) ≡ Some e
+        → ((j r : ℕ) → walk n (char_step x) j ≡ Some e → Stands s r (quoted_rest (drop j x))
+        → walked (length s) (unit_step s) r ≡ Some (r + length (quoted_rest (drop j x))))
+        → walked (length s) (unit_step s) q ≡ Some (q + length (quoted_rest (drop p x)))
     by true b u f g i z go = end-ends x s p q t (leb-true (length x) p f)
     by false true u f g i z go =
         low-ends x s p q t (leb-false (length x) p f) (ltb-true (get_or x p 0) 128 g) (λ r k. go (p + 1) r z k)
@@ -302,13 +301,13 @@ ends (suc n) x s p q {e} h t =
 
 -- and it is read as a string, to its end
 pub quoted-reads : {s : List ℕ} {k : ℕ} (x : List ℕ) → is_utf8 x ≡ true → Stands s k (quoted x)
-    → string_at s k ≡ Past (k + length (quoted x))
+    → string_at s k ≡ Some (k + length (quoted x))
 unfolding is_utf8 quoted string_at pick
 quoted-reads {s} {k} x h t = by (walked (length x) (char_step x) 0) refl h
   where
-    by : (r : Skip) → walked (length x) (char_step x) 0 ≡ r → reached r ≡ true
-        → pick (eqb (get_or s k 0) 34) (walked (length s) (unit_step s) (k + 1)) Bad
-        ≡ Past (k + length (34 ∷ quoted_rest x))
-    by (Past e) f g =
-        rw (stands_at_lem t) (ends (suc (length x)) x s 0 (k + 1) f (stands-next t) ∙ ap Past (omega arith))
-    by Bad f g = absurd (let z : false ≡ true = g in let w : ◌≡◌ {A = ℕ} 0 1 = cc in omega arith)
+    by : (r : Option ℕ) → walked (length x) (char_step x) 0 ≡ r → reached r ≡ true
+        → pick (eqb (get_or s k 0) 34) (walked (length s) (unit_step s) (k + 1)) None
+        ≡ Some (k + length (34 ∷ quoted_rest x))
+    by (Some e) f g =
+        rw (stands_at_lem t) (ends (suc (length x)) x s 0 (k + 1) f (stands-next t) ∙ ap Some (omega arith))
+    by None f g = absurd (let z : false ≡ true = g in let w : ◌≡◌ {A = ℕ} 0 1 = cc in omega arith)

@@ -1,8 +1,6 @@
 -- UTF8-octets = *( UTF8-char ) (RFC 3629, section 4).
-use Rattle.std.specs.Prelude.{ℕ, ◌+◌, Bool, true, false, List, leb, ltb, length, get_or}
+use Rattle.std.specs.Prelude.{ℕ, ◌+◌, Bool, true, false, List, leb, ltb, length, get_or, None, Option, Some}
 use Rattle.laws.specs.Pick.{pick}
-use Rattle.json_tokens.specs.declared.Skip.{Skip}
-use Rattle.json_tokens.specs.declared.Skip.TheVariants.{Past, Bad}
 use Rattle.json_tokens.specs.declared.Step.{Step}
 use Rattle.json_tokens.specs.declared.Step.TheVariants.{More, End}
 use Rattle.json_tokens.specs.Walk.{walked}
@@ -14,9 +12,9 @@ unfoldable pub char_step : List ℕ → ℕ → Step
 char_step x at =
     pick (leb (length x) at) (End at) (pick (ltb (get_or x at 0) 0x80) (More (at + 1)) (unit_step x at))
 
-abbrev pub reached : Skip → Bool
-reached (Past e) = true
-reached Bad = false
+abbrev pub reached : Option ℕ → Bool
+reached (Some e) = true
+reached None = false
 
 -- characters up to the end
 unfoldable pub is_utf8 : List ℕ → Bool

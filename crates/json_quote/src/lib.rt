@@ -9,11 +9,3 @@ mod utf8;
 pub use quoting::put_quoted;
 pub use spending::{quoted_room, spend};
 pub use utf8::is_utf8;
-
-// What is left of a buffer's room once something is put there; or that it is too short. Room is taken off piece by
-// piece, since the sum of many lengths may be no number of 64 bits.
-#[derive(Clone, Copy)]
-pub enum Room {
-    Left(usize),
-    Short,
-}

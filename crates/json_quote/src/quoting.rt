@@ -47,10 +47,8 @@ pub fn put_quoted(out: &mut [u8], at: usize, x: &[u8]) -> usize
 {
     put(out, at, b"\"");
     let mut k = at + 1;
-    let mut i = 0;
-    while i < x.len() {
-        k = put_octet(out, k, x[i]);
-        i += 1;
+    for b in x {
+        k = put_octet(out, k, *b);
     }
     put(out, k, b"\"");
     k + 1

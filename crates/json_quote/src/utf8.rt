@@ -22,11 +22,13 @@ fn char_step(x: &[u8], at: usize) -> Step
     }
 }
 
-// Whether x is the UTF-8 of a text.
+// Whether x is the UTF-8 of a text. By the reader's own characters, and not by the library's `from_utf8`: that what is
+// quoted is read again is proved of these.
 pub fn is_utf8(x: &[u8]) -> bool
     ensures { result ≡ is_utf8 x.now }
 {
     let mut k = 0;
+    // loop: the step that ends it says whether all is well.
     loop {
         match char_step(x, k) {
             Step::More(j) => {

@@ -1,31 +1,52 @@
 -- Laws about what a string holds, for a loop over its characters.
+use Rattle.std.specs.Prelude.{None, Option, Some}
+use Rattle.std.specs.Option.{unwrap_or}
+use Rattle.std.proofs.lemmas.Option.{none-some}
 use Prim.Native.Nat.{ℕ, zero, suc, ◌+◌, ◌-◌, ◌≤◌, ◌<◌}
 use mathlib.Core.Path.{◌≡◌, refl, sym, ◌∙◌, ap}
 use mathlib.Core.Bool.{Bool, true, false}
-use mathlib.Core.List.{List, [], ◌∷◌, ◌++◌}
+use mathlib.Core.List.{List, [], ◌∷◌}
 use native.Mathlib.Omega.{arith}
 use native.Mathlib.Numerals.{add-one}
-use borrow.Author.Tests.{eq-eqb, ne_eqb}
+use borrow.Author.Tests.{eq-eqb, ne_eqb, eqb-true, eqb-false}
 use lib.ListN.{length, get_or, drop, drop_of_length-le}
-use lib.Dec.{leb, leb-zero, leb-suc-zero, leb-suc-suc}
-use native.Mathlib.Nat.{add-zero}
-use lib.Seq.{drop-cons, drop-nil, get_or-drop}
+use lib.Dec.{eqb, leb, leb-zero, leb-suc-zero, leb-suc-suc}
+use lib.Seq.{drop-cons, drop-nil}
 use Rattle.laws.specs.Pick.{pick, both}
 use Rattle.json_strings.specs.declared.Unit.{Unit}
 use Rattle.json_strings.specs.declared.Unit.TheVariants.{Code, Close, Ill}
-use Rattle.json_tokens.specs.declared.Skip.TheVariants.{Past, Bad}
-use Rattle.json_tokens.specs.Walk.{starts, walked}
-use Rattle.json_strings.specs.Text.{unit_at, step_of, unit_step, codes_of, codes_at, content_at, same_list, end_of}
+use Rattle.json_tokens.specs.Walk.{walked}
+use Rattle.json_strings.specs.Text.{unit_at, step_of, unit_step, codes_at, content_at, same_list, told}
 use Rattle.json_tokens.proofs.Turns.{starts_more, starts-end, starts-wrong, turn-falls, walked_more, walked_end}
 use Rattle.json_tokens.proofs.Turns.{walked-wrong}
 use Rattle.json_strings.proofs.Ahead.{onto-unit, forth-unit}
 
--- ---- A place that is 0 where there is none.
-pub end_none : {e : ℕ} → e ≡ 0 → Bad ≡ end_of e
+-- ---- A number that is 0 where there is none.
+pub told-zero : (x : ℕ) → 0 ≡ x → None ≡ told x
+unfolding pick
+told-zero x e = rw (sym e) refl
+
+pub told-none : {r : Option ℕ} (x : ℕ) → r ≡ told x → r ≡ None → x ≡ 0
+unfolding pick
+told-none x e h = by (eqb x 0) refl (sym e ∙ h)
+  where
+    by : (b : Bool) → eqb x 0 ≡ b → pick b None (Some x) ≡ None → x ≡ 0
+    by true q z = eqb-true x 0 q
+    by false q z = absurd (none-some x (sym z))
+
+pub told-some : {r : Option ℕ} {e : ℕ} (x : ℕ) → r ≡ told x → r ≡ Some e → (e ≡ x) × (x ≡ 0 → ⊥)
+unfolding pick
+told-some {e = n} x q h = by (eqb x 0) refl (sym q ∙ h)
+  where
+    by : (b : Bool) → eqb x 0 ≡ b → pick b None (Some x) ≡ Some n → (n ≡ x) × (x ≡ 0 → ⊥)
+    by true f z = absurd (none-some n z)
+    by false f z = (sym (ap (λ (o : Option ℕ). unwrap_or o 0) z), eqb-false x 0 f)
+
+pub end_none : {e : ℕ} → e ≡ 0 → None ≡ told e
 unfolding pick
 end_none h = rw h refl
 
-pub end-past : {e : ℕ} → (e ≡ 0 → ⊥) → Past e ≡ end_of e
+pub end-past : {e : ℕ} → (e ≡ 0 → ⊥) → Some e ≡ told e
 unfolding pick
 end-past {e} h = rw (ne_eqb e 0 h) refl
 
@@ -47,6 +68,14 @@ module _ (s : List ℕ) {u : Unit} (k : ℕ) (e : u ≡ unit_at s k) where
   unfolding content_at codes_at
   content-ill h = rw (starts-wrong (length s) (unit_step s) k refl (turn ∙ ap step_of h)) (rw (sym e ∙ h) refl)
 
+  pub content-other : ((c j : ℕ) → u ≡ Code c j → ⊥) → content_at s k ≡ []
+  content-other h = by u refl
+    where
+      by : (v : Unit) → u ≡ v → content_at s k ≡ []
+      by (Code c j) q = absurd (h c j q)
+      by (Close j) q = content-close q
+      by Ill q = content-ill q
+
   -- a character takes a byte or more
   pub content-falls : {c j : ℕ} → u ≡ Code c j → length s - j < length s - k
   content-falls h = turn-falls (length s) (unit_step s) (forth-unit s) k refl (turn ∙ ap step_of h)
@@ -55,12 +84,12 @@ module _ (s : List ℕ) {u : Unit} (k : ℕ) (e : u ≡ unit_at s k) where
   pub walked-code : {c j : ℕ} → u ≡ Code c j → walked (length s) (unit_step s) j ≡ walked (length s) (unit_step s) k
   walked-code h = walked_more (length s) (unit_step s) (forth-unit s) k refl (turn ∙ ap step_of h)
 
-  pub walked-close : {j : ℕ} → u ≡ Close j → walked (length s) (unit_step s) k ≡ end_of j
+  pub walked-close : {j : ℕ} → u ≡ Close j → walked (length s) (unit_step s) k ≡ told j
   walked-close {j} h =
       let far : k < j = rw (sym e ∙ h) at (onto-unit s k) in
       sym (walked_end (length s) (unit_step s) k refl (turn ∙ ap step_of h)) ∙ end-past (λ z. omega arith)
 
-  pub walked-ill : u ≡ Ill → walked (length s) (unit_step s) k ≡ end_of 0
+  pub walked-ill : u ≡ Ill → walked (length s) (unit_step s) k ≡ told 0
   walked-ill h = sym (walked-wrong (length s) (unit_step s) k refl (turn ∙ ap step_of h)) ∙ end_none refl
 
 -- ---- A name, compared with a word.

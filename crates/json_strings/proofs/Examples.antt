@@ -1,7 +1,6 @@
 -- Worked examples of RFC 3629, section 7, computed: the numbers of the characters that a string holds.
-use Prim.Native.Nat.{ℕ}
 use mathlib.Core.Path.{◌≡◌, refl}
-use mathlib.Core.List.{List, [], ◌∷◌}
+use mathlib.Core.List.{[], ◌∷◌}
 use Rattle.laws.specs.Pick.{pick, both}
 use Rattle.json_tokens.specs.Walk.{onward, walk, more_of, starts}
 use Rattle.json_strings.specs.Text.{least_second, most_second, second_at, tail_at, more_bits, two_at, three_at, four_at, long_at}

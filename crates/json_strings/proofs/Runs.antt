@@ -1,4 +1,5 @@
 -- Laws about runs of characters that stand for themselves.
+use Rattle.std.specs.Prelude.{Some}
 use Prim.Native.Nat.{ℕ, suc, ◌+◌, ◌-◌, ◌≤◌, ◌<◌}
 use mathlib.Core.Path.{◌≡◌, refl, sym, ◌∙◌, ap}
 use mathlib.Core.Bool.{Bool, true, false, not, ◌&&◌, true≢false}
@@ -9,11 +10,10 @@ use lib.ListN.{length, get_or}
 use borrow.Author.Tests.{leb-true, leb-false, eqb-true, eqb-false, ne_eqb}
 use Rattle.laws.specs.Pick.{pick}
 use Rattle.json_strings.specs.declared.Unit.TheVariants.{Code, Close}
-use Rattle.json_tokens.specs.declared.Skip.TheVariants.{Past}
 use Rattle.json_tokens.specs.declared.Step.TheVariants.{More}
 use Rattle.json_tokens.specs.Scan.{past_while}
 use Rattle.json_tokens.specs.Walk.{walked}
-use Rattle.json_strings.specs.Text.{unescaped, unit_at, step_of, unit_step, string_at, content_at, end_of}
+use Rattle.json_strings.specs.Text.{unescaped, unit_at, step_of, unit_step, string_at, content_at, told}
 use Rattle.json_strings.specs.Text.{Lettered}
 use Rattle.json_tokens.proofs.Picks.{over}
 use Rattle.json_tokens.proofs.While.{while-more, while-stop, while-end, while-same, while-ahead}
@@ -91,7 +91,7 @@ pub run-ahead : {r : ℕ} (s : List ℕ) (k : ℕ) → r ≡ past_while unescape
 run-ahead s k e = omega (arith, e, while-ahead unescaped s k)
 
 pub run-unquoted : {b : ℕ} (s : List ℕ) (at : ℕ) → b ≡ get_or s at 0 → (b ≡ 34 → ⊥)
-    → (string_at s at ≡ end_of 0) × Lettered s at 0
+    → (string_at s at ≡ told 0) × Lettered s at 0
 unfolding string_at pick
 run-unquoted {b} s at e h = (rw (sym e, ne_eqb b 34 h) refl, record { long = λ q. absurd (h (e ∙ q)) })
 
@@ -107,7 +107,7 @@ run-lettered s at g h =
 
 -- the run is all of it
 pub run-closed : {b r c : ℕ} (s : List ℕ) (at : ℕ) → b ≡ get_or s at 0 → b ≡ 34 → r ≡ past_while unescaped s (at + 1)
-    → c ≡ get_or s r 0 → c ≡ 34 → (string_at s at ≡ Past (r + 1)) × Lettered s at (r - at - 1)
+    → c ≡ get_or s r 0 → c ≡ 34 → (string_at s at ≡ Some (r + 1)) × Lettered s at (r - at - 1)
 unfolding unit_step
 run-closed {r = r} s at e h g f i =
     let q = unit-quoted s r f i in (

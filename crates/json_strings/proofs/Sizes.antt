@@ -15,7 +15,7 @@ use Rattle.json_strings.specs.declared.Unit.TheVariants.{Code}
 use Rattle.json_strings.specs.Text.{nibble_of, nibble_at, hex_at, escape_at, least_second, most_second, second_at, tail_at}
 use Rattle.json_strings.specs.Text.{two_at, three_at, four_at, long_at, wide_at, unit_at, step_of, unit_step}
 use Rattle.json_strings.specs.Sizes.{is_tail, is_second, is_two, is_three, is_four, is_hex, is_quad, is_escape}
-use Rattle.json_strings.specs.Sizes.{quad_of, Steps, Hexed}
+use Rattle.json_strings.specs.Sizes.{quad_of, StepsBy, HexedBy}
 use Rattle.json_strings.proofs.Ahead.{forth-unit}
 
 and_left : (a b : Bool) → a && b ≡ true → a ≡ true
@@ -151,7 +151,7 @@ module _ (s : List ℕ) (k : ℕ) where
 
 -- ---- What code has of the bytes at a place.
 module _ {a b : ℕ} (s : List ℕ) (k : ℕ) (ea : a ≡ get_or s k 0) (eb : b ≡ get_or s (k + 1) 0) (room : k + 6 ≤ length s) where
-  pub steps-two : {t : Bool} → t ≡ is_two a b → t ≡ true → Steps s k 2
+  pub steps-two : {t : Bool} → t ≡ is_two a b → t ≡ true → StepsBy s k 2
   unfolding is_two
   steps-two e h =
       let q = sym e ∙ h in
@@ -160,12 +160,13 @@ module _ {a b : ℕ} (s : List ℕ) (k : ℕ) (ea : a ≡ get_or s k 0) (eb : b 
       let m = ltb-true a 0xE0 (and_right (leb 0xC2 a) (ltb a 0xE0) w) in
       let n = tail-second a b m (and_right (leb 0xC2 a && ltb a 0xE0) (is_tail b) q) in
       record {
-        on = λ z. step-two s k (omega arith) (omega arith) (second_at_lem s k ea eb n);
-        fits = λ z. omega arith;
+        on = step-two s k (omega arith) (omega arith) (second_at_lem s k ea eb n);
+        fits = omega arith;
+        takes = omega arith;
       }
 
   module _ {c : ℕ} (ec : c ≡ get_or s (k + 2) 0) where
-    pub steps-three : {t : Bool} → t ≡ is_three a b c → t ≡ true → Steps s k 3
+    pub steps-three : {t : Bool} → t ≡ is_three a b c → t ≡ true → StepsBy s k 3
     unfolding is_three
     steps-three e h =
         let q = sym e ∙ h in
@@ -175,10 +176,10 @@ module _ {a b : ℕ} (s : List ℕ) (k : ℕ) (ea : a ≡ get_or s k 0) (eb : b 
         let m = ltb-true a 0xF0 (and_right (leb 0xE0 a) (ltb a 0xF0) v) in
         let n = second_at_lem s k ea eb (and_right (leb 0xE0 a && ltb a 0xF0) (is_second a b) w) in
         let o = tail-at s k (k + 2) ec (and_right ((leb 0xE0 a && ltb a 0xF0) && is_second a b) (is_tail c) q) in
-        record { on = λ z. step-three s k (omega arith) (omega arith) n o; fits = λ z. omega arith }
+        record { on = step-three s k (omega arith) (omega arith) n o; fits = omega arith; takes = omega arith }
 
     module _ {d : ℕ} (ed : d ≡ get_or s (k + 3) 0) where
-      pub steps-four : {t : Bool} → t ≡ is_four a b c d → t ≡ true → Steps s k 4
+      pub steps-four : {t : Bool} → t ≡ is_four a b c d → t ≡ true → StepsBy s k 4
       unfolding is_four
       steps-four e h =
           let q = sym e ∙ h in
@@ -191,7 +192,7 @@ module _ {a b : ℕ} (s : List ℕ) (k : ℕ) (ea : a ≡ get_or s k 0) (eb : b 
           let o = tail-at s k (k + 2) ec (and_right ((leb 0xF0 a && ltb a 0xF5) && is_second a b) (is_tail c) x) in
           let p = tail-at s k (k + 3) ed
           (and_right (((leb 0xF0 a && ltb a 0xF5) && is_second a b) && is_tail c) (is_tail d) q) in
-          record { on = λ z. step-four s k (omega arith) (omega arith) n o p; fits = λ z. omega arith }
+          record { on = step-four s k (omega arith) (omega arith) n o p; fits = omega arith; takes = omega arith }
 
       module _ {f g : ℕ} {t u : Bool} (ef : f ≡ get_or s (k + 4) 0) (eg : g ≡ get_or s (k + 5) 0) (et : t ≡ is_escape a b)
           (eu : u ≡ is_quad c d f g) where
@@ -221,23 +222,18 @@ module _ {a b : ℕ} (s : List ℕ) (k : ℕ) (ea : a ≡ get_or s k 0) (eb : b 
               v,
             ) at w)
 
-        pub steps-hex : t && u ≡ true → Steps s k 6
+        pub steps-hex : t && u ≡ true → StepsBy s k 6
         unfolding unit_step
         steps-hex h = record {
-          on = λ z. ap step_of (sym (hex-is (and_left t u h) (and_right t u h)));
-          fits = λ z. omega arith;
+          on = ap step_of (sym (hex-is (and_left t u h) (and_right t u h)));
+          fits = omega arith;
+          takes = omega arith;
         }
 
-        pub hexed-some : {r : ℕ} → not t ≡ false → u ≡ true → r ≡ quad_of c d f g → Hexed s k r
-        hexed-some h n e = record { on = λ z. rw e (hex-is (not-false t h) n); fits = λ z. omega arith }
-
-pub hexed-none : (s : List ℕ) (k : ℕ) → Hexed s k 0x10000
-hexed-none s k = record { on = λ z. absurd (omega arith); fits = λ z. absurd (omega arith) }
-
-pub steps-none : (s : List ℕ) (k : ℕ) → Steps s k 0
-steps-none s k = record { on = λ z. absurd (z refl); fits = λ z. absurd (z refl) }
+        pub hexed-some : {r : ℕ} → not t ≡ false → u ≡ true → r ≡ quad_of c d f g → HexedBy s k r
+        hexed-some h n e = record { on = rw e (hex-is (not-false t h) n); fits = omega arith }
 
 -- ---- A string goes on past such a character.
-module _ {s : List ℕ} {k n : ℕ} (t : Steps s k n) (h : n ≡ 0 → ⊥) where
+module _ {s : List ℕ} {k n : ℕ} (t : StepsBy s k n) where
   pub walked-steps : walked (length s) (unit_step s) (k + n) ≡ walked (length s) (unit_step s) k
-  walked-steps = walked_more (length s) (unit_step s) (forth-unit s) k refl (t.on h)
+  walked-steps = walked_more (length s) (unit_step s) (forth-unit s) k refl t.on

@@ -1,7 +1,7 @@
 -- For the private functions: characters that are more than a byte, by how many bytes they take (RFC 3629, section 4), and
 -- those that are escaped by four digits (RFC 8259, section 7).
 use Prim.Native.Char.{code}
-use Rattle.std.specs.Prelude.{ℕ, ◌+◌, ◌*◌, ◌≤◌, ◌<◌, ◌≡◌, Bool, ◌&&◌, ◌||◌, List, eqb, leb, ltb, length}
+use Rattle.std.specs.Prelude.{ℕ, ◌<◌, ◌+◌, ◌*◌, ◌≤◌, ◌≡◌, Bool, ◌&&◌, ◌||◌, List, eqb, leb, ltb, length, None, Option, Some}
 use Rattle.json_tokens.specs.declared.Step.TheVariants.{More}
 use Rattle.json_strings.specs.declared.Unit.TheVariants.{Code}
 use Rattle.json_strings.specs.Text.{nibble_of, least_second, most_second, unit_at, unit_step}
@@ -32,16 +32,27 @@ is_quad a b c d = ((is_hex a && is_hex b) && is_hex c) && is_hex d
 unfoldable pub is_escape : ℕ → ℕ → Bool
 is_escape a b = eqb a (code "\\") && eqb b (code "u")
 
--- a character of r bytes stands at a place; 0 says nothing
-pub record Steps (s : List ℕ) (at r : ℕ) : Type 0 where
-  pub on : (r ≡ 0 → ⊥) → unit_step s at ≡ More (at + r)
-  pub fits : (r ≡ 0 → ⊥) → at + r ≤ length s
+-- a character of n bytes stands at a place
+pub record StepsBy (s : List ℕ) (at n : ℕ) : Type 0 where
+  pub on : unit_step s at ≡ More (at + n)
+  pub fits : at + n ≤ length s
+  pub takes : 0 < n
+
+-- None says nothing
+abbrev pub Steps : List ℕ → ℕ → Option ℕ → Type 0
+Steps s at (Some n) = StepsBy s at n
+Steps s at None = record {}
 
 -- the number of four digits
 abbrev pub quad_of : ℕ → ℕ → ℕ → ℕ → ℕ
 quad_of a b c d = 4096 * nibble_of a + 256 * nibble_of b + 16 * nibble_of c + nibble_of d
 
--- the number r, which is escaped by four digits, stands at a place; one of more than 16 bits says nothing
-pub record Hexed (s : List ℕ) (at r : ℕ) : Type 0 where
-  pub on : r < 0x10000 → Code r (at + 6) ≡ unit_at s at
-  pub fits : r < 0x10000 → at + 6 ≤ length s
+-- the number r, which is escaped by four digits, stands at a place
+pub record HexedBy (s : List ℕ) (at r : ℕ) : Type 0 where
+  pub on : Code r (at + 6) ≡ unit_at s at
+  pub fits : at + 6 ≤ length s
+
+-- None says nothing
+abbrev pub Hexed : List ℕ → ℕ → Option ℕ → Type 0
+Hexed s at (Some r) = HexedBy s at r
+Hexed s at None = record {}

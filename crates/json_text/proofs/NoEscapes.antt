@@ -1,4 +1,5 @@
 -- Laws about strings without escapes: they are texts, and one of ASCII is its own octets.
+use Rattle.std.specs.Prelude.{None, Option, Some}
 use Prim.Native.Nat.{ℕ, zero, suc, ◌+◌, ◌-◌, ◌≤◌, ◌<◌}
 use mathlib.Core.Path.{◌≡◌, refl, sym, ◌∙◌, ap}
 use mathlib.Core.Bool.{Bool, true, false, not, ◌&&◌, true≢false}
@@ -18,8 +19,6 @@ use Rattle.json_strings.specs.declared.Unit.TheVariants.{Code, Close, Ill}
 use Rattle.json_strings.specs.Text.{unescaped, unit_at, content_at}
 use Rattle.json_strings.proofs.Content.{content-code, content-close, content-ill, content-falls}
 use Rattle.json_strings.proofs.Runs.{run_none, run_inside, unit-unescaped}
-use Rattle.json_text.specs.declared.TextSize.{TextSize}
-use Rattle.json_text.specs.declared.TextSize.TheVariants.{Of, Bad}
 use Rattle.json_text.specs.Octets.{utf8, Text, octets, none, onto, text_of, size_of}
 use Rattle.json_text.specs.Facts.{good, bare}
 use Rattle.json_text.proofs.Fills.{put-good}
@@ -128,14 +127,14 @@ bare-text {r} {b} s k e f free =
     sym (in-fuel s (length s - k) k (omega arith) (λ z. free (f ∙ ap (λ n. get_or s n 0) e ∙ z)))
 
 -- ---- By its size.
-pub sized-text : {x : TextSize} {n : ℕ} (t : Text) → x ≡ size_of 0 t → x ≡ Of n → true ≡ good t
+pub sized-text : {x : Option ℕ} {n : ℕ} (t : Text) → x ≡ size_of 0 t → x ≡ Some n → true ≡ good t
 sized-text t e h = sym (put-good t (sym h ∙ e))
 
-no_text : (t : Text) → Bad ≡ size_of 0 t → false ≡ good t
+no_text : (t : Text) → None ≡ size_of 0 t → false ≡ good t
 no_text (octets x) e = let z : ◌≡◌ {A = ℕ} 0 1 = cc in absurd (omega arith)
 no_text none e = refl
 
-pub unsized-text : {x : TextSize} (t : Text) → x ≡ size_of 0 t → x ≡ Bad → false ≡ good t
+pub unsized-text : {x : Option ℕ} (t : Text) → x ≡ size_of 0 t → x ≡ None → false ≡ good t
 unsized-text t e h = no_text t (sym h ∙ e)
 
 pub ruleset unicode = (bare-text, sized-text, unsized-text)

@@ -1,4 +1,5 @@
 -- A character's octets are no more than the bytes that it takes in a string.
+use Rattle.std.specs.Prelude.{None, Some}
 use Prim.Native.Nat.{ℕ, ◌+◌, ◌/◌, ◌%◌, ◌≤◌, ◌<◌}
 use mathlib.Core.Path.{◌≡◌, refl, sym, ◌∙◌, ap}
 use mathlib.Core.Bool.{true}
@@ -13,7 +14,6 @@ use Rattle.json_strings.specs.declared.Unit.{Unit}
 use Rattle.json_strings.specs.declared.Unit.TheVariants.{Code, Close, Ill}
 use Rattle.json_strings.specs.Text.{escape_of, hex_at, escape_at, more_bits, two_at, three_at, four_at, long_at, wide_at, unit_at}
 use Rattle.json_strings.specs.Text.{content_at}
-use Rattle.json_text.specs.declared.TextSize.TheVariants.{Of, Bad}
 use Rattle.json_text.specs.Octets.{trailing, utf8, Text, octets, none, onto, text_of, size_of}
 use Rattle.json_text.specs.Facts.{Reads}
 
@@ -124,15 +124,15 @@ takes-code s k e h = rw (sym e ∙ h) at (takes-unit s k)
 
 -- ---- The size of a text, of which n octets went before.
 size-onto : (n : ℕ) (x : List ℕ) (t : Text) → size_of (n + length x) t ≡ size_of n (onto x t)
-size-onto n x (octets y) = ap Of (omega (arith, length-append x y))
+size-onto n x (octets y) = ap Some (omega (arith, length-append x y))
 size-onto n x none = refl
 
 pub size-next : (n : ℕ) {s : List ℕ} {k c j m : ℕ} → Reads s k c j → m ≡ length (utf8 c)
     → size_of (n + m) (text_of (content_at s j)) ≡ size_of n (text_of (content_at s k))
 size-next n {s} {k} {c} {j} r e = rw (e, r.text) (size-onto n (utf8 c) (text_of (content_at s j)))
 
-pub size-end : (n : ℕ) (t : Text) → t ≡ octets [] → Of n ≡ size_of n t
-size-end n t e = rw e (ap Of (omega arith))
+pub size-end : (n : ℕ) (t : Text) → t ≡ octets [] → Some n ≡ size_of n t
+size-end n t e = rw e (ap Some (omega arith))
 
-pub size-bad : (n : ℕ) (t : Text) → t ≡ none → Bad ≡ size_of n t
+pub size-bad : (n : ℕ) (t : Text) → t ≡ none → None ≡ size_of n t
 size-bad n t e = rw e refl

@@ -1,9 +1,7 @@
 -- The text that a string holds, as octets (RFC 8259, sections 7, 8.1 and 8.2; RFC 3629, section 3). A list of numbers
 -- is here what `content_at` says of a string: \u and four digits are one number, also of a surrogate.
-use Rattle.std.specs.Prelude.{ℕ, ◌+◌, ◌*◌, ◌-◌, ◌/◌, ◌%◌, Bool, List, [], ◌∷◌, ◌++◌, leb, ltb, length}
+use Rattle.std.specs.Prelude.{ℕ, ◌+◌, ◌*◌, ◌-◌, ◌/◌, ◌%◌, Bool, List, [], ◌∷◌, ◌++◌, leb, ltb, length, None, Option, Some}
 use Rattle.laws.specs.Pick.{pick, either, both}
-use Rattle.json_text.specs.declared.TextSize.{TextSize}
-use Rattle.json_text.specs.declared.TextSize.TheVariants.{Of, Bad}
 
 -- surrogates: the first of a pair, and the second
 unfoldable pub is_high : ℕ → Bool
@@ -58,6 +56,6 @@ plain (octets x) = x
 plain none = []
 
 -- n octets and those of a text
-abbrev pub size_of : ℕ → Text → TextSize
-size_of n (octets x) = Of (n + length x)
-size_of n none = Bad
+abbrev pub size_of : ℕ → Text → Option ℕ
+size_of n (octets x) = Some (n + length x)
+size_of n none = None

@@ -5,9 +5,8 @@ ghost use Rattle.json_strings.specs.Text.{content_at};
 ghost use Rattle.json_text.specs.Octets.{text_of};
 ghost use Rattle.json_text.specs.Facts.{good, bare};
 
-use super::TextSize;
 use super::texts::text_size;
-use json_tokens::byte;
+use json_tokens::{byte, past_while};
 
 // Neither a quote nor a backslash.
 fn is_bare(b: u8) -> bool
@@ -20,14 +19,7 @@ fn is_bare(b: u8) -> bool
 fn past_bare(s: &[u8], at: usize) -> usize
     ensures { result ≡ past_while bare s.now at }
 {
-    let mut k = at;
-    while k < s.len() {
-        if !is_bare(s[k]) {
-            return k;
-        }
-        k += 1;
-    }
-    k
+    past_while(s, at, is_bare)
 }
 
 // Whether the string whose characters start at a place is a text. Where no backslash stands before the first quote, no
@@ -39,8 +31,5 @@ pub fn is_unicode(s: &[u8], at: usize) -> bool
     if b != b'\\' {
         return true;
     }
-    match text_size(s, at) {
-        TextSize::Of(_) => true,
-        TextSize::Bad => false,
-    }
+    text_size(s, at).is_some()
 }

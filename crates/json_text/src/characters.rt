@@ -12,11 +12,9 @@ use json_strings::{Unit, hex_code, unit_of};
 fn unit_at(s: &[u8], at: usize) -> Unit
     ensures { result ≡ unit_at s.now at }
 {
-    let c = hex_code(s, at);
-    if c < 0x10000 {
-        Unit::Code(c, at + 6)
-    } else {
-        unit_of(s, at)
+    match hex_code(s, at) {
+        Some(c) => Unit::Code(c, at + 6),
+        None => unit_of(s, at),
     }
 }
 

@@ -11,14 +11,8 @@ mod utf8;
 pub use bare::is_unicode;
 pub use texts::{fill, put_text, text_size};
 
-// How many octets the text of a string has, if it is one.
-#[derive(Clone, Copy)]
-pub enum TextSize {
-    Of(usize),
-    Bad,
-}
-
-// A character, with the place past it; the string's end; or a surrogate that is alone.
+// A character, with the place past it; the string's end; or a surrogate that is alone. Three ways, which both readers tell
+// apart: a Result of an Option of a pair would say no more.
 #[derive(Clone, Copy)]
 pub enum Letter {
     Is(u32, usize),

@@ -5,19 +5,13 @@ ghost use Rattle.json_text.specs.Octets.{is_high, is_low, paired};
 pub fn is_high(c: u32) -> bool
     ensures { result ≡ is_high c }
 {
-    if c < 0xD800 {
-        return false;
-    }
-    c <= 0xDBFF
+    matches!(c, 0xD800..=0xDBFF)
 }
 
 pub fn is_low(c: u32) -> bool
     ensures { result ≡ is_low c }
 {
-    if c < 0xDC00 {
-        return false;
-    }
-    c <= 0xDFFF
+    matches!(c, 0xDC00..=0xDFFF)
 }
 
 // The character that two surrogates stand for.

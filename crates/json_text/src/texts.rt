@@ -5,16 +5,17 @@ ghost use Rattle.json_strings.specs.Text.{content_at};
 ghost use Rattle.json_text.specs.Octets.{text_of, plain, size_of};
 ghost use Rattle.json_text.specs.Facts.{good};
 
+use super::Letter;
 use super::characters::letter_at;
 use super::utf8::{put_letter, size};
-use super::{Letter, TextSize};
 
 // How many octets the text of the string has whose characters start at a place.
-pub fn text_size(s: &[u8], at: usize) -> TextSize
+pub fn text_size(s: &[u8], at: usize) -> Option<usize>
     ensures { result ≡ size_of 0 (text_of (content_at s.now at)) }
 {
     let mut k = at;
     let mut n = 0;
+    // loop: what ends the string says whether it is a text.
     loop {
         match letter_at(s, k) {
             Letter::Is(c, j) => {
@@ -22,10 +23,10 @@ pub fn text_size(s: &[u8], at: usize) -> TextSize
                 k = j;
             }
             Letter::Stop => {
-                return TextSize::Of(n);
+                return Some(n);
             }
             Letter::Lone => {
-                return TextSize::Bad;
+                return None;
             }
         }
     }
@@ -39,31 +40,20 @@ pub fn fill(s: &[u8], at: usize, out: &mut [u8])
 {
     let mut k = at;
     let mut n = 0;
-    loop {
-        match letter_at(s, k) {
-            Letter::Is(c, j) => {
-                put_letter(c, out, n);
-                n += size(c);
-                k = j;
-            }
-            Letter::Stop => {
-                return;
-            }
-            Letter::Lone => {
-                return;
-            }
-        }
+    while let Letter::Is(c, j) = letter_at(s, k) {
+        put_letter(c, out, n);
+        n += size(c);
+        k = j;
     }
 }
 
 // The same of any string: nothing is written where it is no text. It is a helper: its callers have tested that there is
-// room.
+// room. As `decode` of json_base64, for another reading of strings, which says why there are two.
 pub fn put_text(s: &[u8], at: usize, out: &mut [u8])
     requires { length (plain (text_of (content_at s.now at))) ≤ length out.old }
     ensures { out.new ≡ fronted (plain (text_of (content_at s.now at))) out.old }
 {
-    let TextSize::Of(_) = text_size(s, at) else {
-        return;
-    };
-    fill(s, at, out);
+    if text_size(s, at).is_some() {
+        fill(s, at, out);
+    }
 }

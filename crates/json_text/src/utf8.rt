@@ -5,6 +5,7 @@ ghost use Rattle.json_text.specs.Octets.{trailing, utf8};
 
 use octets::put;
 
+// How many octets a character has. By its number: a `char` would have to be made of it first, by a test that it is one.
 pub fn size(c: u32) -> usize
     ensures { result ≡ length (utf8 c) }
 {
@@ -23,7 +24,7 @@ fn tail(c: u32) -> u8
     (0x80 + c % 64) as u8
 }
 
-// The octets of c, at n.
+// The octets of c, at n. By hand, as `size` is.
 pub fn put_letter(c: u32, out: &mut [u8], n: usize)
     requires { n + length (utf8 c) ≤ length out.old }
     ensures { out.new ≡ pasted out.old n (utf8 c) }

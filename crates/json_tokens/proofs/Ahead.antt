@@ -1,4 +1,5 @@
 -- No reader of tokens goes back, and a turn goes forth that ends in a comma.
+use Rattle.std.specs.Prelude.{None, Option, Some}
 use Prim.Native.Nat.{ℕ, ◌+◌, ◌≤◌}
 use mathlib.Core.Path.{◌≡◌, refl}
 use mathlib.Core.Bool.{Bool, true, false}
@@ -8,8 +9,6 @@ use native.Mathlib.Omega.{arith}
 use lib.ListN.{length}
 use borrow.Author.Tests.{eqb-true}
 use Rattle.laws.specs.Pick.{pick}
-use Rattle.json_tokens.specs.declared.Skip.{Skip}
-use Rattle.json_tokens.specs.declared.Skip.TheVariants.{Past, Bad}
 use Rattle.json_tokens.specs.declared.Step.{Step}
 use Rattle.json_tokens.specs.Scan.{then, then_step, blank, digit, past_while, after, past_colon}
 use Rattle.json_tokens.specs.Number.{some_digits, past_minus, past_sign, whole_at, integer_at, fraction_at, signed_at}
@@ -30,10 +29,10 @@ unfolding pick
 of-pick-if P true p q = p refl
 of-pick-if P false p q = q
 
-ahead-then : (k : ℕ) (r : Skip) (f : ℕ → Skip) → Ahead k r → ((e : ℕ) → k ≤ e → Ahead k (f e)) → Ahead k (then r f)
+ahead-then : (k : ℕ) (r : Option ℕ) (f : ℕ → Option ℕ) → Ahead k r → ((e : ℕ) → k ≤ e → Ahead k (f e)) → Ahead k (then r f)
 unfolding then
-ahead-then k (Past e) f h g = g e h
-ahead-then k Bad f h g = tt
+ahead-then k (Some e) f h g = g e h
+ahead-then k None f h g = tt
 
 module _ (s : List ℕ) where
   ahead-digits : (k : ℕ) → Ahead k (some_digits s k)
@@ -76,11 +75,11 @@ module _ (s : List ℕ) where
       of-pick (Ahead k) _ (omega (arith, while-ahead blank s j, while-ahead blank s (past_while blank s j + 1))) tt
 
   -- ---- Turns.
-  pub forth-then : (k : ℕ) (r : Skip) (f : ℕ → Step) → Ahead k r → ((e : ℕ) → k ≤ e → Forth (length s) k (f e))
+  pub forth-then : (k : ℕ) (r : Option ℕ) (f : ℕ → Step) → Ahead k r → ((e : ℕ) → k ≤ e → Forth (length s) k (f e))
       → Forth (length s) k (then_step r f)
   unfolding then_step
-  forth-then k (Past e) f h g = g e h
-  forth-then k Bad f h g = tt
+  forth-then k (Some e) f h g = g e h
+  forth-then k None f h g = tt
 
   pub forth-after : (close j k : ℕ) → k ≤ j → Forth (length s) k (after s close j)
   unfolding after

@@ -1,17 +1,16 @@
 -- Laws about a digit that is a whole number.
+use Rattle.std.specs.Prelude.{None, Some}
 use Prim.Native.Nat.{ℕ, ◌+◌, ◌≤◌, ◌<◌, ◌^◌}
-use mathlib.Core.Path.{◌≡◌, refl, sym, ◌∙◌, ap}
+use mathlib.Core.Path.{◌≡◌, refl, sym, ◌∙◌}
 use mathlib.Core.Bool.{Bool, true, false, ◌||◌, true≢false}
 use mathlib.Core.List.{List}
 use native.Mathlib.Omega.{arith}
 use lib.Dec.{eqb, leb}
 use lib.ListN.{length, get_or}
-use borrow.Author.Tests.{eqb-true, eqb-false, ne_eqb, leb-true}
+use borrow.Author.Tests.{eqb-true, ne_eqb, leb-true}
 use mir.Syntax.{w64}
 use mir.Val.{Fits}
 use Rattle.laws.specs.Pick.{pick, either, both}
-use Rattle.json_tokens.specs.declared.Skip.{Skip}
-use Rattle.json_tokens.specs.declared.Skip.TheVariants.{Past, Bad}
 use Rattle.json_tokens.specs.Scan.{then, digit, past_while}
 use Rattle.json_tokens.specs.Number.{some_digits, past_minus, whole_at, fraction_at, exponent_at, integer_at, number_at, lone_digit}
 use Rattle.json_tokens.proofs.Picks.{over}
@@ -63,27 +62,27 @@ module _ (s : List ℕ) (at : ℕ) (d : digit (get_or s at 0) ≡ true) (c : Clo
   run-one = sym (while-more digit s at (digit-inside s at refl d) d)
       ∙ sym (while-stop digit s (at + 1) (over s refl (omega (arith, c.above))) c.other)
 
-  whole : whole_at s at ≡ Past (at + 1)
+  whole : whole_at s at ≡ Some (at + 1)
   unfolding whole_at some_digits pick
   whole = by (eqb (get_or s at 0) 48)
     where
-      by : (z : Bool) → pick z (Past (at + 1)) (pick (eqb (past_while digit s at) at) Bad (Past (past_while digit s at))) ≡ Past (at + 1)
+      by : (z : Bool) → pick z (Some (at + 1)) (pick (eqb (past_while digit s at) at) None (Some (past_while digit s at))) ≡ Some (at + 1)
       by true = refl
       by false = rw (run-one, ne_eqb (at + 1) at (λ h. omega arith)) refl
 
-  alone : number_at s at ≡ Past (at + 1)
+  alone : number_at s at ≡ Some (at + 1)
   unfolding number_at integer_at past_minus fraction_at exponent_at then pick either
   alone =
       let r = ranged (get_or s at 0) d in
       rw (ne_eqb (get_or s at 0) 45 (λ h. omega (arith, r.least)), whole)
       (simp (ne_eqb _ 46 c.point, ne_eqb _ 101 c.small, ne_eqb _ 69 c.capital))
 
-pub lone-number : {r : Bool} (s : List ℕ) (at : ℕ) → r ≡ lone_digit s at → r ≡ true → number_at s at ≡ Past (at + 1)
+pub lone-number : {r : Bool} (s : List ℕ) (at : ℕ) → r ≡ lone_digit s at → r ≡ true → number_at s at ≡ Some (at + 1)
 unfolding lone_digit pick
 lone-number s at e h = by (digit (get_or s at 0)) refl (sym e ∙ h)
   where
     by : (p : Bool) → digit (get_or s at 0) ≡ p
         → pick p ((eqb (get_or s (at + 1) 0) 44 || eqb (get_or s (at + 1) 0) 93) || eqb (get_or s (at + 1) 0) 125) false ≡ true
-        → number_at s at ≡ Past (at + 1)
+        → number_at s at ≡ Some (at + 1)
     by true d g = alone s at d (closes _ g)
     by false d g = absurd (true≢false (sym g))

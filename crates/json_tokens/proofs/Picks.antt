@@ -1,5 +1,6 @@
 -- Laws about readers in a row and about places, with a variable for what code holds and an equation that ties it: with
 -- those about a choice, `search (picks, needs)` proves a return.
+use Rattle.std.specs.Prelude.{None, Option, Some}
 use Prim.Native.Nat.{ℕ, suc, ◌+◌, ◌≤◌, ◌<◌, ◌^◌}
 use mathlib.Core.Path.{◌≡◌, refl, sym, ◌∙◌, ap}
 use mathlib.Core.List.{List}
@@ -11,28 +12,26 @@ use mir.Syntax.{w64}
 use mir.Val.{Fits}
 use Rattle.laws.proofs.Picks.{choices}
 use Rattle.json_tokens.specs.Scan.{then, then_step}
-use Rattle.json_tokens.specs.declared.Skip.{Skip}
-use Rattle.json_tokens.specs.declared.Skip.TheVariants.{Past, Bad}
 use Rattle.json_tokens.specs.declared.Step.{Step}
 use Rattle.json_tokens.specs.declared.Step.TheVariants.{Wrong}
 
-pub past_same : {e f : ℕ} → e ≡ f → Past e ≡ Past f
-past_same e = ap Past e
+pub past_same : {e f : ℕ} → e ≡ f → Some e ≡ Some f
+past_same e = ap Some e
 
 -- a reader that fails, and one that goes on at e
-pub then-bad : {x y : Skip} (f : ℕ → Skip) → x ≡ y → x ≡ Bad → Bad ≡ then y f
+pub then-bad : {x y : Option ℕ} (f : ℕ → Option ℕ) → x ≡ y → x ≡ None → None ≡ then y f
 unfolding then
 then-bad f p q = rw (sym p ∙ q) refl
 
-pub then-past : {x y r : Skip} {e : ℕ} (f : ℕ → Skip) → x ≡ y → x ≡ Past e → r ≡ f e → r ≡ then y f
+pub then-past : {x y r : Option ℕ} {e : ℕ} (f : ℕ → Option ℕ) → x ≡ y → x ≡ Some e → r ≡ f e → r ≡ then y f
 unfolding then
 then-past f p q g = rw (sym p ∙ q) g
 
-pub step-bad : {x y : Skip} (f : ℕ → Step) → x ≡ y → x ≡ Bad → Wrong ≡ then_step y f
+pub step-bad : {x y : Option ℕ} (f : ℕ → Step) → x ≡ y → x ≡ None → Wrong ≡ then_step y f
 unfolding then_step
 step-bad f p q = rw (sym p ∙ q) refl
 
-pub step_past : {x y : Skip} {r : Step} {e : ℕ} (f : ℕ → Step) → x ≡ y → x ≡ Past e → r ≡ f e → r ≡ then_step y f
+pub step_past : {x y : Option ℕ} {r : Step} {e : ℕ} (f : ℕ → Step) → x ≡ y → x ≡ Some e → r ≡ f e → r ≡ then_step y f
 unfolding then_step
 step_past f p q g = rw (sym p ∙ q) g
 

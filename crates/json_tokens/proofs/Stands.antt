@@ -1,5 +1,6 @@
 -- What the readers of tokens say of a text that is known: the half of the round trip that is about reading what was
 -- written.
+use Rattle.std.specs.Prelude.{Some}
 use Prim.Native.Nat.{ℕ, ◌+◌, ◌<◌}
 use mathlib.Core.Path.{◌≡◌, refl, sym, ◌∙◌, ap}
 use mathlib.Core.Bool.{false}
@@ -10,7 +11,6 @@ use borrow.Author.Tests.{eq-eqb, ne_eqb}
 use lib.ListN.{length, get_or, drop, length-append, length-drop}
 use lib.Seq.{get_or-drop, drop-drop, drop-append_seam}
 use Rattle.laws.specs.Pick.{pick, either}
-use Rattle.json_tokens.specs.declared.Skip.TheVariants.{Past}
 use Rattle.json_tokens.specs.declared.Step.TheVariants.{More, End}
 use Rattle.json_tokens.specs.Scan.{blank, past_while, after, past_colon}
 use Rattle.json_tokens.proofs.While.{while-stop}
@@ -47,9 +47,9 @@ no-blank {s} {k} t h = sym (while-stop blank s k (stands-inside t) (rw (stands_a
 
 -- a colon, a comma and a closing bracket, with no blanks around them
 pub colon-reads : {s : List ℕ} {k a : ℕ} {x : List ℕ} → Stands s k (58 ∷ a ∷ x) → blank a ≡ false
-    → past_colon s k ≡ Past (k + 1)
+    → past_colon s k ≡ Some (k + 1)
 unfolding past_colon pick either
-colon-reads {s} {k} t h = rw (no-blank t refl, stands_at_lem t) (ap Past (no-blank (stands-next t) h))
+colon-reads {s} {k} t h = rw (no-blank t refl, stands_at_lem t) (ap Some (no-blank (stands-next t) h))
 
 pub close-reads : {s : List ℕ} {k c : ℕ} {x : List ℕ} → Stands s k (c ∷ x) → blank c ≡ false → after s c k ≡ End (k + 1)
 unfolding after pick

@@ -1,31 +1,30 @@
 -- Laws about `walked` and `starts`, over the turn. A turn goes forth if it starts inside a text of L bytes and ends
 -- further on.
-use Prim.Native.Nat.{ℕ, zero, suc, ◌+◌, ◌-◌, ◌≤◌, ◌<◌}
+use Rattle.std.specs.Prelude.{None, Option, Some}
+use Prim.Native.Nat.{ℕ, zero, suc, ◌-◌, ◌≤◌, ◌<◌}
 use mathlib.Core.Path.{◌≡◌, refl, sym, ◌∙◌, ap}
 use mathlib.Core.Bool.{true}
-use mathlib.Core.List.{List, [], ◌∷◌}
-use native.Mathlib.Nat.{le_refl, not-suc-le-zero}
+use mathlib.Core.List.{[], ◌∷◌}
+use native.Mathlib.Nat.{not-suc-le-zero}
 use native.Mathlib.Omega.{arith}
 use lib.Dec.{T}
-use Rattle.json_tokens.specs.declared.Skip.{Skip}
-use Rattle.json_tokens.specs.declared.Skip.TheVariants.{Past, Bad}
 use Rattle.json_tokens.specs.declared.Step.{Step}
 use Rattle.json_tokens.specs.declared.Step.TheVariants.{More, End, Wrong}
 use Rattle.json_tokens.specs.Walk.{onward, walk, walked, more_of, starts}
 
 -- a reader that does not go back
-abbrev pub Ahead : ℕ → Skip → Type 0
-Ahead k (Past e) = k ≤ e
-Ahead k Bad = T true
+abbrev pub Ahead : ℕ → Option ℕ → Type 0
+Ahead k (Some e) = k ≤ e
+Ahead k None = T true
 
 abbrev pub Forth : ℕ → ℕ → Step → Type 0
 Forth L k (More j) = (k < j) × (k < L)
 Forth L k (End e) = k ≤ e
 Forth L k Wrong = T true
 
-pub back : (r : Skip) (j k : ℕ) → k ≤ j → Ahead j r → Ahead k r
-back (Past e) j k h g = omega arith
-back Bad j k h g = tt
+pub back : (r : Option ℕ) (j k : ℕ) → k ≤ j → Ahead j r → Ahead k r
+back (Some e) j k h g = omega arith
+back None j k h g = tt
 
 module _ (L : ℕ) (f : ℕ → Step) (forth : (k : ℕ) → Forth L k (f k)) where
   -- more turns than bytes are left change nothing
@@ -90,11 +89,11 @@ module _ (L : ℕ) (f : ℕ → Step) (forth : (k : ℕ) → Forth L k (f k)) wh
   ahead-walked j k h = back (walked L f j) j k h (ahead-walk (suc L) j)
 
 -- the last turn says what the walk says
-pub walked_end : {x : Step} {e : ℕ} (L : ℕ) (f : ℕ → Step) (k : ℕ) → x ≡ f k → x ≡ End e → Past e ≡ walked L f k
+pub walked_end : {x : Step} {e : ℕ} (L : ℕ) (f : ℕ → Step) (k : ℕ) → x ≡ f k → x ≡ End e → Some e ≡ walked L f k
 unfolding walk onward
 walked_end L f k e h = rw (sym e ∙ h) refl
 
-pub walked-wrong : {x : Step} (L : ℕ) (f : ℕ → Step) (k : ℕ) → x ≡ f k → x ≡ Wrong → Bad ≡ walked L f k
+pub walked-wrong : {x : Step} (L : ℕ) (f : ℕ → Step) (k : ℕ) → x ≡ f k → x ≡ Wrong → None ≡ walked L f k
 unfolding walk onward
 walked-wrong L f k e h = rw (sym e ∙ h) refl
 

@@ -11,7 +11,17 @@ use lib.Seq.{drop-cons}
 use lib.Dec.{leb}
 use borrow.Author.Tests.{leb-true, leb-false}
 use Rattle.laws.specs.Pick.{pick}
-use Rattle.json_tokens.specs.Scan.{run, past_while}
+use Rattle.json_tokens.specs.Scan.{run, past_while, StopsAt}
+
+-- what a test may answer by one word for it, it may by a wider one
+pub stops-as : {P Q : ℕ → Bool → Type 0} {s : List ℕ} {at r : ℕ} → ((x : ℕ) (b : Bool) → P x b → Q x b) → StopsAt P s at r
+    → StopsAt Q s at r
+stops-as f h = record {
+  on = h.on;
+  within = h.within;
+  passed = λ k i j. f _ _ (h.passed k i j);
+  stopped = λ i. f _ _ (h.stopped i);
+}
 
 module _ (p : ℕ → Bool) (s : List ℕ) where
   run_on_lem : (k : ℕ) → k < length s → p (get_or s k 0) ≡ true → run p (drop k s) ≡ suc (run p (drop (suc k) s))
@@ -65,3 +75,18 @@ module _ (p : ℕ → Bool) (s : List ℕ) where
       from : (n k : ℕ) → length s - k ≤ n → f (past_while p s k) ≡ f k
       from zero k h = ap f (sym (while-end k (omega arith)))
       from (suc n) k h = by n k (leb (length s) k) refl (λ i. from n (k + 1) (omega arith))
+
+  -- the place where a test stops that says what p does
+  pub past-is : (at r : ℕ) → StopsAt (λ x b. b ≡ p x) s at r → r ≡ past_while p s at
+  past-is at r h = from (r - at) at h.on h.within h.passed (omega (arith, h.on))
+    where
+      end : (b : Bool) → leb (length s) r ≡ b → r ≡ past_while p s r
+      end true e = while-end r (leb-true _ _ e)
+      end false e = let i = leb-false (length s) r e in while-stop r i (sym (h.stopped i))
+
+      from : (n k : ℕ) → k ≤ r → (k < r → r ≤ length s) → ((i : ℕ) → k ≤ i → i < r → true ≡ p (get_or s i 0)) → n ≡ r - k
+          → r ≡ past_while p s k
+      from zero k on w g e = let q : k ≡ r = omega arith in rw q (end (leb (length s) r) refl)
+      from (suc n) k on w g e =
+          from n (k + 1) (omega arith) (λ i. w (omega arith)) (λ i a b. g i (omega arith) b) (omega arith)
+          ∙ while-more k (omega (arith, w (omega arith))) (sym (g k (le_refl k) (omega arith)))

@@ -1,24 +1,22 @@
 -- A list of characters, of elements or of members is read by turns. A turn is a function of the place that it starts
 -- at.
-use Rattle.std.specs.Prelude.{ℕ, zero, suc, List, [], ◌∷◌}
-use Rattle.json_tokens.specs.declared.Skip.{Skip}
-use Rattle.json_tokens.specs.declared.Skip.TheVariants.{Past, Bad}
+use Rattle.std.specs.Prelude.{ℕ, zero, suc, List, [], ◌∷◌, None, Option, Some}
 use Rattle.json_tokens.specs.declared.Step.{Step}
 use Rattle.json_tokens.specs.declared.Step.TheVariants.{More, End, Wrong}
 
 -- where a turn is the last, what it says; else what the rest says
-unfoldable pub onward : Step → (ℕ → Skip) → Skip
+unfoldable pub onward : Step → (ℕ → Option ℕ) → Option ℕ
 onward (More j) rest = rest j
-onward (End e) rest = Past e
-onward Wrong rest = Bad
+onward (End e) rest = Some e
+onward Wrong rest = None
 
 -- at most n turns, from a place on
-unfoldable pub walk : ℕ → (ℕ → Step) → ℕ → Skip
-walk zero f k = Bad
+unfoldable pub walk : ℕ → (ℕ → Step) → ℕ → Option ℕ
+walk zero f k = None
 walk (suc n) f k = onward (f k) (walk n f)
 
 -- as many turns as it takes in a text of n bytes: each turn takes a byte or more (proofs/Turns: `fuel`)
-abbrev pub walked : ℕ → (ℕ → Step) → ℕ → Skip
+abbrev pub walked : ℕ → (ℕ → Step) → ℕ → Option ℕ
 walked n f k = walk (suc n) f k
 
 unfoldable pub more_of : Step → (ℕ → List ℕ) → List ℕ

@@ -3,14 +3,13 @@ ghost use Rattle.std.specs.Prelude.{◌≡◌, ◌+◌};
 ghost use Rattle.json_tokens.specs.Number.{some_digits, past_minus, past_sign, whole_at, fraction_at, signed_at, exponent_at};
 ghost use Rattle.json_tokens.specs.Number.{integer_at, number_at, lone_digit};
 
-use super::Skip;
-use super::scan::{byte, digits, is_digit};
+use super::scan::{byte, digits};
 
-fn some_digits(s: &[u8], at: usize) -> Skip
+fn some_digits(s: &[u8], at: usize) -> Option<usize>
     ensures { result ≡ some_digits s.now at }
 {
     let e = digits(s, at);
-    if e == at { Skip::Bad } else { Skip::Past(e) }
+    if e == at { None } else { Some(e) }
 }
 
 fn minus(s: &[u8], at: usize) -> usize
@@ -23,70 +22,61 @@ fn minus(s: &[u8], at: usize) -> usize
 fn sign(s: &[u8], at: usize) -> usize
     ensures { result ≡ past_sign s.now at }
 {
-    let b = byte(s, at);
-    if b == b'+' {
-        return at + 1;
+    match byte(s, at) {
+        b'+' | b'-' => at + 1,
+        _ => at,
     }
-    if b == b'-' { at + 1 } else { at }
 }
 
-fn whole(s: &[u8], at: usize) -> Skip
+fn whole(s: &[u8], at: usize) -> Option<usize>
     ensures { result ≡ whole_at s.now at }
 {
     let b = byte(s, at);
     if b == b'0' {
-        Skip::Past(at + 1)
+        Some(at + 1)
     } else {
         some_digits(s, at)
     }
 }
 
-fn fraction(s: &[u8], at: usize) -> Skip
+fn fraction(s: &[u8], at: usize) -> Option<usize>
     ensures { result ≡ fraction_at s.now at }
 {
     let b = byte(s, at);
     if b == b'.' {
         some_digits(s, at + 1)
     } else {
-        Skip::Past(at)
+        Some(at)
     }
 }
 
-fn signed(s: &[u8], at: usize) -> Skip
+fn signed(s: &[u8], at: usize) -> Option<usize>
     ensures { result ≡ signed_at s.now at }
 {
     some_digits(s, sign(s, at))
 }
 
-fn exponent(s: &[u8], at: usize) -> Skip
+fn exponent(s: &[u8], at: usize) -> Option<usize>
     ensures { result ≡ exponent_at s.now at }
 {
-    let b = byte(s, at);
-    if b == b'e' {
-        return signed(s, at + 1);
-    }
-    if b == b'E' {
-        signed(s, at + 1)
-    } else {
-        Skip::Past(at)
+    match byte(s, at) {
+        b'e' | b'E' => signed(s, at + 1),
+        _ => Some(at),
     }
 }
 
-fn integer(s: &[u8], at: usize) -> Skip
+fn integer(s: &[u8], at: usize) -> Option<usize>
     ensures { result ≡ integer_at s.now at }
 {
     whole(s, minus(s, at))
 }
 
-pub fn number(s: &[u8], at: usize) -> Skip
+// Past a number. It finds where one ends, and makes none: no reader asks what it is.
+pub fn number(s: &[u8], at: usize) -> Option<usize>
     ensures { result ≡ number_at s.now at }
 {
-    let Skip::Past(e) = integer(s, at) else {
-        return Skip::Bad;
-    };
-    let Skip::Past(f) = fraction(s, e) else {
-        return Skip::Bad;
-    };
+    let e = integer(s, at)?;
+    let f = fraction(s, e)?;
     exponent(s, f)
 }
 
@@ -95,10 +85,5 @@ pub fn number(s: &[u8], at: usize) -> Skip
 pub fn lone_digit(s: &[u8], at: usize) -> bool
     ensures { result ≡ lone_digit s.now at }
 {
-    let b = byte(s, at);
-    if !is_digit(b) {
-        return false;
-    }
-    let c = byte(s, at + 1);
-    (c == b',') | (c == b']') | (c == b'}')
+    byte(s, at).is_ascii_digit() && matches!(byte(s, at + 1), b',' | b']' | b'}')
 }

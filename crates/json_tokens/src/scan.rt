@@ -1,66 +1,50 @@
 // Bytes of a text, blanks and digits, and what stands between the parts of a list (RFC 8259, section 2).
 ghost use Rattle.std.specs.Prelude.{◌≡◌, ◌+◌, ◌<◌, get_or};
-ghost use Rattle.json_tokens.specs.Scan.{blank, digit, past_while, after, past_colon};
+ghost use Rattle.json_tokens.specs.Scan.{blank, digit, past_while, StopsAt, after, past_colon};
 
-use super::{Skip, Step};
+use super::Step;
 
 // The byte at a place, and 0 past the end. No token of JSON has the byte 0.
 pub fn byte(s: &[u8], at: usize) -> u8
     ensures { result ≡ get_or s.now at 0 }
 {
-    if at < s.len() { s[at] } else { 0 }
+    s.get(at).copied().unwrap_or(0)
 }
 
+// The blanks of JSON alone: `is_ascii_whitespace` takes the form feed, too. By four `==`, of which the compiler makes
+// one test. By a `matches!` it makes three jumps, and an object of short members took 1.12 times the instructions.
 fn is_blank(b: u8) -> bool
     ensures { result ≡ blank b }
 {
-    if b == b' ' {
-        return true;
-    }
-    if b == b'\t' {
-        return true;
-    }
-    if b == b'\n' {
-        return true;
-    }
-    b == b'\r'
+    (b == b' ') | (b == b'\t') | (b == b'\n') | (b == b'\r')
 }
 
-pub fn is_digit(b: u8) -> bool
-    ensures { result ≡ digit b }
+// Past the bytes at a place that pass a test.
+#[inline(always)]
+pub fn past_while<F: Fn(u8) -> bool>(s: &[u8], at: usize, passes: F) -> usize
+    requires { F.IsAlwaysCallable passes }
+    ensures { StopsAt (F.post passes) s.now at result }
 {
-    if b < b'0' {
-        return false;
+    let mut k = at;
+    // while: with `position` over the bytes behind, arrays of numbers took a tenth longer to read.
+    while k < s.len() && passes(s[k]) {
+        k += 1;
     }
-    b <= b'9'
+    k
 }
 
 // Past the blanks at a place.
 pub fn blanks(s: &[u8], at: usize) -> usize
     ensures { result ≡ past_while blank s.now at }
 {
-    let mut k = at;
-    while k < s.len() {
-        if !is_blank(s[k]) {
-            return k;
-        }
-        k += 1;
-    }
-    k
+    past_while(s, at, is_blank)
 }
 
 // Past the digits at a place.
 pub fn digits(s: &[u8], at: usize) -> usize
     ensures { result ≡ past_while digit s.now at }
 {
-    let mut k = at;
-    while k < s.len() {
-        if !is_digit(s[k]) {
-            return k;
-        }
-        k += 1;
-    }
-    k
+    past_while(s, at, |b| b.is_ascii_digit())
 }
 
 // What follows an element: a comma, with the place of the next element, or the closing bracket.
@@ -81,14 +65,14 @@ pub fn after_item(s: &[u8], at: usize, close: u8) -> Step
 }
 
 // Past the colon after a member's name.
-pub fn colon(s: &[u8], at: usize) -> Skip
+pub fn colon(s: &[u8], at: usize) -> Option<usize>
     ensures { result ≡ past_colon s.now at }
 {
     let c = blanks(s, at);
     let b = byte(s, c);
     if b == b':' {
-        Skip::Past(blanks(s, c + 1))
+        Some(blanks(s, c + 1))
     } else {
-        Skip::Bad
+        None
     }
 }

@@ -1,4 +1,5 @@
 -- No reader of values goes back, and every turn of an array or an object goes forth.
+use Rattle.std.specs.Prelude.{None, Option}
 use Prim.Native.Nat.{ℕ, zero, suc, ◌+◌, ◌-◌}
 use mathlib.Core.Path.{◌≡◌, refl, ap}
 use mathlib.Core.List.{List}
@@ -6,13 +7,14 @@ use native.Mathlib.Omega.{arith}
 use lib.Dec.{eqb}
 use lib.ListN.{length, get_or}
 use Rattle.laws.specs.Pick.{pick}
-use Rattle.json_tokens.specs.declared.Skip.{Skip}
-use Rattle.json_tokens.specs.declared.Skip.TheVariants.{Bad}
 use Rattle.json_tokens.specs.Scan.{blank, past_while}
 use Rattle.json_tokens.proofs.Ahead.{of-pick, ahead-number, ahead-colon, forth-then, forth-after}
 use Rattle.json_tokens.proofs.While.{while-ahead}
 use Rattle.json_tokens.proofs.Turns.{Ahead, Forth, back, ahead-walked}
 use Rattle.json_strings.proofs.Ahead.{ahead-string}
+use Rattle.json_tokens.specs.declared.Step.{Step}
+use Rattle.json_tokens.specs.declared.Step.TheVariants.{More, End, Wrong}
+use Rattle.json_values.specs.Facts.{Goes, list_of}
 use Rattle.json_values.specs.Value.{literal_at, plain_at, item_step, member_step, array_of, object_of, value_by, value_at}
 use Rattle.json_values.specs.Value.{array_at, object_at}
 
@@ -27,7 +29,7 @@ module _ (s : List ℕ) where
       of-pick (Ahead k) _ (ahead-string s k) (of-pick (Ahead k) _ (ahead-literal _ k)
       (of-pick (Ahead k) _ (ahead-literal _ k) (of-pick (Ahead k) _ (ahead-literal _ k) (ahead-number s k))))
 
-  module _ (p : ℕ → Skip) (ahead : (k : ℕ) → Ahead k (p k)) where
+  module _ (p : ℕ → Option ℕ) (ahead : (k : ℕ) → Ahead k (p k)) where
     forth-item : (k : ℕ) → Forth (length s) k (item_step s p k)
     unfolding item_step
     forth-item k = forth-then s k _ _ (ahead k) (λ e h. forth-after s 93 e k h)
@@ -70,6 +72,17 @@ module _ (s : List ℕ) where
   pub forth-members : (d k : ℕ) → Forth (length s) k (member_step s (value_at s d) k)
   forth-members d k = forth-member (value_at s d) (ahead-value d) k
 
+  -- ---- The same as the contract of a list has it.
+  pub as-forth : (k : ℕ) (t : Step) → Goes s k t → Forth (length s) k t
+  as-forth k (More j) h = h
+  as-forth k (End e) h = h
+  as-forth k Wrong h = tt
+
+  pub as-goes : (k : ℕ) (t : Step) → Forth (length s) k t → Goes s k t
+  as-goes k (More j) h = h
+  as-goes k (End e) h = h
+  as-goes k Wrong h = record {}
+
   -- ---- The readers at a depth, as code has them.
   pub value-is : (d k : ℕ)
       → value_at s d k ≡ pick (eqb (get_or s k 0) 123) (object_at s d k)
@@ -89,10 +102,21 @@ module _ (s : List ℕ) where
   object-is (suc d) k h = let e : d ≡ suc d - 1 = omega arith in ap (λ n. object_of s (value_at s n) k) e
 
   -- no bracket is left
-  pub array-none : (d k : ℕ) → d ≡ 0 → Bad ≡ array_at s d k
+  pub array-none : (d k : ℕ) → d ≡ 0 → None ≡ array_at s d k
   unfolding array_at
   array-none d k h = rw h refl
 
-  pub object-none : (d k : ℕ) → d ≡ 0 → Bad ≡ object_at s d k
+  pub object-none : (d k : ℕ) → d ≡ 0 → None ≡ object_at s d k
   unfolding object_at
   object-none d k h = rw h refl
+
+  -- the list by its turns, one bracket deeper
+  pub array-list : {r : Option ℕ} (d k i : ℕ) → d ≡ suc i → r ≡ list_of s 93 (item_step s (value_at s i)) k
+      → r ≡ array_at s d k
+  unfolding array_at array_of
+  array-list d k i z q = rw z q
+
+  pub object-list : {r : Option ℕ} (d k i : ℕ) → d ≡ suc i → r ≡ list_of s 125 (member_step s (value_at s i)) k
+      → r ≡ object_at s d k
+  unfolding object_at object_of
+  object-list d k i z q = rw z q

@@ -6,8 +6,7 @@ use mathlib.Core.List.{List, [], ◌∷◌}
 use lib.Dec.{T}
 use Rattle.laws.specs.Ascii.{ascii}
 use Rattle.laws.specs.Pick.{pick, either, both}
-use Rattle.json_values.specs.declared.Found.{Found}
-use Rattle.json_values.specs.declared.Found.TheVariants.{At, Nothing, Twice}
+use Rattle.json_values.specs.declared.Found.TheVariants.{At, Twice}
 use Rattle.json_tokens.specs.Scan.{then, then_step, past_while, after, past_colon}
 use Rattle.json_tokens.specs.Walk.{onward, walk, more_of, starts}
 use Rattle.json_tokens.specs.Number.{some_digits, past_minus, past_sign, whole_at, fraction_at, signed_at, exponent_at}

@@ -1,4 +1,5 @@
 -- Laws about `tally`, for the loop over the members of an object.
+use Rattle.std.specs.Prelude.{Some}
 use Prim.Native.Nat.{ℕ, suc, ◌+◌}
 use mathlib.Core.Path.{◌≡◌, refl, sym, ◌∙◌, ap}
 use mathlib.Core.Bool.{Bool, true, false}
@@ -10,7 +11,9 @@ use borrow.Author.Tests.{ne_eqb, eqb-true, eqb-false}
 use Rattle.laws.specs.Pick.{pick, both}
 use Rattle.json_values.specs.declared.Found.{Found}
 use Rattle.json_values.specs.declared.Found.TheVariants.{Twice}
-use Rattle.json_tokens.specs.declared.Skip.TheVariants.{Past}
+use Rattle.json_tokens.specs.declared.Step.{Step}
+use Rattle.json_tokens.specs.declared.Step.TheVariants.{More, End, Wrong}
+use Rattle.json_tokens.proofs.Turns.{starts-end, starts-wrong}
 use Rattle.json_tokens.specs.Scan.{past_blanks}
 use Rattle.json_tokens.specs.Walk.{starts, walked}
 use Rattle.json_tokens.proofs.Picks.{picks}
@@ -32,6 +35,26 @@ module _ (s w : List ℕ) (n v k : ℕ) {yes : Bool} {m u : ℕ} (a : yes ≡ na
   pub tally-last : {all : List ℕ} {r : Found} → all ≡ k ∷ [] → r ≡ answer_of m u → r ≡ tally s w n v all
   unfolding tally
   tally-last e g = rw (e, sym a, sym b, sym c) g
+
+-- the same by whether the member has the name
+module _ {yes : Bool} {m u : ℕ} (n v p : ℕ) where
+  pub tallied : yes ≡ true → m ≡ count_of true n → u ≡ p → (m ≡ count_of yes n) × (u ≡ pick yes p v)
+  unfolding pick
+  tallied h f g = rw h (f, g)
+
+  pub untallied : yes ≡ false → m ≡ n → u ≡ v → (m ≡ count_of yes n) × (u ≡ pick yes p v)
+  unfolding count_of pick
+  untallied h f g = rw h (f, g)
+
+-- the last turn, whatever it says
+pub starts_last : {x : Step} (L : ℕ) (f : ℕ → Step) (k : ℕ) → x ≡ f k → ((j : ℕ) → x ≡ More j → ⊥)
+    → starts (suc L) f k ≡ k ∷ []
+starts_last {x} L f k e h = by x refl
+  where
+    by : (t : Step) → x ≡ t → starts (suc L) f k ≡ k ∷ []
+    by (More j) q = absurd (h j q)
+    by (End j) q = starts-end L f k e q
+    by Wrong q = starts-wrong L f k e q
 
 -- ---- Where two members have the name, no other matters, and no place.
 either-twice : (s w ks : List ℕ) (u v : ℕ) (b : Bool) → tally s w 2 u ks ≡ Twice → tally s w 2 v ks ≡ Twice
@@ -63,7 +86,7 @@ module _ (s : List ℕ) (d at : ℕ) {first b : ℕ} (e : first ≡ past_blanks 
   unfolding members_of
   members-some h = rw (sym e) (search (picks, rules))
 
-  pub object-none : b ≡ 125 → Past (first + 1) ≡ object_of s (value_at s d) at
+  pub object-none : b ≡ 125 → Some (first + 1) ≡ object_of s (value_at s d) at
   unfolding object_of pick
   object-none h = rw (sym e) (rw (sym g, h) refl)
 

@@ -1,20 +1,17 @@
 -- An object as we write it, of members whose values are strings, with no blanks and no escapes: what `find` finds in
 -- it.
-use Prim.Native.Nat.{ℕ, zero, suc, ◌+◌, ◌-◌, ◌≤◌, ◌<◌}
+use Rattle.std.specs.Prelude.{Some}
+use Prim.Native.Nat.{ℕ, suc, ◌+◌}
 use mathlib.Core.Path.{◌≡◌, refl, sym, ◌∙◌, ap}
-use mathlib.Core.Bool.{Bool, true, false}
 use mathlib.Core.List.{List, [], ◌∷◌, ◌++◌}
 use native.Mathlib.Omega.{arith}
-use lib.Dec.{eqb}
-use lib.ListN.{length, get_or}
+use lib.ListN.{length}
 use Rattle.laws.specs.Pick.{pick, either}
-use Rattle.json_tokens.specs.declared.Skip.{Skip}
-use Rattle.json_tokens.specs.declared.Skip.TheVariants.{Past, Bad}
-use Rattle.json_tokens.specs.declared.Step.TheVariants.{More, End, Wrong}
+use Rattle.json_tokens.specs.declared.Step.TheVariants.{More}
 use Rattle.json_values.specs.declared.Found.{Found}
-use Rattle.json_tokens.specs.Scan.{then, after, past_colon}
+use Rattle.json_tokens.specs.Scan.{then, after}
 use Rattle.json_tokens.specs.Walk.{starts}
-use Rattle.json_strings.specs.Text.{string_at, content_at, same_list}
+use Rattle.json_strings.specs.Text.{same_list}
 use Rattle.json_values.specs.Value.{value_at, member_step}
 use Rattle.json_values.specs.Members.{named, place_of, value_place, answer_of, count_of, tally}
 use Rattle.json_tokens.proofs.Turns.{starts_more, starts-end}
@@ -70,7 +67,7 @@ module _ {s : List ℕ} {k : ℕ} (d : ℕ) (w : List ℕ) (m : Member) (a : Eac
       let e : k + length m.name + 3 + length m.value + 2 ≡ k + length m.name + length m.value + 5 =
       omega arith in
       member-reads (value_at s d) m.name 34 (m.value
-      ++ 34 ∷ t) a h refl (value-string d m.value t b value-stands ∙ ap Past e)
+      ++ 34 ∷ t) a h refl (value-string d m.value t b value-stands ∙ ap Some e)
 
   named-is : named s w k ≡ same_list m.name w
   unfolding named pick

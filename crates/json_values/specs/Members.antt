@@ -1,9 +1,7 @@
 -- The members of an object, by name (RFC 8259, sections 4 and 8.3): names are compared after unescaping.
 use Prim.Native.Char.{code}
-use Rattle.std.specs.Prelude.{ℕ, zero, suc, ◌+◌, Bool, true, false, List, [], ◌∷◌, eqb, length, get_or}
+use Rattle.std.specs.Prelude.{ℕ, suc, ◌+◌, Bool, false, List, [], ◌∷◌, eqb, length, get_or, None, Option, Some}
 use Rattle.laws.specs.Pick.{pick}
-use Rattle.json_tokens.specs.declared.Skip.{Skip}
-use Rattle.json_tokens.specs.declared.Skip.TheVariants.{Past, Bad}
 use Rattle.json_values.specs.declared.Found.{Found}
 use Rattle.json_values.specs.declared.Found.TheVariants.{At, Nothing, Twice}
 use Rattle.json_tokens.specs.Scan.{then, past_blanks, past_colon}
@@ -22,9 +20,9 @@ unfoldable pub named : List ℕ → List ℕ → ℕ → Bool
 named s w k = pick (eqb (get_or s k 0) (code "\"")) (same_list (content_at s (k + 1)) w) false
 
 -- the place of its value
-unfoldable pub place_of : Skip → ℕ
-place_of (Past v) = v
-place_of Bad = 0
+unfoldable pub place_of : Option ℕ → ℕ
+place_of (Some v) = v
+place_of None = 0
 
 unfoldable pub value_place : List ℕ → ℕ → ℕ
 value_place s k = place_of (then (string_at s k) (past_colon s))

@@ -1,12 +1,13 @@
 // JSON texts (RFC 8259), read where they lie: values, skipped over, and the members of objects, by name. A reader is
-// given the whole text and a place in it, and answers the place past what it read.
+// given the whole text and a place in it, and answers the place past what it read. A list is asked for at its bracket, so
+// that the place lies inside the text: the caller has just read the byte there, which no type of a place would tell.
 #![tactic(auto)]
 
 mod names;
 mod objects;
 mod values;
 
-use json_tokens::{Skip, Step};
+use json_tokens::Step;
 pub use names::{find, is_named};
 pub use objects::members;
 pub use values::{is_text, item, member, value};
@@ -14,7 +15,8 @@ pub use values::{is_text, item, member, value};
 // How deep values may nest in objects and in arrays, the outermost counted (request P7).
 pub const DEPTH: usize = 16;
 
-// How often an object has a member of a name: once, with the place of its value; never; more than once.
+// How often an object has a member of a name: once, with the place of its value; never; more than once. Three ways: a
+// list of servers may lack some members, and may have none of them twice, and an Option would not tell which it is.
 #[derive(Clone, Copy)]
 pub enum Found {
     At(usize),
@@ -25,7 +27,7 @@ pub enum Found {
 // Where an object ends, and what it has under each of five names.
 #[derive(Clone, Copy)]
 pub struct Object {
-    pub end: Skip,
+    pub end: Option<usize>,
     pub a: Found,
     pub b: Found,
     pub c: Found,

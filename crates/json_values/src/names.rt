@@ -1,12 +1,11 @@
 // Members of an object by name (RFC 8259, sections 4 and 8.3).
-ghost use Rattle.std.specs.Prelude.{◌≡◌, ◌+◌, ◌<◌, length};
+ghost use Rattle.std.specs.Prelude.{◌≡◌, true, ◌+◌, ◌<◌, length};
 ghost use Rattle.json_values.specs.Members.{named, value_place, answer_of, count_of, found_of};
-ghost use Rattle.laws.specs.Pick.{pick};
 
 use super::Found;
 use super::values::member;
 use json_strings::{holds, is_unescaped, string};
-use json_tokens::{Skip, Step, blanks, byte, colon};
+use json_tokens::{Step, blanks, byte, colon};
 
 // Whether the member at a place has the name. That it has another is mostly seen by its first letter.
 pub fn is_named(s: &[u8], k: usize, w: &[u8]) -> bool
@@ -26,27 +25,14 @@ pub fn is_named(s: &[u8], k: usize, w: &[u8]) -> bool
 fn value_place(s: &[u8], k: usize) -> usize
     ensures { result ≡ value_place s.now k }
 {
-    let Skip::Past(e) = string(s, k) else {
-        return 0;
-    };
-    let Skip::Past(v) = colon(s, e) else {
-        return 0;
-    };
-    v
+    string(s, k).and_then(|e| colon(s, e)).unwrap_or(0)
 }
 
-// None, one, more.
-pub fn one_more(named: bool, n: usize) -> usize
-    ensures { result ≡ count_of named n }
+// One, or more.
+pub fn one_more(n: usize) -> usize
+    ensures { result ≡ count_of true n }
 {
-    if named { if n == 0 { 1 } else { 2 } } else { n }
-}
-
-// The place of the value of the last member of that name.
-fn latest(s: &[u8], k: usize, named: bool, v: usize) -> usize
-    ensures { result ≡ pick named (value_place s.now k) v }
-{
-    if named { value_place(s, k) } else { v }
+    if n == 0 { 1 } else { 2 }
 }
 
 pub fn answer(n: usize, v: usize) -> Found
@@ -71,20 +57,15 @@ pub fn find(s: &[u8], at: usize, depth: usize, w: &[u8]) -> Found
     let mut k = first;
     let mut n = 0;
     let mut v = 0;
+    // loop: a member is looked at before its turn says whether another follows.
     loop {
-        let yes = is_named(s, k, w);
-        n = one_more(yes, n);
-        v = latest(s, k, yes, v);
-        match member(s, k, depth) {
-            Step::More(j) => {
-                k = j;
-            }
-            Step::End(_) => {
-                return answer(n, v);
-            }
-            Step::Wrong => {
-                return answer(n, v);
-            }
+        if is_named(s, k, w) {
+            n = one_more(n);
+            v = value_place(s, k);
         }
+        let Step::More(j) = member(s, k, depth) else {
+            return answer(n, v);
+        };
+        k = j;
     }
 }

@@ -3,13 +3,13 @@ ghost use Rattle.std.specs.Prelude.{◌≡◌, ◌<◌, length};
 ghost use Rattle.json_values.specs.Members.{named, value_place, answer_of, found_of};
 ghost use Rattle.json_values.specs.Value.{value_at, member_step, object_of};
 ghost use Rattle.json_values.specs.Facts.{Noted};
-ghost use Rattle.json_strings.specs.Text.{string_at, end_of, Lettered};
+ghost use Rattle.json_strings.specs.Text.{string_at, told, Lettered};
 
 use super::names::{answer, is_named, one_more};
 use super::values::value;
 use super::{Five, Object, Seen, Turn};
 use json_strings::measured;
-use json_tokens::{Skip, Step, after_item, blanks, byte, colon};
+use json_tokens::{Step, after_item, blanks, byte, colon};
 
 fn nothing() -> Five
     ensures n_value { (result.a.n ≡ 0) × (result.b.n ≡ 0) × (result.c.n ≡ 0) × (result.d.n ≡ 0) × (result.e.n ≡ 0) }
@@ -34,7 +34,7 @@ fn looked(s: &[u8], k: usize, v: usize, w: &[u8], t: Seen) -> Seen
     }
     if is_named(s, k, w) {
         Seen {
-            n: one_more(true, t.n),
+            n: one_more(t.n),
             v,
         }
     } else {
@@ -42,7 +42,8 @@ fn looked(s: &[u8], k: usize, v: usize, w: &[u8], t: Seen) -> Seen
     }
 }
 
-// The same where its name has n characters: mostly the word has another number of them.
+// The same where its name has n characters: mostly the word has another number of them. The member's three numbers are no
+// struct: a Turn has two of them, beside a step that nothing is looked up by.
 fn looked_by(s: &[u8], k: usize, v: usize, w: &[u8], t: Seen, n: usize) -> Seen
     requires { Lettered s.now k n }
     ensures { Noted s.now w.now k v t result }
@@ -53,7 +54,7 @@ fn looked_by(s: &[u8], k: usize, v: usize, w: &[u8], t: Seen, n: usize) -> Seen
     looked(s, k, v, w, t)
 }
 
-// The same under each of them.
+// The same under each of them. The words stay apart as in `members`.
 fn look(
     s: &[u8],
     k: usize,
@@ -73,35 +74,21 @@ fn look(
     ensures noted_4 { Noted s.now d.now k v m.d result.d }
     ensures noted_5 { Noted s.now e.now k v m.e result.e }
 {
-    let ma = m.a;
-    let mb = m.b;
-    let mc = m.c;
-    let md = m.d;
-    let me = m.e;
-    let fa = looked_by(s, k, v, a, ma, n);
-    let fb = looked_by(s, k, v, b, mb, n);
-    let fc = looked_by(s, k, v, c, mc, n);
-    let fd = looked_by(s, k, v, d, md, n);
-    let fe = looked_by(s, k, v, e, me, n);
     Five {
-        a: fa,
-        b: fb,
-        c: fc,
-        d: fd,
-        e: fe,
+        a: looked_by(s, k, v, a, m.a, n),
+        b: looked_by(s, k, v, b, m.b, n),
+        c: looked_by(s, k, v, c, m.c, n),
+        d: looked_by(s, k, v, d, m.d, n),
+        e: looked_by(s, k, v, e, m.e, n),
     }
 }
 
 // Past the name of the member at k, by the number that says it.
-fn name_end(s: &[u8], k: usize, past: usize) -> Skip
-    requires { string_at s.now k ≡ end_of past }
+fn name_end(s: &[u8], k: usize, past: usize) -> Option<usize>
+    requires { string_at s.now k ≡ told past }
     ensures { result ≡ string_at s.now k }
 {
-    if past == 0 {
-        Skip::Bad
-    } else {
-        Skip::Past(past)
-    }
+    if past == 0 { None } else { Some(past) }
 }
 
 // A turn of an object.
@@ -111,21 +98,21 @@ fn take(s: &[u8], k: usize, depth: usize) -> Turn
     ensures lettered { Lettered s.now k result.letters }
 {
     let name = measured(s, k);
-    let Skip::Past(e) = name_end(s, k, name.past) else {
+    let Some(e) = name_end(s, k, name.past) else {
         return Turn {
             letters: name.letters,
             value: 0,
             step: Step::Wrong,
         };
     };
-    let Skip::Past(v) = colon(s, e) else {
+    let Some(v) = colon(s, e) else {
         return Turn {
             letters: name.letters,
             value: 0,
             step: Step::Wrong,
         };
     };
-    let Skip::Past(f) = value(s, v, depth) else {
+    let Some(f) = value(s, v, depth) else {
         return Turn {
             letters: name.letters,
             value: v,
@@ -139,7 +126,7 @@ fn take(s: &[u8], k: usize, depth: usize) -> Turn
     }
 }
 
-fn ended(end: Skip, m: Five) -> Object
+fn ended(end: Option<usize>, m: Five) -> Object
     ensures end_value { result.end ≡ end }
     ensures a_value { result.a ≡ answer_of m.a.n m.a.v }
     ensures b_value { result.b ≡ answer_of m.b.n m.b.v }
@@ -147,16 +134,19 @@ fn ended(end: Skip, m: Five) -> Object
     ensures d_value { result.d ≡ answer_of m.d.n m.d.v }
     ensures e_value { result.e ≡ answer_of m.e.n m.e.v }
 {
-    let a = answer(m.a.n, m.a.v);
-    let b = answer(m.b.n, m.b.v);
-    let c = answer(m.c.n, m.c.v);
-    let d = answer(m.d.n, m.d.v);
-    let e = answer(m.e.n, m.e.v);
-    Object { end, a, b, c, d, e }
+    Object {
+        end,
+        a: answer(m.a.n, m.a.v),
+        b: answer(m.b.n, m.b.v),
+        c: answer(m.c.n, m.c.v),
+        d: answer(m.d.n, m.d.v),
+        e: answer(m.e.n, m.e.v),
+    }
 }
 
 // The members of five names of the object at a place, and where it ends, in one walk over it. Who needs fewer lends
-// b"" and does not look.
+// b"" and does not look. Five words, and no array of them: each has a clause of its own below, by which the readers of
+// reports and lists tell what they found.
 pub fn members(
     s: &[u8],
     at: usize,
@@ -178,22 +168,22 @@ pub fn members(
     let mut m = nothing();
     let first = blanks(s, at + 1);
     if byte(s, first) == b'}' {
-        return ended(Skip::Past(first + 1), m);
+        return ended(Some(first + 1), m);
     }
     let mut k = first;
+    // loop: a member is looked at before its turn says whether another follows.
     loop {
         let t = take(s, k, depth);
         m = look(s, k, t.value, m, a, b, c, d, e, t.letters);
-        let step = t.step;
-        match step {
+        match t.step {
             Step::More(j) => {
                 k = j;
             }
             Step::End(f) => {
-                return ended(Skip::Past(f), m);
+                return ended(Some(f), m);
             }
             Step::Wrong => {
-                return ended(Skip::Bad, m);
+                return ended(None, m);
             }
         }
     }

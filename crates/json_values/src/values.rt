@@ -1,59 +1,43 @@
 // Values (RFC 8259, sections 3 to 5), and a whole text. An array and an object read values, whose depth falls.
 ghost use Rattle.std.specs.Prelude.{◌≡◌, ◌+◌, ◌≤◌, ◌<◌, length};
-ghost use Rattle.json_tokens.specs.Scan.{starts_with};
-ghost use Rattle.json_values.specs.Value.{literal_at, plain_at, value_at, array_at, object_at, item_step, member_step, is_text};
+ghost use Rattle.json_values.specs.Value.{literal_at, plain_at, value_at, array_at, object_at, item_step, member_step};
+ghost use Rattle.json_values.specs.Value.{is_text};
+ghost use Rattle.json_values.specs.Facts.{GoesForth, ListedBy};
 
 use super::DEPTH;
 use json_strings::string;
-use json_tokens::{Skip, Step, after_item, blanks, byte, colon, lone_digit, number};
+use json_tokens::{Step, after_item, blanks, byte, colon, lone_digit, number};
 
-// The bytes at the front are those of the word.
-fn starts_with(s: &[u8], w: &[u8]) -> bool
-    ensures { result ≡ starts_with w.now s.now }
-{
-    let mut k = 0;
-    while k < w.len() {
-        if s.len() <= k {
-            return false;
-        }
-        if s[k] != w[k] {
-            return false;
-        }
-        k += 1;
-    }
-    true
-}
-
-fn literal(s: &[u8], at: usize, w: &[u8]) -> Skip
+fn literal(s: &[u8], at: usize, w: &[u8]) -> Option<usize>
     requires { (at ≤ length s.now) × (length w.now ≤ 8) }
     ensures { result ≡ literal_at w.now s.now at }
 {
-    if starts_with(&s[at..], w) {
-        Skip::Past(at + w.len())
+    if s[at..].starts_with(w) {
+        Some(at + w.len())
     } else {
-        Skip::Bad
+        None
     }
 }
 
 // The same answer, made anew. To hand on what a call answered copies it with the bytes between its parts, and waits for
 // them, at every value.
-fn again(r: Skip) -> Skip
+fn again(r: Option<usize>) -> Option<usize>
     ensures { result ≡ r }
 {
     match r {
-        Skip::Past(e) => Skip::Past(e),
-        Skip::Bad => Skip::Bad,
+        Some(e) => Some(e),
+        None => None,
     }
 }
 
 // A value that holds no other. A string that is empty ends at once.
-fn plain(s: &[u8], at: usize) -> Skip
+fn plain(s: &[u8], at: usize) -> Option<usize>
     ensures { result ≡ plain_at s.now at }
 {
     let b = byte(s, at);
     if b == b'"' {
         if byte(s, at + 1) == b'"' {
-            return Skip::Past(at + 2);
+            return Some(at + 2);
         }
         return again(string(s, at));
     }
@@ -67,15 +51,44 @@ fn plain(s: &[u8], at: usize) -> Skip
         return literal(s, at, b"null");
     }
     if lone_digit(s, at) {
-        Skip::Past(at + 1)
+        Some(at + 1)
     } else {
         number(s, at)
     }
 }
 
+// An array or an object, at its bracket: by its turns, unless the one that closes it stands next.
+fn list<F: Fn(usize) -> Step>(s: &[u8], at: usize, close: u8, turn: F) -> Option<usize>
+    requires callable { F.IsAlwaysCallable turn }
+    requires inside { at < length s.now }
+    requires some { 0 < close }
+    requires forth { GoesForth (F.post turn) s.now }
+    ensures { ListedBy (F.post turn) s.now close at result }
+{
+    let first = blanks(s, at + 1);
+    if byte(s, first) == close {
+        return Some(first + 1);
+    }
+    let mut k = first;
+    // loop: the turn that ends the list is the one that says where.
+    loop {
+        match turn(k) {
+            Step::More(n) => {
+                k = n;
+            }
+            Step::End(e) => {
+                return Some(e);
+            }
+            Step::Wrong => {
+                return None;
+            }
+        }
+    }
+}
+
 // A value, with at most so many brackets around anything in it.
 #[cycle(array_item_member_object_value)]
-pub fn value(s: &[u8], at: usize, depth: usize) -> Skip
+pub fn value(s: &[u8], at: usize, depth: usize) -> Option<usize>
     ensures { result ≡ value_at s.now depth at }
 {
     let b = byte(s, at);
@@ -94,40 +107,27 @@ pub fn value(s: &[u8], at: usize, depth: usize) -> Skip
 pub fn item(s: &[u8], at: usize, depth: usize) -> Step
     ensures { result ≡ item_step s.now (value_at s.now depth) at }
 {
-    let Skip::Past(e) = value(s, at, depth) else {
+    let Some(e) = value(s, at, depth) else {
         return Step::Wrong;
     };
     after_item(s, e, b']')
 }
 
-// An array, at its bracket.
+// An array, at its bracket. It and `object` are two functions, as document 01 names them: each is `list` with its turn.
 #[cycle(array_item_member_object_value)]
-fn array(s: &[u8], at: usize, depth: usize) -> Skip
+fn array(s: &[u8], at: usize, depth: usize) -> Option<usize>
     requires { at < length s.now }
     ensures { result ≡ array_at s.now depth at }
 {
-    if depth == 0 {
-        return Skip::Bad;
-    }
-    let first = blanks(s, at + 1);
-    let b = byte(s, first);
-    if b == b']' {
-        return Skip::Past(first + 1);
-    }
-    let mut k = first;
-    loop {
-        match item(s, k, depth - 1) {
-            Step::More(n) => {
-                k = n;
-            }
-            Step::End(e) => {
-                return Skip::Past(e);
-            }
-            Step::Wrong => {
-                return Skip::Bad;
-            }
-        }
-    }
+    let inner = depth.checked_sub(1)?;
+    list(
+        s,
+        at,
+        b']',
+        |k|
+            ensures { result ≡ item_step s.entry.now (value_at s.entry.now inner) k }
+        { item(s, k, inner) },
+    )
 }
 
 // One turn of an object.
@@ -135,13 +135,13 @@ fn array(s: &[u8], at: usize, depth: usize) -> Skip
 pub fn member(s: &[u8], at: usize, depth: usize) -> Step
     ensures { result ≡ member_step s.now (value_at s.now depth) at }
 {
-    let Skip::Past(e) = string(s, at) else {
+    let Some(e) = string(s, at) else {
         return Step::Wrong;
     };
-    let Skip::Past(v) = colon(s, e) else {
+    let Some(v) = colon(s, e) else {
         return Step::Wrong;
     };
-    let Skip::Past(f) = value(s, v, depth) else {
+    let Some(f) = value(s, v, depth) else {
         return Step::Wrong;
     };
     after_item(s, f, b'}')
@@ -149,39 +149,26 @@ pub fn member(s: &[u8], at: usize, depth: usize) -> Step
 
 // An object, at its brace.
 #[cycle(array_item_member_object_value)]
-fn object(s: &[u8], at: usize, depth: usize) -> Skip
+fn object(s: &[u8], at: usize, depth: usize) -> Option<usize>
     requires { at < length s.now }
     ensures { result ≡ object_at s.now depth at }
 {
-    if depth == 0 {
-        return Skip::Bad;
-    }
-    let first = blanks(s, at + 1);
-    let b = byte(s, first);
-    if b == b'}' {
-        return Skip::Past(first + 1);
-    }
-    let mut k = first;
-    loop {
-        match member(s, k, depth - 1) {
-            Step::More(n) => {
-                k = n;
-            }
-            Step::End(e) => {
-                return Skip::Past(e);
-            }
-            Step::Wrong => {
-                return Skip::Bad;
-            }
-        }
-    }
+    let inner = depth.checked_sub(1)?;
+    list(
+        s,
+        at,
+        b'}',
+        |k|
+            ensures { result ≡ member_step s.entry.now (value_at s.entry.now inner) k }
+        { member(s, k, inner) },
+    )
 }
 
 // The bytes are a JSON text, nested no deeper than is allowed.
 pub fn is_text(s: &[u8]) -> bool
     ensures { result ≡ is_text s.now }
 {
-    let Skip::Past(e) = value(s, blanks(s, 0), DEPTH) else {
+    let Some(e) = value(s, blanks(s, 0), DEPTH) else {
         return false;
     };
     blanks(s, e) == s.len()

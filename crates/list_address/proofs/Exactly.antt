@@ -11,10 +11,8 @@ use lib.ListN.{length, get_or, drop, length-drop}
 use lib.Seq.{get_or-drop}
 use Rattle.laws.proofs.Least.{somewhere-at, somewhere-here}
 use Rattle.laws.specs.Pick.{pick, both}
-use Rattle.json_tokens.specs.Scan.{run, past_while}
+use Rattle.json_tokens.specs.Scan.{digit, run, past_while}
 use Rattle.json_tokens.proofs.Picks.{over}
-use Rattle.list_address.specs.declared.Kind.TheVariants.{Digit}
-use Rattle.list_address.specs.Chars.{of_kind}
 use Rattle.list_address.specs.Runs.{every, is_run}
 use Rattle.list_address.specs.Decimal.{is_decimal, is_port}
 use Rattle.list_address.specs.Address.{divides_at, is_address}
@@ -38,13 +36,13 @@ unfolding every past_while
 every-at p x i e h = run-all p x i (omega (arith, eqb-true _ (length x) e)) h
 
 -- a port is digits
-port-digits : (x : List ℕ) → is_port x ≡ true → every (of_kind Digit) x ≡ true
+port-digits : (x : List ℕ) → is_port x ≡ true → every digit x ≡ true
 unfolding is_port is_decimal is_run
 port-digits x e = both-second _ _ (both-second _ _ (both_first _ _ e))
 
-no-colon : (b : ℕ) → of_kind Digit b ≡ true → b ≡ 58 → ⊥
-unfolding of_kind both
-no-colon b e h = true≢false (sym e ∙ ap (of_kind Digit) h)
+no-colon : (b : ℕ) → digit b ≡ true → b ≡ 58 → ⊥
+unfolding both
+no-colon b e h = true≢false (sym e ∙ ap digit h)
 
 -- no colon stands behind the one that divides
 none-behind : (x : List ℕ) (k j : ℕ) → is_port (drop (k + 1) x) ≡ true → k < j → get_or x j 0 ≡ 58 → ⊥

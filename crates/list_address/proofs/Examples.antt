@@ -9,7 +9,7 @@ use Rattle.laws.specs.Ascii.{ascii}
 use Rattle.laws.specs.Least.{least, somewhere}
 use Rattle.laws.specs.Pick.{pick, either, both}
 use Rattle.json_tokens.specs.Scan.{past_while}
-use Rattle.list_address.specs.Chars.{letter, hex_digit, label_char, one_of, url_char, of_kind}
+use Rattle.list_address.specs.Chars.{letter, hex_digit, label_char, one_of, url_char}
 use Rattle.list_address.specs.Runs.{every, is_run}
 use Rattle.list_address.specs.Decimal.{worth, unpadded, is_decimal, is_octet, is_port}
 use Rattle.list_address.specs.Parts.{onto, split, plus, counted, or_else, right, exactly, within}
@@ -36,7 +36,7 @@ addresses : said is_address
     ∷ "[1:2:3:4:5:6:1.2.3.4]:9"
     ∷ "[2001:DB8::1.2.3.4]:2002"
     ∷ []) ≡ replicate 10 true
-unfolding either both pick past_while least somewhere letter hex_digit label_char one_of of_kind every is_run worth
+unfolding either both pick past_while least somewhere letter hex_digit label_char one_of every is_run worth
     unpadded is_decimal is_octet is_port onto split plus counted or_else right exactly within is_ipv4 is_group pieces side
     double_at is_shortened is_ipv6 is_label is_last_label is_name is_domain is_bracketed is_host divides_at is_address
 addresses = refl
@@ -63,7 +63,7 @@ no-addresses : said is_address
     ∷ "a..example:2"
     ∷ "a.example..:2"
     ∷ []) ≡ replicate 19 false
-unfolding either both pick past_while least somewhere letter hex_digit label_char one_of of_kind every is_run worth
+unfolding either both pick past_while least somewhere letter hex_digit label_char one_of every is_run worth
     unpadded is_decimal is_octet is_port onto split plus counted or_else right exactly within is_ipv4 is_group pieces side
     double_at is_shortened is_ipv6 is_label is_last_label is_name is_domain is_bracketed is_host divides_at is_address
 no-addresses = refl
@@ -76,7 +76,7 @@ urls : said is_https
     ∷ "https://a.example:?q"
     ∷ "https://a.example/%4a"
     ∷ []) ≡ replicate 5 true
-unfolding either both pick past_while least somewhere letter hex_digit label_char one_of of_kind every is_run worth
+unfolding either both pick past_while least somewhere letter hex_digit label_char one_of every is_run worth
     unpadded is_decimal is_octet is_port onto split plus counted or_else right exactly within is_ipv4 is_group pieces side
     double_at is_shortened is_ipv6 is_label is_last_label is_name is_domain is_bracketed is_host divides_at is_address url_char
     lower differs_at has_scheme is_ended is_authority percent_at clean_at is_clean is_rest is_https
@@ -93,7 +93,7 @@ no-urls : said is_https
     ∷ "https://a.example/ x"
     ∷ "https://a.example/#a#b"
     ∷ []) ≡ replicate 8 false
-unfolding either both pick past_while least somewhere letter hex_digit label_char one_of of_kind every is_run worth
+unfolding either both pick past_while least somewhere letter hex_digit label_char one_of every is_run worth
     unpadded is_decimal is_octet is_port onto split plus counted or_else right exactly within is_ipv4 is_group pieces side
     double_at is_shortened is_ipv6 is_label is_last_label is_name is_domain is_bracketed is_host divides_at is_address url_char
     lower differs_at has_scheme is_ended is_authority percent_at clean_at is_clean is_rest is_https

@@ -2,8 +2,7 @@
 use Prim.Native.Char.{code}
 use Rattle.std.specs.Prelude.{ℕ, ◌+◌, ◌-◌, ◌*◌, Bool, not, List, [], ◌∷◌, eqb, leb, length, get_or}
 use Rattle.laws.specs.Pick.{either, both}
-use Rattle.list_address.specs.Chars.{of_kind}
-use Rattle.list_address.specs.declared.Kind.TheVariants.{Digit}
+use Rattle.json_tokens.specs.Scan.{digit}
 use Rattle.list_address.specs.Runs.{is_run}
 
 -- the number that is written as the digits of n and then these
@@ -17,7 +16,7 @@ unpadded x = either (eqb (length x) 1) (not (eqb (get_or x 0 0) (code "0")))
 
 -- 1 to `wide` digits, and a number that is at most `most`
 unfoldable pub is_decimal : ℕ → ℕ → List ℕ → Bool
-is_decimal wide most x = both (is_run (of_kind Digit) wide x) (both (unpadded x) (leb (worth 0 x) most))
+is_decimal wide most x = both (is_run digit wide x) (both (unpadded x) (leb (worth 0 x) most))
 
 -- a part of an IPv4 address,
 unfoldable pub is_octet : List ℕ → Bool

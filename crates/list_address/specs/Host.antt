@@ -1,16 +1,14 @@
 -- Hosts (RFC 3986, section 3.2.2): IPv4 addresses, IPv6 addresses in brackets, and domain names.
 use Prim.Native.Char.{code}
-use Rattle.std.specs.Prelude.{ℕ, ◌+◌, ◌-◌, Bool, true, false, not, List, eqb, leb, length, get_or, take, drop}
+use Rattle.std.specs.Prelude.{ℕ, ◌+◌, ◌-◌, Bool, true, false, not, List, eqb, leb, length, get_or, take, drop, Option, None, Some}
 use Rattle.laws.specs.Least.{least}
 use Rattle.laws.specs.Pasted.{part}
 use Rattle.laws.specs.Pick.{pick, either, both}
-use Rattle.list_address.specs.declared.Kind.TheVariants as kind
-use Rattle.list_address.specs.declared.Part.{Part}
-use Rattle.list_address.specs.declared.Part.TheVariants.{Octet, Label, Group}
-use Rattle.list_address.specs.Chars.{of_kind}
+use Rattle.json_tokens.specs.Scan.{digit}
+use Rattle.list_address.specs.Chars.{hex_digit, label_char}
 use Rattle.list_address.specs.Runs.{every, is_run, last_byte}
 use Rattle.list_address.specs.Decimal.{is_octet}
-use Rattle.list_address.specs.Parts.{split, Count, many, wrong, plus, counted, or_else, right, exactly, within}
+use Rattle.list_address.specs.Parts.{split, plus, counted, or_else, right, exactly, within}
 
 -- ---- IPv4: four numbers up to 255 between dots
 
@@ -21,17 +19,17 @@ is_ipv4 x = exactly 4 (counted is_octet is_octet (split (code ".") x))
 
 -- a piece: 1 to 4 hexadecimal digits
 unfoldable pub is_group : List ℕ → Bool
-is_group x = is_run (of_kind kind.Hex) 4 x
+is_group x = is_run hex_digit 4 x
 
 -- how many pieces stand between the colons; with `tail` the last part may be an IPv4 address, which is two of them
-unfoldable pub pieces : Bool → List ℕ → Count
+unfoldable pub pieces : Bool → List ℕ → Option ℕ
 pieces tail x =
     or_else (counted is_group is_group (split (code ":") x))
-    (pick tail (plus 1 (counted is_group is_ipv4 (split (code ":") x))) wrong)
+    (pick tail (plus 1 (counted is_group is_ipv4 (split (code ":") x))) None)
 
 -- the same before or behind "::", where none may stand
-unfoldable pub side : Bool → List ℕ → Count
-side tail x = pick (eqb (length x) 0) (many 0) (pieces tail x)
+unfoldable pub side : Bool → List ℕ → Option ℕ
+side tail x = pick (eqb (length x) 0) (Some 0) (pieces tail x)
 
 unfoldable pub double_at : List ℕ → ℕ → Bool
 double_at x k = both (eqb (get_or x k 0) (code ":")) (eqb (get_or x (k + 1) 0) (code ":"))
@@ -51,12 +49,12 @@ is_ipv6 x = pick (eqb (double_in x) (length x)) (exactly 8 (pieces true x)) (is_
 
 unfoldable pub is_label : List ℕ → Bool
 is_label x =
-    both (is_run (of_kind kind.Label) 63 x)
+    both (is_run label_char 63 x)
     (both (not (eqb (get_or x 0 0) (code "-"))) (not (eqb (last_byte x) (code "-"))))
 
 -- the last label is not all digits, so that no address in dotted decimal is taken for a name (RFC 1123)
 unfoldable pub is_last_label : List ℕ → Bool
-is_last_label x = both (is_label x) (not (every (of_kind kind.Digit) x))
+is_last_label x = both (is_label x) (not (every digit x))
 
 unfoldable pub is_name : List ℕ → Bool
 is_name x = both (leb (length x) 253) (right (counted is_label is_last_label (split (code ".") x)))
@@ -74,9 +72,3 @@ is_bracketed x =
 
 unfoldable pub is_host : List ℕ → Bool
 is_host x = either (is_ipv4 x) (either (is_domain x) (is_bracketed x))
-
--- For the private functions: what each part in a row is.
-unfoldable pub is_part : Part → List ℕ → Bool
-is_part Octet = is_octet
-is_part Label = is_label
-is_part Group = is_group

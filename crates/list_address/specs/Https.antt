@@ -7,8 +7,7 @@ use Rattle.laws.specs.Least.{somewhere}
 use Rattle.laws.specs.Pasted.{part}
 use Rattle.laws.specs.Pick.{pick, either, both}
 use Rattle.json_tokens.specs.Scan.{past_while}
-use Rattle.list_address.specs.declared.Kind.TheVariants.{Authority, Before}
-use Rattle.list_address.specs.Chars.{between, hex_digit, url_char, of_kind}
+use Rattle.list_address.specs.Chars.{between, hex_digit, one_of, url_char}
 use Rattle.list_address.specs.Runs.{last_byte}
 use Rattle.list_address.specs.Host.{is_host}
 use Rattle.list_address.specs.Address.{is_address}
@@ -44,15 +43,15 @@ is_clean x = not (somewhere (λ k. not (clean_at x k)) (length x))
 
 -- the place of the first "#", or the length where there is none
 abbrev pub fragment_in : List ℕ → ℕ
-fragment_in x = past_while (of_kind (Before (code "#"))) x 0
+fragment_in x = past_while (λ b. not (eqb b (code "#"))) x 0
 
 -- a path and a query, and a fragment behind the first "#"; a fragment has no other
 unfoldable pub is_rest : List ℕ → Bool
 is_rest x = both (is_clean (take (fragment_in x) x)) (is_clean (drop (fragment_in x + 1) x))
 
--- where the authority ends, and what follows starts: with "/", "?" or "#", if at all
+-- where the authority ends, and what follows starts: with "/", "?" or "#", if at all (RFC 3986, section 3.2)
 abbrev pub authority_end : List ℕ → ℕ
-authority_end x = past_while (of_kind Authority) x 8
+authority_end x = past_while (λ b. not (one_of (ascii "/?#") b)) x 8
 
 unfoldable pub is_https : List ℕ → Bool
 is_https x =

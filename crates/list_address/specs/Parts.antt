@@ -1,5 +1,5 @@
 -- Byte strings in parts.
-use Rattle.std.specs.Prelude.{ℕ, ◌+◌, Bool, true, false, List, [], ◌∷◌, eqb, leb}
+use Rattle.std.specs.Prelude.{ℕ, ◌+◌, Bool, true, false, List, [], ◌∷◌, eqb, leb, Option, None, Some}
 use Rattle.laws.specs.Pick.{pick}
 
 -- one byte more before the first part
@@ -12,43 +12,35 @@ unfoldable pub split : ℕ → List ℕ → List (List ℕ)
 split c [] = [] ∷ []
 split c (b ∷ s) = pick (eqb b c) ([] ∷ split c s) (onto b (split c s))
 
--- how many there are; or that one of them is wrong
-pub data Count : Type 0 where
-  many : ℕ → Count
-  wrong : Count
+-- How many parts there are is a number, or None where one of them is wrong.
 
-unfoldable pub plus : ℕ → Count → Count
-plus n (many m) = many (n + m)
-plus n wrong = wrong
+unfoldable pub plus : ℕ → Option ℕ → Option ℕ
+plus n (Some m) = Some (n + m)
+plus n None = None
 
 -- how many parts there are, where each but the last is to pass p, and the last is to pass q
-unfoldable pub counted : (List ℕ → Bool) → (List ℕ → Bool) → List (List ℕ) → Count
-counted p q [] = many 0
-counted p q (x ∷ []) = pick (q x) (many 1) wrong
-counted p q (x ∷ y ∷ xs) = pick (p x) (plus 1 (counted p q (y ∷ xs))) wrong
+unfoldable pub counted : (List ℕ → Bool) → (List ℕ → Bool) → List (List ℕ) → Option ℕ
+counted p q [] = Some 0
+counted p q (x ∷ []) = pick (q x) (Some 1) None
+counted p q (x ∷ y ∷ xs) = pick (p x) (plus 1 (counted p q (y ∷ xs))) None
 
 -- the first, or the other where that is wrong
-unfoldable pub or_else : Count → Count → Count
-or_else (many n) d = many n
-or_else wrong d = d
+unfoldable pub or_else : Option ℕ → Option ℕ → Option ℕ
+or_else (Some n) d = Some n
+or_else None d = d
 
 -- nothing is wrong;
-unfoldable pub right : Count → Bool
-right (many n) = true
-right wrong = false
+unfoldable pub right : Option ℕ → Bool
+right (Some n) = true
+right None = false
 
 -- there are just n;
-unfoldable pub exactly : ℕ → Count → Bool
-exactly n (many m) = eqb m n
-exactly n wrong = false
+unfoldable pub exactly : ℕ → Option ℕ → Bool
+exactly n (Some m) = eqb m n
+exactly n None = false
 
 -- and the two together are at most n
-unfoldable pub within : ℕ → Count → Count → Bool
-within n (many a) (many b) = leb (a + b) n
-within n (many a) wrong = false
-within n wrong d = false
-
--- For the private functions: a number up to 8, and 9 for more and for what is wrong. No IPv6 address has 9 pieces.
-unfoldable pub capped : Count → ℕ
-capped (many n) = pick (leb n 8) n 9
-capped wrong = 9
+unfoldable pub within : ℕ → Option ℕ → Option ℕ → Bool
+within n (Some a) (Some b) = leb (a + b) n
+within n (Some a) None = false
+within n None d = false

@@ -1,76 +1,31 @@
 // Tests on bytes.
+#![tactic(auto, unfolding(crate::specs::Chars::hex_digit, crate::specs::Chars::letter, crate::specs::Chars::label_char, crate::specs::Chars::url_char, laws::specs::Pick::either, laws::specs::Pick::both))]
+
 ghost use Rattle.std.specs.Prelude.{◌≡◌};
-ghost use Rattle.list_address.specs.Chars.{between, hex_digit, label_char, one_of, url_char, of_kind};
+ghost use Rattle.json_tokens.specs.Scan.{digit};
+ghost use Rattle.list_address.specs.Chars.{hex_digit, label_char, url_char};
 
-use super::Kind;
-
-fn is_between(b: u8, low: u8, high: u8) -> bool
-    ensures { result ≡ between low high b }
+// The library's test under a name of its own: `is_run` takes tests of bytes by value, and the library's is of a reference.
+pub fn is_digit(b: u8) -> bool
+    ensures { result ≡ digit b }
 {
-    if b < low {
-        return false;
-    }
-    b <= high
+    b.is_ascii_digit()
 }
 
 pub fn is_hex(b: u8) -> bool
     ensures { result ≡ hex_digit b }
 {
-    if is_between(b, b'0', b'9') {
-        return true;
-    }
-    if is_between(b, b'a', b'f') {
-        return true;
-    }
-    is_between(b, b'A', b'F')
+    matches!(b, b'0'..=b'9' | b'a'..=b'f' | b'A'..=b'F')
 }
 
-fn is_label_char(b: u8) -> bool
+pub fn is_label_char(b: u8) -> bool
     ensures { result ≡ label_char b }
 {
-    if is_between(b, b'0', b'9') {
-        return true;
-    }
-    if is_between(b, b'a', b'z') {
-        return true;
-    }
-    if is_between(b, b'A', b'Z') {
-        return true;
-    }
-    b == b'-'
-}
-
-// One of the bytes of w.
-fn is_one_of(w: &[u8], b: u8) -> bool
-    ensures { result ≡ one_of w.now b }
-{
-    let mut k = 0;
-    while k < w.len() {
-        if w[k] == b {
-            return true;
-        }
-        k += 1;
-    }
-    false
+    matches!(b, b'0'..=b'9' | b'a'..=b'z' | b'A'..=b'Z' | b'-')
 }
 
 pub fn is_url_char(b: u8) -> bool
     ensures { result ≡ url_char b }
 {
-    if is_label_char(b) {
-        return true;
-    }
-    is_one_of(b"._~!$&'()*+,;=:@/?", b)
-}
-
-pub fn of_kind(kind: Kind, b: u8) -> bool
-    ensures { result ≡ of_kind kind b }
-{
-    match kind {
-        Kind::Digit => is_between(b, b'0', b'9'),
-        Kind::Hex => is_hex(b),
-        Kind::Label => is_label_char(b),
-        Kind::Authority => !is_one_of(b"/?#", b),
-        Kind::Before(c) => b != c,
-    }
+    is_label_char(b) || b"._~!$&'()*+,;=:@/?".contains(&b)
 }

@@ -2,19 +2,15 @@
 ghost use Rattle.std.specs.Prelude.{◌≡◌, ◌+◌, ◌-◌, ◌*◌, ◌≤◌, ◌<◌, length};
 ghost use Rattle.list_address.specs.Decimal.{worth, unpadded, is_decimal, is_octet};
 
-use super::Kind;
+use super::chars::is_digit;
 use super::scan::is_run;
-use json_tokens::byte;
 
 // The number with one digit more.
 fn next(n: u64, d: u8) -> u64
     requires { n < 100000000 }
     ensures { (result ≡ 10 * n + (d - 48)) × (result ≤ 10 * n + 255) }
 {
-    if d < b'0' {
-        return 10 * n;
-    }
-    10 * n + (d - b'0') as u64
+    10 * n + d.saturating_sub(b'0') as u64
 }
 
 fn value(s: &[u8]) -> u64
@@ -22,38 +18,32 @@ fn value(s: &[u8]) -> u64
     ensures { result ≡ worth 0 s.now }
 {
     let mut n: u64 = 0;
-    let mut k = 0;
-    while k < s.len() {
-        n = next(n, s[k]);
-        k += 1;
+    for d in s {
+        n = next(n, *d);
     }
     n
 }
 
 // No zero stands before other digits.
+#[tactic(auto, unfolding(crate::specs::Decimal::unpadded, laws::specs::Pick::either))]
 fn is_unpadded(s: &[u8]) -> bool
     ensures { result ≡ unpadded s.now }
 {
-    if s.len() == 1 {
-        return true;
-    }
-    let b = byte(s, 0);
-    b != b'0'
+    !matches!(s, [b'0', _, ..])
 }
 
+#[tactic(auto, using(crate::proofs::Sizes::run_long), unfolding(crate::specs::Decimal::is_decimal, laws::specs::Pick::both))]
 pub fn is_decimal(s: &[u8], wide: usize, most: u64) -> bool
     requires { wide ≤ 5 }
     ensures { result ≡ is_decimal wide most s.now }
 {
-    if !is_run(s, Kind::Digit, wide) {
+    if !is_run(s, wide, is_digit) {
         return false;
     }
-    if !is_unpadded(s) {
-        return false;
-    }
-    value(s) <= most
+    is_unpadded(s) && value(s) <= most
 }
 
+#[tactic(auto, unfolding(crate::specs::Decimal::is_octet))]
 pub fn is_octet(s: &[u8]) -> bool
     ensures { result ≡ is_octet s.now }
 {

@@ -3,16 +3,12 @@ ghost use Rattle.std.specs.Prelude.{◌≡◌};
 ghost use Rattle.list_address.specs.Host.{is_last_label, is_name, is_domain};
 
 use super::parts::{is_label, line};
-use super::scan::{is_every, last_byte, last_place};
-use super::{Kind, Line, Part};
 
+#[tactic(auto, using(crate::proofs::Scans::every_all), unfolding(crate::specs::Host::is_last_label, laws::specs::Pick::both))]
 fn is_last_label(s: &[u8]) -> bool
     ensures { result ≡ is_last_label s.now }
 {
-    if !is_label(s) {
-        return false;
-    }
-    !is_every(s, Kind::Digit)
+    is_label(s) && !s.iter().all(|b| b.is_ascii_digit())
 }
 
 // A name with no dot at its end.
@@ -22,19 +18,17 @@ fn is_name(s: &[u8]) -> bool
     if 253 < s.len() {
         return false;
     }
-    let Line::Last(n, at) = line(s, b'.', Part::Label) else {
+    let Some((_, last)) = line(s, b'.', is_label) else {
         return false;
     };
-    is_last_label(&s[at..])
+    is_last_label(last)
 }
 
 pub fn is_domain(s: &[u8]) -> bool
     ensures { result ≡ is_domain s.now }
 {
-    let b = last_byte(s);
-    if b == b'.' {
-        let e = last_place(s);
-        return is_name(&s[..e]);
+    match s {
+        [name @ .., b'.'] => is_name(name),
+        _ => is_name(s),
     }
-    is_name(s)
 }

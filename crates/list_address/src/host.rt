@@ -5,32 +5,19 @@ ghost use Rattle.list_address.specs.Host.{is_bracketed, is_host};
 use super::domain::is_domain;
 use super::ipv4::is_ipv4;
 use super::ipv6::is_ipv6;
-use super::scan::{last_byte, last_place};
-use json_tokens::byte;
 
 fn is_bracketed(s: &[u8]) -> bool
     ensures { result ≡ is_bracketed s.now }
 {
-    let b = byte(s, 0);
-    if b != b'[' {
-        return false;
+    match s {
+        [b'[', inside @ .., b']'] => is_ipv6(inside),
+        _ => false,
     }
-    let c = last_byte(s);
-    if c != b']' {
-        return false;
-    }
-    let e = last_place(s);
-    is_ipv6(&s[1..e])
 }
 
+#[tactic(auto, unfolding(crate::specs::Host::is_host, laws::specs::Pick::either))]
 pub fn is_host(s: &[u8]) -> bool
     ensures { result ≡ is_host s.now }
 {
-    if is_ipv4(s) {
-        return true;
-    }
-    if is_domain(s) {
-        return true;
-    }
-    is_bracketed(s)
+    is_ipv4(s) || is_domain(s) || is_bracketed(s)
 }

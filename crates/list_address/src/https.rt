@@ -1,102 +1,66 @@
 // URLs of the scheme https (RFC 9110, section 4.2.2; RFC 3986).
-ghost use Rattle.std.specs.Prelude.{◌≡◌, true, ◌<◌, length};
-ghost use Rattle.list_address.specs.Https.{lower, has_scheme, is_authority, clean_at, is_clean, is_rest, is_https};
+ghost use Rattle.std.specs.Prelude.{◌≡◌, ◌<◌, length};
+ghost use Rattle.list_address.specs.Https.{has_scheme, is_ended, is_authority, clean_at, is_clean, is_rest, is_https};
 
-use super::Kind;
 use super::address::is_address;
 use super::chars::{is_hex, is_url_char};
 use super::host::is_host;
-use super::scan::{last_byte, last_place, past};
 use json_tokens::byte;
-
-fn to_lower(b: u8) -> u8
-    ensures { result ≡ lower b }
-{
-    if b < b'A' {
-        return b;
-    }
-    if b'Z' < b {
-        return b;
-    }
-    b + 32
-}
 
 fn has_scheme(s: &[u8]) -> bool
     ensures { result ≡ has_scheme s.now }
 {
-    let w = *b"https://";
-    let mut k = 0;
-    while k < 8 {
-        if to_lower(byte(s, k)) != w[k] {
-            return false;
-        }
-        k += 1;
-    }
-    true
+    8 <= s.len()
+        && s.iter()
+            .zip(b"https://")
+            .all(|(b, w)| b.to_ascii_lowercase() == *w)
 }
 
-// A host, with a port or without one; or with a colon behind it, and no port.
+// A host with a colon behind it, and no port.
+fn is_ended(s: &[u8]) -> bool
+    ensures { result ≡ is_ended s.now }
+{
+    match s {
+        [host @ .., b':'] => is_host(host),
+        _ => false,
+    }
+}
+
+// A host, with a port or without one.
+#[tactic(auto, unfolding(crate::specs::Https::is_authority, laws::specs::Pick::either))]
 fn is_authority(s: &[u8]) -> bool
     ensures { result ≡ is_authority s.now }
 {
-    if is_host(s) {
-        return true;
-    }
-    if is_address(s) {
-        return true;
-    }
-    let b = last_byte(s);
-    if b != b':' {
-        return false;
-    }
-    let e = last_place(s);
-    is_host(&s[..e])
+    is_host(s) || is_address(s) || is_ended(s)
 }
 
 // A byte of a URL stands at k, or a percent sign with two hexadecimal digits behind it.
+#[tactic(auto, unfolding(crate::specs::Https::clean_at, crate::specs::Https::percent_at, laws::specs::Pick::both, laws::specs::Pick::either))]
 fn is_clean_at(s: &[u8], k: usize) -> bool
     requires { k < length s.now }
     ensures { result ≡ clean_at s.now k }
 {
-    let b = s[k];
-    if is_url_char(b) {
-        return true;
+    match s[k] {
+        b'%' => is_hex(byte(s, k + 1)) && is_hex(byte(s, k + 2)),
+        b => is_url_char(b),
     }
-    if b != b'%' {
-        return false;
-    }
-    if !is_hex(byte(s, k + 1)) {
-        return false;
-    }
-    is_hex(byte(s, k + 2))
 }
 
+#[tactic(auto, using(laws::proofs::Ranges::range_nowhere), unfolding(crate::specs::Https::is_clean))]
 fn is_clean(s: &[u8]) -> bool
     ensures { result ≡ is_clean s.now }
 {
-    let mut k = 0;
-    while k < s.len() {
-        if !is_clean_at(s, k) {
-            return false;
-        }
-        k += 1;
-    }
-    true
+    (0..s.len()).all(|k| is_clean_at(s, k))
 }
 
 // What stands behind the authority.
 fn is_rest(s: &[u8]) -> bool
     ensures { result ≡ is_rest s.now }
 {
-    let k = past(s, 0, Kind::Before(b'#'));
-    if k == s.len() {
-        return is_clean(s);
+    match s.iter().position(|b| *b == b'#') {
+        Some(k) => is_clean(&s[..k]) && is_clean(&s[k + 1..]),
+        None => is_clean(s),
     }
-    if !is_clean(&s[..k]) {
-        return false;
-    }
-    let from = k + 1;
-    is_clean(&s[from..])
 }
 
 // Whether x is a URL of the scheme https, with a host and no user's name.
@@ -106,9 +70,10 @@ pub fn is_https(x: &[u8]) -> bool
     if !has_scheme(x) {
         return false;
     }
-    let e = past(x, 8, Kind::Authority);
-    if !is_authority(&x[8..e]) {
-        return false;
-    }
-    is_rest(&x[e..])
+    let behind = &x[8..];
+    let e = behind
+        .iter()
+        .position(|b| b"/?#".contains(b))
+        .unwrap_or(behind.len());
+    is_authority(&behind[..e]) && is_rest(&behind[e..])
 }

@@ -15,28 +15,3 @@ mod scan;
 
 pub use address::is_address;
 pub use https::is_https;
-
-// The bytes that a scan goes over.
-#[derive(Clone, Copy)]
-enum Kind {
-    Digit,
-    Hex,
-    Label,
-    Authority,
-    Before(u8),
-}
-
-// What a part between dots or colons is.
-#[derive(Clone, Copy)]
-enum Part {
-    Octet,
-    Label,
-    Group,
-}
-
-// Parts in a row, of which each but the last is right: how many stand before the last, and where the last starts.
-#[derive(Clone, Copy)]
-enum Line {
-    Last(usize, usize),
-    Wrong,
-}

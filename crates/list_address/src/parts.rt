@@ -1,58 +1,41 @@
 // Parts between dots or colons.
-ghost use Rattle.std.specs.Prelude.{◌≡◌};
-ghost use Rattle.list_address.specs.Host.{is_part, is_group, is_label};
-ghost use Rattle.list_address.specs.Facts.{Lined};
+ghost use Rattle.std.specs.Prelude.{◌≡◌, ℕ, Bool, List};
+ghost use Rattle.std.specs.Fn.{FnReturnsAt};
+ghost use Rattle.list_address.specs.Host.{is_group, is_label};
+ghost use Rattle.list_address.specs.Facts.{Lined, TellsAt, parted};
 
-use super::decimal::is_octet;
-use super::scan::{is_run, last_byte, past};
-use super::{Kind, Line, Part};
-use json_tokens::byte;
+use super::chars::{is_hex, is_label_char};
+use super::scan::is_run;
 
+#[tactic(auto, unfolding(crate::specs::Host::is_group))]
 pub fn is_group(s: &[u8]) -> bool
     ensures { result ≡ is_group s.now }
 {
-    is_run(s, Kind::Hex, 4)
+    is_run(s, 4, is_hex)
 }
 
+#[tactic(auto, unfolding(crate::specs::Host::is_label, laws::specs::Pick::both))]
 pub fn is_label(s: &[u8]) -> bool
     ensures { result ≡ is_label s.now }
 {
-    if !is_run(s, Kind::Label, 63) {
-        return false;
-    }
-    let b = byte(s, 0);
-    if b == b'-' {
-        return false;
-    }
-    let e = last_byte(s);
-    e != b'-'
+    is_run(s, 63, is_label_char) && !matches!(s, [b'-', ..] | [.., b'-'])
 }
 
-fn is_part(s: &[u8], each: Part) -> bool
-    ensures { result ≡ is_part each s.now }
-{
-    match each {
-        Part::Octet => is_octet(s),
-        Part::Label => is_label(s),
-        Part::Group => is_group(s),
-    }
-}
-
-// The parts between the bytes `between`, up to the last of them, at which nothing is looked.
-pub fn line(s: &[u8], between: u8, each: Part) -> Line
-    ensures { Lined (is_part each) between s.now result }
+// How many parts stand between the bytes `between` before the last part, and the last by itself; or that one before
+// the last does not pass.
+pub fn line<F: Fn(&[u8]) -> bool>(s: &[u8], between: u8, passes: F) -> Option<(usize, &[u8])>
+    requires { F.IsAlwaysCallable passes }
+    ensures { (p : List ℕ → Bool) → TellsAt (FnReturnsAt F.Fn passes) p → Lined p between s.now (parted result) }
 {
     let mut n = 0;
-    let mut at = 0;
-    loop {
-        let e = past(s, at, Kind::Before(between));
-        if e == s.len() {
-            return Line::Last(n, at);
-        }
-        if !is_part(&s[at..e], each) {
-            return Line::Wrong;
+    let mut rest = s;
+    // while: `split` would give the last part as one of the others, and it is not to pass the same test.
+    while let Some(k) = rest.iter().position(|b| *b == between) {
+        if !passes(&rest[..k]) {
+            return None;
         }
         n += 1;
-        at = e + 1;
+        rest = &rest[k + 1..];
     }
+    Some((n, rest))
 }

@@ -1,56 +1,16 @@
-// Runs of bytes of a kind, and the last byte.
-ghost use Rattle.std.specs.Prelude.{◌≡◌, ◌-◌, length};
-ghost use Rattle.json_tokens.specs.Scan.{past_while};
-ghost use Rattle.list_address.specs.Chars.{of_kind};
-ghost use Rattle.list_address.specs.Runs.{every, is_run, last_byte};
+// Runs of bytes that pass a test.
+ghost use Rattle.std.specs.Prelude.{◌≡◌, ℕ, Bool};
+ghost use Rattle.list_address.specs.Runs.{is_run};
+ghost use Rattle.list_address.specs.Facts.{Tells};
 
-use super::Kind;
-use super::chars::of_kind;
-use json_tokens::byte;
-
-// The first place from `at` on whose byte is of another kind.
-pub fn past(s: &[u8], at: usize, kind: Kind) -> usize
-    ensures { result ≡ past_while (of_kind kind) s.now at }
+// One byte or more, at most so many, each of which passes.
+#[tactic(auto, unfolding(crate::specs::Runs::is_run, laws::specs::Pick::both))]
+pub fn is_run<F: Fn(u8) -> bool>(s: &[u8], most: usize, passes: F) -> bool
+    requires { F.IsAlwaysCallable passes }
+    ensures { (p : ℕ → Bool) → Tells (F.post passes) p → result ≡ is_run p most s.now }
 {
-    let mut k = at;
-    while k < s.len() {
-        if !of_kind(kind, s[k]) {
-            return k;
-        }
-        k += 1;
-    }
-    k
-}
-
-pub fn is_every(s: &[u8], kind: Kind) -> bool
-    ensures { result ≡ every (of_kind kind) s.now }
-{
-    let e = past(s, 0, kind);
-    e == s.len()
-}
-
-// One byte or more, at most so many, all of a kind.
-pub fn is_run(s: &[u8], kind: Kind, most: usize) -> bool
-    ensures { result ≡ is_run (of_kind kind) most s.now }
-{
-    if s.len() < 1 {
+    if s.is_empty() || most < s.len() {
         return false;
     }
-    if most < s.len() {
-        return false;
-    }
-    is_every(s, kind)
-}
-
-pub fn last_place(s: &[u8]) -> usize
-    ensures { result ≡ length s.now - 1 }
-{
-    let n = s.len();
-    if n < 1 { 0 } else { n - 1 }
-}
-
-pub fn last_byte(s: &[u8]) -> u8
-    ensures { result ≡ last_byte s.now }
-{
-    byte(s, last_place(s))
+    s.iter().all(|b| passes(*b))
 }

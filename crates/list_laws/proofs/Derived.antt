@@ -1,5 +1,6 @@
 -- Derivations from RFC 8259's grammar, with the trees that they mean: of the texts that a writer puts together, with no
 -- blanks. From the readers of strings nothing more is taken than that they read what is quoted.
+use Rattle.std.specs.Prelude.{None, Option, Some}
 use Prim.Native.Nat.{ℕ, zero, suc, ◌+◌, ◌*◌}
 use mathlib.Core.Path.{◌≡◌, refl, sym, ◌∙◌, ap, ap₂, subst}
 use mathlib.Core.Bool.{true, false}
@@ -8,8 +9,6 @@ use native.Mathlib.Nat.{le_refl}
 use native.Mathlib.Omega.{arith}
 use lib.ListN.{length, drop_of_length-le}
 use Rattle.laws.specs.Flat.{flat}
-use Rattle.json_tokens.specs.declared.Skip.{Skip}
-use Rattle.json_tokens.specs.declared.Skip.TheVariants.{Past, Bad}
 use Rattle.json_tokens.proofs.Stands.{Stands}
 use Rattle.json_strings.specs.Text.{string_at, content_at}
 use Rattle.json_strings.proofs.Plain.{Each, string-content}
@@ -62,12 +61,12 @@ spans-whole x p =
       means = sym (string-held x 0 p.text [] p.derived (rest-as (z ∙ sym (append-nil p.text)) (rest_all x)));
     })
 
-read_word : (x : List ℕ) → string_at x 0 ≡ Past (length x) → Word x (paired (content_at x 1))
+read_word : (x : List ℕ) → string_at x 0 ≡ Some (length x) → Word x (paired (content_at x 1))
 read_word x e = by (string_at x 0) (sound-string x 0) e
   where
-    by : (r : Skip) → Sound Abnf.string x 0 r → r ≡ Past (length x) → Word x (paired (content_at x 1))
-    by (Past k) (past p) e = let z : k ≡ length x = cc in spans-whole x (subst (Spans Abnf.string x 0) z p)
-    by Bad bad e = let z : ◌≡◌ {A = ℕ} 0 1 = cc in absurd (omega arith)
+    by : (r : Option ℕ) → Sound Abnf.string x 0 r → r ≡ Some (length x) → Word x (paired (content_at x 1))
+    by (Some k) (past p) e = let z : k ≡ length x = cc in spans-whole x (subst (Spans Abnf.string x 0) z p)
+    by None bad e = let z : ◌≡◌ {A = ℕ} 0 1 = cc in absurd (omega arith)
 
 -- the string of a text
 pub record Quotes (x : List ℕ) : Type 0 where
@@ -79,7 +78,7 @@ pub quotes : (x : List ℕ) → is_utf8 x ≡ true → Quotes x
 unfolding text_of
 quotes x u = record {
   characters = paired (content_at (quoted x) 1);
-  word = read_word (quoted x) (quoted-reads {k = 0} x u (stands-whole (quoted x)) ∙ ap Past (omega arith));
+  word = read_word (quoted x) (quoted-reads {k = 0} x u (stands-whole (quoted x)) ∙ ap Some (omega arith));
   utf8 = ap encoded (sym (joined_is (content_at (quoted x) 1))) ∙ quoted-holds {k = 0} x u (stands-whole (quoted x));
 }
 
@@ -88,7 +87,7 @@ pub plain_word : (l : List ℕ) → Each l → Word (34 ∷ (l ++ 34 ∷ [])) (p
 plain_word l e =
     subst (λ c. Word (34 ∷ (l ++ 34 ∷ [])) (paired c)) (string-content {k = 1} l [] e (behind l))
     (read_word (34 ∷ (l ++ 34 ∷ []))
-    (plain-reads {k = 0} l [] e (stands-whole (34 ∷ (l ++ 34 ∷ []))) ∙ ap Past (size l)))
+    (plain-reads {k = 0} l [] e (stands-whole (34 ∷ (l ++ 34 ∷ []))) ∙ ap Some (size l)))
   where
     behind : (x : List ℕ) → Stands (34 ∷ (x ++ 34 ∷ [])) 1 (x ++ 34 ∷ [])
     behind x = record { rest = []; text = sym (append-nil (x ++ 34 ∷ [])) }

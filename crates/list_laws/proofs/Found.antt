@@ -1,5 +1,6 @@
 -- What `read_servers` writes of a list: the records of the servers that can be asked. In each the SRV value is that of
 -- the key, and a lookup by the SRV value of a key finds the first server of that key.
+use Rattle.std.specs.Prelude.{Err, Ok}
 use Prim.Native.Nat.{ℕ, ◌≤◌, ◌<◌}
 use mathlib.Core.Path.{◌≡◌, refl, ap}
 use mathlib.Core.Bool.{Bool, true, false}
@@ -11,7 +12,7 @@ use Rattle.refusal.specs.Refusal.{refusal}
 use Rattle.hash.specs.Hashes.{srv_of}
 use Rattle.server_list.specs.Lists.{whole}
 use Rattle.server_list.specs.Lookup.{sought}
-use Rattle.server_list.specs.declared.Where.TheVariants.{Owner, Refused}
+use Rattle.server_list.specs.declared.Where.TheVariants.{Owner}
 use Rattle.list_read.specs.Server.{Server, askable}
 use Rattle.list_read.specs.Listed.{Lists}
 use Rattle.list_read.specs.Read.{askables, servers_of, record_of, records_of, record_bytes}
@@ -60,10 +61,10 @@ module _ (l : Lists) where
   module _ (key : List ℕ) (apart : Apart key (asked_keys l)) where
     -- where a server of the list has this key, `find_server` finds the first that has, whatever the shipped list is;
     pub list-finds : (shipped : List ℕ) → whole shipped ≡ true → first_of key (asked_keys l) < length (asked_keys l)
-        → sought (record_bytes l) shipped (srv_of key) ≡ Owner (first_of key (asked_keys l))
+        → sought (record_bytes l) shipped (srv_of key) ≡ Ok (Owner (first_of key (asked_keys l)))
     list-finds shipped w h = rw (bytes-by l) (finds-key (asked_keys l) long key apart shipped w h)
 
     -- where none has, 22 is told
     pub list-misses : length (asked_keys l) ≤ first_of key (asked_keys l)
-        → sought (record_bytes l) [] (srv_of key) ≡ Refused (refusal 22)
+        → sought (record_bytes l) [] (srv_of key) ≡ Err (refusal 22)
     list-misses h = rw (bytes-by l) (misses-key (asked_keys l) long key apart h)

@@ -1,4 +1,5 @@
 -- The records of keys are truthful, and a lookup by the SRV value of a key finds the first record of that key.
+use Rattle.std.specs.Prelude.{Err, Ok}
 use Prim.Native.Nat.{ℕ, zero, suc, ◌+◌, ◌*◌, ◌%◌, ◌≤◌, ◌<◌}
 use mathlib.Core.Path.{◌≡◌, refl, sym, ◌∙◌, ap}
 use mathlib.Core.Bool.{Bool, true, false}
@@ -17,7 +18,7 @@ use Rattle.hash.specs.Hashes.{srv_of}
 use Rattle.hash.proofs.Lengths.{length-srv}
 use Rattle.server_list.specs.Lists.{server_count, server_at, srv_in, serves, serves_at, whole}
 use Rattle.server_list.specs.Lookup.{first_in, known, sought}
-use Rattle.server_list.specs.declared.Where.TheVariants.{Owner, Refused}
+use Rattle.server_list.specs.declared.Where.TheVariants.{Owner}
 use Rattle.list_laws.specs.Keys.{record_by, records_by, Keys, Truthful, first_of, Apart}
 
 -- ---- One record
@@ -111,13 +112,13 @@ module _ (keys : List (List ℕ)) (l : Keys keys) where
 
     -- so a lookup finds that one, whatever the shipped list is,
     pub finds-key : (shipped : List ℕ) → whole shipped ≡ true → first_of key keys < length keys
-        → sought (records_by keys) shipped (srv_of key) ≡ Owner (first_of key keys)
+        → sought (records_by keys) shipped (srv_of key) ≡ Ok (Owner (first_of key keys))
     unfolding sought
     finds-key shipped w h =
         simp (eq-eqb _ 0 (records-whole keys l), w, first-of-key, records-count keys l, lt-ltb _ _ h)
 
     -- and with no other list 22 is told where no server has the key
-    pub misses-key : length keys ≤ first_of key keys → sought (records_by keys) [] (srv_of key) ≡ Refused (refusal 22)
+    pub misses-key : length keys ≤ first_of key keys → sought (records_by keys) [] (srv_of key) ≡ Err (refusal 22)
     unfolding sought
     misses-key h =
         simp

@@ -1,5 +1,6 @@
 -- The reader's definition finds a server list in a text exactly where the text is one by 8.3's sentences, and what it
 -- finds is what they say of it.
+use Rattle.std.specs.Prelude.{None, Option, Some}
 use Prim.Native.Nat.{ℕ}
 use mathlib.Core.Path.{◌≡◌, refl, sym, ◌∙◌, ap, ap₂, subst}
 use mathlib.Core.Bool.{Bool, true, false}
@@ -11,8 +12,6 @@ use lib.Dec.{eqb}
 use lib.ListN.{get_or}
 use Rattle.laws.specs.Ascii.{ascii}
 use Rattle.laws.specs.Pick.{pick, either, both}
-use Rattle.json_tokens.specs.declared.Skip.{Skip}
-use Rattle.json_tokens.specs.declared.Skip.TheVariants.{Past, Bad}
 use Rattle.json_tokens.specs.Scan.{past_while, blank}
 use Rattle.json_strings.specs.Text.{same_list}
 use Rattle.json_text.specs.Octets.{Text, plain}
@@ -85,7 +84,7 @@ either_first true h = refl
 either_first false h = h
 
 module _ (s : List ℕ) where
-  protocol-is : (b : Bool) (x : Skip) → content_in s x ≡ protocol_of b
+  protocol-is : (b : Bool) (x : Option ℕ) → content_in s x ≡ protocol_of b
       → (is_protocol s x ≡ true) × (is_word s x (ascii "tcp") ≡ b)
   unfolding is_protocol is_word same_list both either
   protocol-is true x e = (rw e refl, rw e refl)
@@ -391,7 +390,7 @@ module _ (s : List ℕ) where
   outermost = past_while blank s 0
 
   root_by : (b c : Bool)
-      → is_there (array_of s (of_root s servers_name (pick b (pick c (Past outermost) Bad) Bad))) ≡ true
+      → is_there (array_of s (of_root s servers_name (pick b (pick c (Some outermost) None) None))) ≡ true
       → (b ≡ true) × (c ≡ true)
   unfolding pick of_root array_of is_there
   root_by true true h = (refl, refl)
@@ -402,14 +401,14 @@ module _ (s : List ℕ) where
   unfolding is_list servers_member root_place
   root-of h = root_by (is_text s) (eqb (get_or s outermost 0) 123) (both-parts _ _ h).0
 
-  root-past : is_text s ≡ true → eqb (get_or s outermost 0) 123 ≡ true → root_place s ≡ Past outermost
+  root-past : is_text s ≡ true → eqb (get_or s outermost 0) 123 ≡ true → root_place s ≡ Some outermost
   unfolding root_place pick
   root-past t e = rw (t, e) refl
 
-  abbrev is_list_at : Skip → Bool
+  abbrev is_list_at : Option ℕ → Bool
   is_list_at x = is_list_by (of_root s servers_name x) (of_root s sources_name x) (of_root s reports_name x)
 
-  abbrev listed_at : Skip → Listed
+  abbrev listed_at : Option ℕ → Listed
   listed_at x = listed_by (of_root s servers_name x) (of_root s sources_name x) (of_root s reports_name x)
 
   is-list-at : is_list s ≡ is_list_at (root_place s)
@@ -421,7 +420,7 @@ module _ (s : List ℕ) where
   listed-at = refl
 
   root-found : (t : Json) → At s 16 outermost t → eqb (get_or s outermost 0) 123 ≡ true
-      → is_list_at (Past outermost) ≡ true → ListTree t (spelt_list (listed_at (Past outermost)))
+      → is_list_at (Some outermost) ≡ true → ListTree t (spelt_list (listed_at (Some outermost)))
   unfolding of_root
   root-found t v q h = tree-found outermost t v q h
 
@@ -430,7 +429,7 @@ module _ (s : List ℕ) where
       let r = root-of h in
       let p = root-past r.0 r.1 in
       let j = (is-json s).0 r.0 in
-      let e : is_list_at (Past outermost) ≡ true = ap is_list_at (sym p) ∙ sym is-list-at ∙ h in
+      let e : is_list_at (Some outermost) ≡ true = ap is_list_at (sym p) ∙ sym is-list-at ∙ h in
       record {
         json = j;
         means =
@@ -439,8 +438,8 @@ module _ (s : List ℕ) where
       }
 
   root_stands : (t : Json) (l : Listed) → At s 16 outermost t → ListTree t l
-      → (eqb (get_or s outermost 0) 123 ≡ true) × (is_list_at (Past outermost) ≡ true)
-      × (spelt_list (listed_at (Past outermost)) ≡ l)
+      → (eqb (get_or s outermost 0) 123 ≡ true) × (is_list_at (Some outermost) ≡ true)
+      × (spelt_list (listed_at (Some outermost)) ≡ l)
   unfolding of_root
   root_stands t l v o = tree-stands outermost t l v o
 

@@ -9,6 +9,7 @@ use lib.Dec.{eqb, leb, ltb}
 use lib.ListN.{length, get_or, take, drop, drop_of_length-le, length-drop}
 use lib.Seq.{get_or-take, get_or-drop, drop-drop}
 use borrow.Author.Tests.{eqb-true, eqb-false, leb-true, leb-false, ltb-true, ltb-false, lt-ltb, not-true, not-false}
+use Rattle.std.specs.Prelude.{None, Option, Some}
 use Rattle.laws.specs.Ascii.{ascii}
 use Rattle.laws.specs.Least.{least, somewhere}
 use Rattle.laws.specs.Pasted.{part}
@@ -20,10 +21,10 @@ use Rattle.json_tokens.proofs.Picks.{over}
 use Rattle.json_tokens.proofs.While.{while-ahead}
 use Rattle.json_quote.specs.Utf8.{char_step, reached, is_utf8}
 use Rattle.json_laws.proofs.Spans.{both-parts}
-use Rattle.list_address.specs.Chars.{between, letter, hex_digit, label_char, one_of, url_char, of_kind}
+use Rattle.list_address.specs.Chars.{between, letter, hex_digit, label_char, one_of, url_char}
 use Rattle.list_address.specs.Runs.{every, is_run, last_byte}
 use Rattle.list_address.specs.Decimal.{is_decimal, is_octet, is_port}
-use Rattle.list_address.specs.Parts.{onto, split, Count, many, wrong, plus, counted, or_else, right, exactly, within}
+use Rattle.list_address.specs.Parts.{onto, split, plus, counted, or_else, right, exactly, within}
 use Rattle.list_address.specs.Host.{is_ipv4, is_group, pieces, side, double_at, is_shortened, double_in, is_ipv6, is_label}
 use Rattle.list_address.specs.Host.{is_last_label, is_name, is_domain, is_bracketed, is_host}
 use Rattle.list_address.specs.Address.{is_address}
@@ -154,23 +155,23 @@ data Parts : List (List ℕ) → Type 0 where
   a-part : {x : List ℕ} {xs : List (List ℕ)} → Low x → Parts xs → Parts (x ∷ xs)
 
 module _ (p q : List ℕ → Bool) (f : (x : List ℕ) → p x ≡ true → Low x) (g : (x : List ℕ) → q x ≡ true → Low x) where
-  no-many : {A : Type 0} {n : ℕ} → wrong ≡ many n → A
-  no-many e = let z : ◌≡◌ {A = ℕ} 0 1 = cc in absurd (omega arith)
+  no-many : {A : Type 0} {n : ℕ} → None ≡ Some n → A
+  no-many e = cc
 
-  counted-low : (l : List (List ℕ)) {n : ℕ} → counted p q l ≡ many n → Parts l
+  counted-low : (l : List (List ℕ)) {n : ℕ} → counted p q l ≡ Some n → Parts l
   unfolding counted pick plus
   counted-low [] e = no_part
   counted-low (x ∷ []) {n} e = by (q x) refl e
     where
-      by : (t : Bool) → q x ≡ t → pick t (many 1) wrong ≡ many n → Parts (x ∷ [])
+      by : (t : Bool) → q x ≡ t → pick t (Some 1) None ≡ Some n → Parts (x ∷ [])
       by true h i = a-part (g x h) no_part
       by false h i = no-many i
   counted-low (x ∷ y ∷ xs) {n} e = by (p x) (counted p q (y ∷ xs)) refl refl e (λ m i. counted-low (y ∷ xs) {n = m} i)
     where
-      by : (t : Bool) (c : Count) → p x ≡ t → counted p q (y ∷ xs) ≡ c → pick t (plus 1 c) wrong ≡ many n
-          → ((m : ℕ) → counted p q (y ∷ xs) ≡ many m → Parts (y ∷ xs)) → Parts (x ∷ y ∷ xs)
-      by true (many m) h i e k = a-part (f x h) (k m i)
-      by true wrong h i e k = no-many e
+      by : (t : Bool) (c : Option ℕ) → p x ≡ t → counted p q (y ∷ xs) ≡ c → pick t (plus 1 c) None ≡ Some n
+          → ((m : ℕ) → counted p q (y ∷ xs) ≡ Some m → Parts (y ∷ xs)) → Parts (x ∷ y ∷ xs)
+      by true (Some m) h i e k = a-part (f x h) (k m i)
+      by true None h i e k = no-many e
       by false c h i e k = no-many e
 
   split-low : (c : ℕ) → c < 128 → (x : List ℕ) → Parts (split c x) → Low x
@@ -188,13 +189,13 @@ module _ (p q : List ℕ → Bool) (f : (x : List ℕ) → p x ≡ true → Low 
       by false [] e k (a-part m r) go = cons-low x (m 0) (go (rw k no_part))
       by false (y ∷ ys) e k (a-part m r) go = cons-low x (m 0) (go (rw k (a-part (λ i. m (suc i)) r)))
 
-  parts_low : (c : ℕ) → c < 128 → (x : List ℕ) {n : ℕ} → counted p q (split c x) ≡ many n → Low x
+  parts_low : (c : ℕ) → c < 128 → (x : List ℕ) {n : ℕ} → counted p q (split c x) ≡ Some n → Low x
   parts_low c h x e = split-low c h x (counted-low (split c x) e)
 
 -- ---- Hosts.
 module _ (x : List ℕ) where
   decimal-low : (wide most : ℕ) → is_decimal wide most x ≡ true → Low x
-  unfolding is_decimal of_kind
+  unfolding is_decimal
   decimal-low wide most e = run-low digit digit_low wide x (both-parts _ _ e).0
 
   octet-low : is_octet x ≡ true → Low x
@@ -206,36 +207,36 @@ module _ (x : List ℕ) where
   port-low e = decimal-low 5 65535 e
 
   group-low : is_group x ≡ true → Low x
-  unfolding is_group of_kind
+  unfolding is_group
   group-low e = run-low hex_digit hex-low 4 x e
 
   name-part-low : is_label x ≡ true → Low x
-  unfolding is_label of_kind
+  unfolding is_label
   name-part-low e = run-low label_char label-low 63 x (both-parts _ _ e).0
 
   last-part-low : is_last_label x ≡ true → Low x
   unfolding is_last_label
   last-part-low e = name-part-low (both-parts _ _ e).0
 
-exactly-many : {A : Type 0} (n : ℕ) (c : Count) → exactly n c ≡ true → ((m : ℕ) → c ≡ many m → A) → A
+exactly-many : {A : Type 0} (n : ℕ) (c : Option ℕ) → exactly n c ≡ true → ((m : ℕ) → c ≡ Some m → A) → A
 unfolding exactly
-exactly-many n (many m) e f = f m refl
-exactly-many n wrong e f = never e
+exactly-many n (Some m) e f = f m refl
+exactly-many n None e f = never e
 
-right-many : {A : Type 0} (c : Count) → right c ≡ true → ((m : ℕ) → c ≡ many m → A) → A
+right-many : {A : Type 0} (c : Option ℕ) → right c ≡ true → ((m : ℕ) → c ≡ Some m → A) → A
 unfolding right
-right-many (many m) e f = f m refl
-right-many wrong e f = never e
+right-many (Some m) e f = f m refl
+right-many None e f = never e
 
-within-many : {A : Type 0} (n : ℕ) (c d : Count) → within n c d ≡ true
-    → ((l m : ℕ) → c ≡ many l → d ≡ many m → A) → A
+within-many : {A : Type 0} (n : ℕ) (c d : Option ℕ) → within n c d ≡ true
+    → ((l m : ℕ) → c ≡ Some l → d ≡ Some m → A) → A
 unfolding within
-within-many n (many l) (many m) e f = f l m refl refl
-within-many n (many l) wrong e f = never e
-within-many n wrong d e f = never e
+within-many n (Some l) (Some m) e f = f l m refl refl
+within-many n (Some l) None e f = never e
+within-many n None d e f = never e
 
-not-many : {A : Type 0} {n : ℕ} → wrong ≡ many n → A
-not-many e = let z : ◌≡◌ {A = ℕ} 0 1 = cc in absurd (omega arith)
+not-many : {A : Type 0} {n : ℕ} → None ≡ Some n → A
+not-many e = cc
 
 ipv4-low : (x : List ℕ) → is_ipv4 x ≡ true → Low x
 unfolding is_ipv4
@@ -243,22 +244,22 @@ ipv4-low x e =
     exactly-many 4 (counted is_octet is_octet (split 46 x)) e
     (λ m f. parts_low is_octet is_octet octet-low octet-low 46 (omega arith) x f)
 
-pieces-low : (tail : Bool) (x : List ℕ) {n : ℕ} → pieces tail x ≡ many n → Low x
+pieces-low : (tail : Bool) (x : List ℕ) {n : ℕ} → pieces tail x ≡ Some n → Low x
 unfolding pieces or_else pick plus
 pieces-low tail x {n} e = by tail (counted is_group is_group (split 58 x)) (counted is_group is_ipv4 (split 58 x)) refl refl e
   where
-    by : (t : Bool) (c d : Count) → counted is_group is_group (split 58 x) ≡ c → counted is_group is_ipv4 (split 58 x) ≡ d
-        → or_else c (pick t (plus 1 d) wrong) ≡ many n → Low x
-    by t (many m) d f g h = parts_low is_group is_group group-low group-low 58 (omega arith) x f
-    by true wrong (many m) f g h = parts_low is_group is_ipv4 group-low ipv4-low 58 (omega arith) x g
-    by true wrong wrong f g h = not-many h
-    by false wrong d f g h = not-many h
+    by : (t : Bool) (c d : Option ℕ) → counted is_group is_group (split 58 x) ≡ c → counted is_group is_ipv4 (split 58 x) ≡ d
+        → or_else c (pick t (plus 1 d) None) ≡ Some n → Low x
+    by t (Some m) d f g h = parts_low is_group is_group group-low group-low 58 (omega arith) x f
+    by true None (Some m) f g h = parts_low is_group is_ipv4 group-low ipv4-low 58 (omega arith) x g
+    by true None None f g h = not-many h
+    by false None d f g h = not-many h
 
-side-low : (tail : Bool) (x : List ℕ) {n : ℕ} → side tail x ≡ many n → Low x
+side-low : (tail : Bool) (x : List ℕ) {n : ℕ} → side tail x ≡ Some n → Low x
 unfolding side pick
 side-low tail x {n} e = by (eqb (length x) 0) refl e
   where
-    by : (t : Bool) → eqb (length x) 0 ≡ t → pick t (many 0) (pieces tail x) ≡ many n → Low x
+    by : (t : Bool) → eqb (length x) 0 ≡ t → pick t (Some 0) (pieces tail x) ≡ Some n → Low x
     by true f g = λ i. past-low x i (omega (arith, eqb-true (length x) 0 f))
     by false f g = pieces-low tail x g
 
@@ -374,7 +375,7 @@ clean-low x e i = by (leb (length x) i) refl
 
 -- the first sharp, or the end
 fragment-low : (x : List ℕ) → get_or x (fragment_in x) 0 < 128
-unfolding past_while of_kind
+unfolding past_while
 fragment-low x = rw (zero-add (run _ x)) (stop-low _ (λ b f. omega (arith, eqb-true b 35 (not-false _ f))) x)
 
 rest-low : (x : List ℕ) → is_rest x ≡ true → Low x

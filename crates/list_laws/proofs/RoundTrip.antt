@@ -22,6 +22,7 @@ use Rattle.json_laws.proofs.Paired.{word-exactly}
 use Rattle.list_address.specs.Https.{is_https}
 use Rattle.list_read.specs.Server.{Address, Server}
 use Rattle.list_read.specs.Listed.{Listed, Lists, this, unread, list_of, servers_name, sources_name, reports_name}
+use Rattle.list_write.specs.declared.Item.TheVariants.{Source}
 use Rattle.list_write.specs.Decimal.{decimal}
 use Rattle.list_write.specs.Lines.{lines_of, line_text, is_url, is_item, item_good, all_good}
 use Rattle.list_write.specs.Given.{Given, good_reports}
@@ -51,9 +52,9 @@ unfolding is_url
 url-is t h = let p = both-parts _ _ h in tested is_https (url-quotes t h) p.0 p.1
 
 abbrev SaysUrl : List ℕ → Type 0
-SaysUrl l = Says 14 (element_text true l) (λ u. Url (line_text l) u)
+SaysUrl l = Says 14 (element_text Source l) (λ u. Url (line_text l) u)
 
-source-says : (l : List ℕ) → item_good true l ≡ true → SaysUrl l
+source-says : (l : List ℕ) → item_good Source l ≡ true → SaysUrl l
 unfolding item_good is_item element_text item_text
 source-says l h =
     let i = (both-parts _ _ h).1 in
@@ -63,7 +64,7 @@ source-says l h =
       is = url-is (line_text l) i;
     }
 
-sources-say : (ls : List (List ℕ)) → all_good true ls ≡ true → Every SaysUrl ls
+sources-say : (ls : List (List ℕ)) → all_good Source ls ≡ true → Every SaysUrl ls
 unfolding all_good
 sources-say [] h = no_more
 sources-say (l ∷ ls) h = let p = both-parts _ _ h in one_more (source-says l p.0) (sources-say ls p.1)
@@ -94,7 +95,7 @@ module _ (b : ℕ) (s : List ℕ) where
   not-empty : eqb (length (b ∷ s)) 0 ≡ false
   not-empty = ne_eqb (length (b ∷ s)) 0 (λ e. omega arith)
 
-  sources-text : sources_text (b ∷ s) ≡ ascii ",\"sources\":[" ++ (row (element_text true) true (lines_of (b ∷ s)) ++ [])
+  sources-text : sources_text (b ∷ s) ≡ ascii ",\"sources\":[" ++ (row (element_text Source) true (lines_of (b ∷ s)) ++ [])
   unfolding sources_text items_text pick flat
   sources-text = rw not-empty refl
 
@@ -110,14 +111,14 @@ module _ (b : ℕ) (s : List ℕ) where
   unfolding good_reports either
   good-url h = rw not-empty at h
 
-sources-lent : (s : List ℕ) → all_good true (lines_of s) ≡ true → LentSources (map line_text (lines_of s)) (sources_text s)
+sources-lent : (s : List ℕ) → all_good Source (lines_of s) ≡ true → LentSources (map line_text (lines_of s)) (sources_text s)
 unfolding sources_text pick lines_of
 sources-lent [] h = left_out refl
 sources-lent (b ∷ s) h =
-    let r = row-value (element_text true) 14 (λ l u. Url (line_text l) u) (lines_of (b ∷ s))
+    let r = row-value (element_text Source) 14 (λ l u. Url (line_text l) u) (lines_of (b ∷ s))
     (sources-say (lines_of (b ∷ s)) h) in
     subst (LentSources (map line_text (lines_of (b ∷ s))))
-    (ap (λ l. ascii ",\"sources\":[" ++ l) (sym (append-nil (row (element_text true) true (lines_of (b ∷ s)))))
+    (ap (λ l. ascii ",\"sources\":[" ++ l) (sym (append-nil (row (element_text Source) true (lines_of (b ∷ s)))))
     ∙ sym (sources-text b s))
     (put_in r.value (record { strings = r.trees; array = refl; each = the-urls r.each }))
 
@@ -204,7 +205,7 @@ text_says {x} {l} s =
     })
 
 module _ (gs : List Given) (sources reports : List ℕ) (low : AllLendable gs) (good : all_servers gs ≡ true)
-    (lines : all_good true (lines_of sources) ≡ true) (url : good_reports reports ≡ true) where
+    (lines : all_good Source (lines_of sources) ≡ true) (url : good_reports reports ≡ true) where
   list-says : Says 16 (list_text gs sources reports) (λ t. ListTree t (list_given gs sources reports))
   unfolding list_text servers_text list_given both
   list-says =
@@ -284,7 +285,7 @@ module _ (gs : List Given) (sources reports : List ℕ) where
   told-list unread e = let z : ◌≡◌ {A = ℕ} 0 1 = cc in absurd (omega arith)
 
   -- and the reader finds just that
-  pub round_trip : AllLendable gs → all_servers gs ≡ true → all_good true (lines_of sources) ≡ true
+  pub round_trip : AllLendable gs → all_servers gs ≡ true → all_good Source (lines_of sources) ≡ true
       → good_reports reports ≡ true
       → list_of (list_text gs sources reports) ≡ this (list_given gs sources reports)
   round_trip low good lines url =

@@ -26,6 +26,7 @@ use Rattle.json_laws.proofs.Paired.{narrow, is_same, same-is, word-exactly, deco
 use Rattle.list_address.specs.Address.{is_address}
 use Rattle.list_read.specs.Server.{Address, name_name, version_name, scheme_name, key_name, addresses_name}
 use Rattle.list_read.specs.Server.{protocol_name, address_name}
+use Rattle.list_write.specs.declared.Item.TheVariants.{Address as AddressItem}
 use Rattle.list_write.specs.Decimal.{decimal}
 use Rattle.list_write.specs.Lines.{lines_of, line_text, is_protocol, is_address_line, is_item, item_good, all_good}
 use Rattle.list_write.specs.Given.{Given, good_server}
@@ -175,16 +176,16 @@ is_address_lem t h = (both-parts _ _ (both-parts _ _ h).1).1
 
 -- its line
 abbrev SaysAddress : List ℕ → Type 0
-SaysAddress l = Says 12 (element_text false l) (λ u. AddressObject u (address_given l))
+SaysAddress l = Says 12 (element_text AddressItem l) (λ u. AddressObject u (address_given l))
 
-line-says : (l : List ℕ) → item_good false l ≡ true → SaysAddress l
+line-says : (l : List ℕ) → item_good AddressItem l ≡ true → SaysAddress l
 unfolding item_good is_item element_text item_text address_given
 line-says l h =
     let i = (both-parts _ _ h).1 in
     address-says (line_text l) i (quotes (drop 4 (line_text l)) (low-utf8 _ (address-low _ (is_address_lem (line_text l) i))))
     (address_given l) refl refl
 
-lines-say : (ls : List (List ℕ)) → all_good false ls ≡ true → Every SaysAddress ls
+lines-say : (ls : List (List ℕ)) → all_good AddressItem ls ≡ true → Every SaysAddress ls
 unfolding all_good
 lines-say [] h = no_more
 lines-say (l ∷ ls) h = let p = both-parts _ _ h in one_more (line-says l p.0) (lines-say ls p.1)
@@ -240,7 +241,7 @@ module _ (q v k r : List ℕ) where
       ∙ ap (λ l. v ++ after_version l) (append_assoc k (after_key []) (r ++ 125 ∷ []))))
 
 module _ (g : Given) (low : Lendable g) (n : Quotes g.name)
-    (a : Row (element_text false) 12 (λ l u. AddressObject u (address_given l)) (lines_of g.addresses)) where
+    (a : Row (element_text AddressItem) 12 (λ l u. AddressObject u (address_given l)) (lines_of g.addresses)) where
   abbrev server_members : List Member
   server_members =
       named name_name (Json.string n.characters) ∷ named version_name (Json.number (decimal g.version))
@@ -249,7 +250,7 @@ module _ (g : Given) (low : Lendable g) (n : Quotes g.name)
       ∷ named addresses_name (Json.array (elements a.trees)) ∷ []
 
   abbrev row_text : List ℕ
-  row_text = row (element_text false) true (lines_of g.addresses)
+  row_text = row (element_text AddressItem) true (lines_of g.addresses)
 
   server-value : Value 14 (server_text g) (Json.object (members server_members))
   unfolding server_text head_text key_text items_text both
@@ -293,7 +294,7 @@ unfolding good_server
 server-says g low h =
     let p = both-parts _ _ h in
     let n = quotes g.name p.0 in
-    let a = row-value (element_text false) 12 (λ l u. AddressObject u (address_given l)) (lines_of g.addresses)
+    let a = row-value (element_text AddressItem) 12 (λ l u. AddressObject u (address_given l)) (lines_of g.addresses)
     (lines-say (lines_of g.addresses) p.1) in
     record {
       tree = Json.object (members (server_members g low n a));

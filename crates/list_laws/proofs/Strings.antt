@@ -1,5 +1,6 @@
 -- A value at a place of a text, and the tree that it means: strings, numbers and arrays as the reader of lists looks at
 -- them, and as the sentences of Listing say it.
+use Rattle.std.specs.Prelude.{None, Option, Some}
 use Prim.Native.Nat.{ℕ, suc, ◌+◌, ◌≤◌}
 use mathlib.Core.Path.{◌≡◌, refl, sym, ◌∙◌, ap, subst}
 use mathlib.Core.Bool.{Bool, true, false}
@@ -9,8 +10,6 @@ use borrow.Author.Tests.{eq-eqb, ne_eqb, eqb-true, leb-true, le-leb}
 use lib.Dec.{eqb}
 use lib.ListN.{length, get_or}
 use Rattle.laws.specs.Pick.{pick, both}
-use Rattle.json_tokens.specs.declared.Skip.{Skip}
-use Rattle.json_tokens.specs.declared.Skip.TheVariants.{Past, Bad}
 use Rattle.json_tokens.specs.Number.{number_at}
 use Rattle.json_strings.specs.Text.{content_at, same_list}
 use Rattle.json_text.specs.Octets.{Text, octets, none, encoded, joined, text_of, plain, is_high as high, is_low as low}
@@ -44,30 +43,30 @@ joined_is (a ∷ b ∷ x) = rw (joined_is x, joined_is (b ∷ x)) refl
 
 -- ---- Strings, by the place of their characters.
 module _ (s : List ℕ) where
-  text_in_lem : (x : Skip) → is_there x ≡ true → text_in s x ≡ encoded (paired (content_in s x))
+  text_in_lem : (x : Option ℕ) → is_there x ≡ true → text_in s x ≡ encoded (paired (content_in s x))
   unfolding is_there text_in content_in text_of
-  text_in_lem (Past p) h = ap encoded (joined_is (content_at s p))
-  text_in_lem Bad h = never h
+  text_in_lem (Some p) h = ap encoded (joined_is (content_at s p))
+  text_in_lem None h = never h
 
-  text-there : (x : Skip) → is_some (text_in s x) ≡ true → is_there x ≡ true
+  text-there : (x : Option ℕ) → is_some (text_in s x) ≡ true → is_there x ≡ true
   unfolding is_there text_in is_some
-  text-there (Past p) h = refl
-  text-there Bad h = never h
+  text-there (Some p) h = refl
+  text-there None h = never h
 
-  decoded-in : (x : Skip) → is_there x ≡ true → decoded_at s x ≡ decode64 (paired (content_in s x))
+  decoded-in : (x : Option ℕ) → is_there x ≡ true → decoded_at s x ≡ decode64 (paired (content_in s x))
   unfolding is_there content_in
-  decoded-in (Past p) h = sym (decode-paired (content_at s p))
-  decoded-in Bad h = never h
+  decoded-in (Some p) h = sym (decode-paired (content_at s p))
+  decoded-in None h = never h
 
-  decoded-there : (x : Skip) → is64 (decoded_at s x) ≡ true → is_there x ≡ true
+  decoded-there : (x : Option ℕ) → is64 (decoded_at s x) ≡ true → is_there x ≡ true
   unfolding is_there is64
-  decoded-there (Past p) h = refl
-  decoded-there Bad h = never h
+  decoded-there (Some p) h = refl
+  decoded-there None h = never h
 
-  word-there : (x : Skip) (a : ℕ) (w : List ℕ) → is_word s x (a ∷ w) ≡ true → is_there x ≡ true
+  word-there : (x : Option ℕ) (a : ℕ) (w : List ℕ) → is_word s x (a ∷ w) ≡ true → is_there x ≡ true
   unfolding is_there is_word content_in same_list
-  word-there (Past p) a w h = refl
-  word-there Bad a w h = never h
+  word-there (Some p) a w h = refl
+  word-there None a w h = never h
 
 pub some-octets : (t : Text) → is_some t ≡ true → t ≡ octets (plain t)
 unfolding is_some
@@ -115,8 +114,8 @@ module _ {s : List ℕ} {d : ℕ} where
 
   -- ---- A string.
   by-quote : (t : Json) (v : ℕ) (b : Bool) → At s d v t → eqb (get_or s v 0) 34 ≡ b
-      → is_there (pick b (Past (v + 1)) Bad) ≡ true
-      → t ≡ Json.string (paired (content_in s (pick b (Past (v + 1)) Bad)))
+      → is_there (pick b (Some (v + 1)) None) ≡ true
+      → t ≡ Json.string (paired (content_in s (pick b (Some (v + 1)) None)))
   unfolding pick is_there content_in
   by-quote t v true a q h = string-is a (eqb-true _ 34 q)
   by-quote t v false a q h = never h
@@ -252,7 +251,7 @@ number-value s (suc d) k l h =
     ) refl
 
 -- a text that is whole, up to where a reader ends
-up-to-lands : {s t x : List ℕ} {r : Skip} (k : ℕ) → Lands s t r → text_to s k r ≡ x → unmarked x ≡ true
+up-to-lands : {s t x : List ℕ} {r : Option ℕ} (k : ℕ) → Lands s t r → text_to s k r ≡ x → unmarked x ≡ true
     → up_to s k r ≡ octets x
 unfolding up_to whole_of pick
 up-to-lands k (lands h z) e m = rw (e, m) refl
@@ -266,16 +265,16 @@ module _ {s : List ℕ} {d : ℕ} where
       let g = value-lands s d v a.text a.behind a.derived a.stops a.stands in
       up-to-lands v (rw (number-value s d v n.0 n.1) at g) n.2 r.whole
 
-  by_end : {t : Json} (v : ℕ) (r : Skip) → At s d v t → number_at s v ≡ r → is_some (up_to s v r) ≡ true
+  by_end : {t : Json} (v : ℕ) (r : Option ℕ) → At s d v t → number_at s v ≡ r → is_some (up_to s v r) ≡ true
       → Integer (plain (up_to s v r)) t
   unfolding up_to is_some
-  by_end v (Past e) a q h =
-      let p = whole-some (text_to s v (Past e)) h in
+  by_end v (Some e) a q h =
+      let p = whole-some (text_to s v (Some e)) h in
       record {
         number = number_past e a q ∙ ap Json.number (sym p.1);
         whole = ap unmarked p.1 ∙ p.0;
       }
-  by_end v Bad a q h = never h
+  by_end v None a q h = never h
 
   pub version-found : {f : Found} (t : Json) → Finds s d f (t ∷ []) → is_some (version_by s f) ≡ true
       → Integer (plain (version_by s f)) t
@@ -290,7 +289,7 @@ pub record Holds (s : List ℕ) (d : ℕ) (ks : List ℕ) (t : Json) : Type 0 wh
 
 module _ {s : List ℕ} {d : ℕ} where
   by-bracket : (v : ℕ) (t : Json) (b : Bool) → At s (suc d) v t → eqb (get_or s v 0) 91 ≡ b
-      → is_there (pick b (Past v) Bad) ≡ true → Holds s d (places_in s d (pick b (Past v) Bad)) t
+      → is_there (pick b (Some v) None) ≡ true → Holds s d (places_in s d (pick b (Some v) None)) t
   unfolding pick is_there places_in
   by-bracket v t true a q h =
       let l = array-is {d = d} a (eqb-true _ 91 q) in record { list = l.list; is = l.is; each = l.each }

@@ -1,4 +1,5 @@
 -- Laws about lists that are read: what stands at the places that a survey knows.
+use Rattle.std.specs.Prelude.{None, Option, Some, Ok}
 use Prim.Native.Nat.{ℕ, zero, suc, ◌≤◌, ◌<◌}
 use mathlib.Core.Path.{◌≡◌, refl, sym, ◌∙◌, ap}
 use mathlib.Core.Bool.{Bool, true, false, true≢false}
@@ -14,8 +15,6 @@ use Rattle.json_values.specs.declared.Found.{Found}
 use Rattle.json_values.specs.declared.Found.TheVariants.{Nothing, Twice}
 use Rattle.json_values.specs.declared.Found.TheVariants.{At as FoundAt}
 use Rattle.report_read.specs.Entry.{list_of as array_of}
-use Rattle.list_read.specs.declared.Element.{Element}
-use Rattle.list_read.specs.declared.Element.TheVariants.{At, Done}
 use Rattle.list_read.specs.declared.Survey.{Survey}
 use Rattle.list_read.specs.Server.{Server, Address, is_some, text_by, is_place, address_good, address_at, all_addresses}
 use Rattle.list_read.specs.Server.{addresses_at, of_address, address_name, askable, server_good, server_at, places_in}
@@ -72,24 +71,24 @@ module _ {B : Type 0} (d : B) (s : List ℕ) where
   nth-urls f (k ∷ ks) (suc j) = nth-urls f ks j
 
 -- ---- All are good, so each is.
-never : {A : Type 0} {k : ℕ} → At k ≡ Done → A
+never : {A : Type 0} {k : ℕ} → Some k ≡ None → A
 never e = let z : ◌≡◌ {A = ℕ} 0 1 = cc in absurd (omega arith)
 
 module _ (s : List ℕ) where
-  servers-good : (ks : List ℕ) (i : ℕ) {k : ℕ} → all_servers s ks ≡ true → At k ≡ item_in (ask_places s ks) i
+  servers-good : (ks : List ℕ) (i : ℕ) {k : ℕ} → all_servers s ks ≡ true → Some k ≡ item_in (ask_places s ks) i
       → server_good s k ≡ true
   unfolding nth item_in all_servers ask_places pick
   servers-good [] i g e = never e
   servers-good (x ∷ ks) i {k} g e = by (askable (server_at s x)) i e
       (λ m f. servers-good ks m (both-two (server_good s x) (all_servers s ks) g) f)
     where
-      by : (b : Bool) (m : ℕ) → At k ≡ nth Done At (pick b (x ∷ ask_places s ks) (ask_places s ks)) m
-          → ((n : ℕ) → At k ≡ item_in (ask_places s ks) n → server_good s k ≡ true) → server_good s k ≡ true
+      by : (b : Bool) (m : ℕ) → Some k ≡ nth None Some (pick b (x ∷ ask_places s ks) (ask_places s ks)) m
+          → ((n : ℕ) → Some k ≡ item_in (ask_places s ks) n → server_good s k ≡ true) → server_good s k ≡ true
       by true zero f h = let q : k ≡ x = cc in rw q (both_one (server_good s x) (all_servers s ks) g)
       by true (suc m) f h = h m f
       by false m f h = h m f
 
-  addresses-good : (ks : List ℕ) (j : ℕ) {k : ℕ} → all_addresses s ks ≡ true → At k ≡ item_in ks j
+  addresses-good : (ks : List ℕ) (j : ℕ) {k : ℕ} → all_addresses s ks ≡ true → Some k ≡ item_in ks j
       → address_good s k ≡ true
   unfolding nth item_in all_addresses
   addresses-good [] j g e = never e
@@ -97,7 +96,7 @@ module _ (s : List ℕ) where
       let q : k ≡ x = cc in rw q (both_one (address_good s x) (all_addresses s ks) g)
   addresses-good (x ∷ ks) (suc j) g e = addresses-good ks j (both-two (address_good s x) (all_addresses s ks) g) e
 
-  urls-good : (ks : List ℕ) (j : ℕ) {k : ℕ} → all_urls s ks ≡ true → At k ≡ item_in ks j → is_url (url_at s k) ≡ true
+  urls-good : (ks : List ℕ) (j : ℕ) {k : ℕ} → all_urls s ks ≡ true → Some k ≡ item_in ks j → is_url (url_at s k) ≡ true
   unfolding nth item_in all_urls
   urls-good [] j g e = never e
   urls-good (x ∷ ks) zero {k} g e =
@@ -175,13 +174,13 @@ addressed-text : (s : List ℕ) (m : ℕ) → address_good s m ≡ true
 unfolding address_good
 addressed-text s m e = place-text (text_by s (of_address s m address_name)) (both-two _ _ (both-two _ _ e))
 
-module _ (s : List ℕ) (k j : ℕ) {f : Found} {x : Element} (q : f ≡ of_server s k addresses_name)
+module _ (s : List ℕ) (k j : ℕ) {f : Found} {x : Option ℕ} (q : f ≡ of_server s k addresses_name)
     (e : x ≡ item_in (places_in s in_addresses (array_of s f)) j) where
   at_address : x ≡ item_in (address_places s k) j
   unfolding address_places
   at_address = e ∙ ap (λ g. item_in (places_in s in_addresses (array_of s g)) j) q
 
-  module _ (g : server_good s k ≡ true) {m : ℕ} (h : x ≡ At m) where
+  module _ (g : server_good s k ≡ true) {m : ℕ} (h : x ≡ Some m) where
     good : address_good s m ≡ true
     good = addresses-good s (address_places s k) j (addresses-all s k g) (sym h ∙ at_address)
 
@@ -201,20 +200,20 @@ module _ (s : List ℕ) (k j : ℕ) {f : Found} {x : Element} (q : f ≡ of_serv
         nth-addresses false s is_tcp (address_places s k) j
         ∙ nth-at false (λ n. is_tcp (address_at s n)) (address_places s k) j (sym h ∙ at_address)
 
-  pub item-lacks : x ≡ Done → address_of (server_at s k) j ≡ none
+  pub item-lacks : x ≡ None → address_of (server_at s k) j ≡ none
   unfolding address_of server_at
   item-lacks h =
       nth-addresses none s place_of (address_places s k) j
       ∙ nth-done none (λ n. place_of (address_at s n)) (address_places s k) j (sym h ∙ at_address)
 
-module _ (s : List ℕ) {y : Survey} (v : Surveys s y) (z : y.code ≡ 0) where
+module _ (s : List ℕ) {y : Survey} (v : Surveys s (Ok y)) where
   pub is-list : is_list s ≡ true
   unfolding list_of pick
   is-list = by (is_list s) refl
     where
       by : (b : Bool) → is_list s ≡ b → is_list s ≡ true
       by true e = e
-      by false e = absurd (code-none (list_of s) (sym v.code ∙ z) (rw e refl))
+      by false e = absurd (code-none (list_of s) v.0 (rw e refl))
 
   pub list-is : list_of s ≡ this (listed s)
   unfolding list_of pick
@@ -233,67 +232,67 @@ module _ (s : List ℕ) {y : Survey} (v : Surveys s y) (z : y.code ≡ 0) where
   asked-most =
       omega (
         arith,
-        (v.known z).asked,
+        v.1.asked,
         asked-fewer s (server_places s),
-        size-most (servers_at s (server_places s)) (sym (ap list_code list-is) ∙ sym v.code ∙ z),
+        size-most (servers_at s (server_places s)) (sym (ap list_code list-is) ∙ v.0),
       )
 
   pub asked-room : y.asked ≤ length y.places
-  asked-room = omega (arith, (v.known z).asked, simp length-take at (ap length (v.known z).places))
+  asked-room = omega (arith, v.1.asked, simp length-take at (ap length v.1.places))
 
   -- ---- The parts, by the places of what says them.
   at_place : (i : ℕ) → item_in (take y.asked y.places) i ≡ item_in (ask_places s (server_places s)) i
-  at_place i = ap (λ ks. item_in ks i) (v.known z).places
+  at_place i = ap (λ ks. item_in ks i) v.1.places
 
-  module _ (i : ℕ) {x : Element} (e : x ≡ item_in (take y.asked y.places) i) where
-    at-server : {k : ℕ} → x ≡ At k → At k ≡ item_in (ask_places s (server_places s)) i
+  module _ (i : ℕ) {x : Option ℕ} (e : x ≡ item_in (take y.asked y.places) i) where
+    at-server : {k : ℕ} → x ≡ Some k → Some k ≡ item_in (ask_places s (server_places s)) i
     at-server h = sym h ∙ e ∙ at_place i
 
-    no-server : x ≡ Done → Done ≡ item_in (ask_places s (server_places s)) i
+    no-server : x ≡ None → None ≡ item_in (ask_places s (server_places s)) i
     no-server h = sym h ∙ e ∙ at_place i
 
-    pub server-good : {k : ℕ} → x ≡ At k → server_good s k ≡ true
+    pub server-good : {k : ℕ} → x ≡ Some k → server_good s k ≡ true
     server-good h = servers-good s (server_places s) i servers-all (at-server h)
 
-    said : {B : Type 0} (d : B) (f : Server → B) {k : ℕ} → x ≡ At k
+    said : {B : Type 0} (d : B) (f : Server → B) {k : ℕ} → x ≡ Some k
         → nth d f (askables (servers_at s (server_places s))) i ≡ f (server_at s k)
     said d f h =
         nth-servers d s f (server_places s) i ∙ nth-at d (λ m. f (server_at s m)) (ask_places s (server_places s)) i
         (at-server h)
 
-    unsaid : {B : Type 0} (d : B) (f : Server → B) → x ≡ Done → nth d f (askables (servers_at s (server_places s))) i ≡ d
+    unsaid : {B : Type 0} (d : B) (f : Server → B) → x ≡ None → nth d f (askables (servers_at s (server_places s))) i ≡ d
     unsaid d f h =
         nth-servers d s f (server_places s) i ∙ nth-done d (λ m. f (server_at s m)) (ask_places s (server_places s)) i
         (no-server h)
 
-    pub name-at : {k : ℕ} {g : Found} → x ≡ At k → g ≡ of_server s k name_name → name_in (list_of s) i ≡ text_by s g
+    pub name-at : {k : ℕ} {g : Found} → x ≡ Some k → g ≡ of_server s k name_name → name_in (list_of s) i ≡ text_by s g
     unfolding name_in listed server_at
     name-at {k} h q =
         ap (λ l. name_in l i) list-is ∙ said none name_of h ∙ some-text _ (named s k (server-good h)) ∙ ap (text_by s)
         (sym q)
 
-    pub name-none : x ≡ Done → name_in (list_of s) i ≡ none
+    pub name-none : x ≡ None → name_in (list_of s) i ≡ none
     unfolding name_in listed
     name-none h = ap (λ l. name_in l i) list-is ∙ unsaid none name_of h
 
-    pub address-at : (j : ℕ) {k : ℕ} → x ≡ At k → address_in (list_of s) i j ≡ address_of (server_at s k) j
+    pub address-at : (j : ℕ) {k : ℕ} → x ≡ Some k → address_in (list_of s) i j ≡ address_of (server_at s k) j
     unfolding address_in listed
     address-at j h = ap (λ l. address_in l i j) list-is ∙ said none (λ w. address_of w j) h
 
-    pub tcp-at : (j : ℕ) {k : ℕ} → x ≡ At k → tcp_in (list_of s) i j ≡ tcp_of (server_at s k) j
+    pub tcp-at : (j : ℕ) {k : ℕ} → x ≡ Some k → tcp_in (list_of s) i j ≡ tcp_of (server_at s k) j
     unfolding tcp_in listed
     tcp-at j h = ap (λ l. tcp_in l i j) list-is ∙ said false (λ w. tcp_of w j) h
 
-    pub address-none : (j : ℕ) → x ≡ Done → address_in (list_of s) i j ≡ none
+    pub address-none : (j : ℕ) → x ≡ None → address_in (list_of s) i j ≡ none
     unfolding address_in listed
     address-none j h = ap (λ l. address_in l i j) list-is ∙ unsaid none (λ w. address_of w j) h
 
-  module _ (i : ℕ) {x : Element} (e : x ≡ item_in (places_in s in_servers (array_of s y.sources)) i) where
+  module _ (i : ℕ) {x : Option ℕ} (e : x ≡ item_in (places_in s in_servers (array_of s y.sources)) i) where
     at_source : x ≡ item_in (source_places s (sources_member s)) i
     unfolding source_places
-    at_source = e ∙ ap (λ f. item_in (places_in s in_servers (array_of s f)) i) (v.known z).sources
+    at_source = e ∙ ap (λ f. item_in (places_in s in_servers (array_of s f)) i) v.1.sources
 
-    pub source-at : {k : ℕ} → x ≡ At k → source_in (list_of s) i ≡ text_by s (FoundAt k)
+    pub source-at : {k : ℕ} → x ≡ Some k → source_in (list_of s) i ≡ text_by s (FoundAt k)
     unfolding source_in listed url_at
     source-at {k} h =
         ap (λ l. source_in l i) list-is ∙ nth-urls none s octets (source_places s (sources_member s)) i
@@ -302,7 +301,7 @@ module _ (s : List ℕ) {y : Survey} (v : Surveys s y) (z : y.code ≡ 0) where
         (urls-good s (source_places s (sources_member s)) i (sources-all s (sources_member s) sources-right)
         (sym h ∙ at_source))
 
-    pub source-none : x ≡ Done → source_in (list_of s) i ≡ none
+    pub source-none : x ≡ None → source_in (list_of s) i ≡ none
     unfolding source_in listed
     source-none h =
         ap (λ l. source_in l i) list-is ∙ nth-urls none s octets (source_places s (sources_member s)) i
@@ -310,4 +309,4 @@ module _ (s : List ℕ) {y : Survey} (v : Surveys s y) (z : y.code ≡ 0) where
 
   pub reports-at : reports_in (list_of s) ≡ text_by s y.reports
   unfolding reports_in listed
-  reports-at = ap reports_in list-is ∙ ap (text_by s) (sym (v.known z).reports)
+  reports-at = ap reports_in list-is ∙ ap (text_by s) (sym v.1.reports)

@@ -1,8 +1,6 @@
 -- For the private functions: the element at a place of a list.
-use Rattle.std.specs.Prelude.{ℕ, List}
-use Rattle.list_read.specs.declared.Element.{Element}
-use Rattle.list_read.specs.declared.Element.TheVariants.{At, Done}
+use Rattle.std.specs.Prelude.{ℕ, List, None, Option, Some}
 use Rattle.list_parts.specs.Parts.{nth}
 
-unfoldable pub item_in : List ℕ → ℕ → Element
-item_in ks j = nth Done At ks j
+unfoldable pub item_in : List ℕ → ℕ → Option ℕ
+item_in ks j = nth None Some ks j

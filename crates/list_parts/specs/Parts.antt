@@ -1,17 +1,15 @@
 -- Parts of a server list (draft 19, section 8.3) by their places, which count from 0: the name and the addresses of a
 -- server that we can ask, a source, and where reports go. Order: 24 and 25 of the list, 36, 19.
-use Rattle.std.specs.Prelude.{ℕ, zero, suc, Bool, false, List, [], ◌∷◌, eqb, ltb, length}
+use Rattle.refusal.specs.declared.Refusal.{Refusal}
+use Rattle.std.specs.Prelude.{ℕ, zero, suc, Bool, false, List, [], ◌∷◌, eqb, ltb, length, Err, Ok, Result}
 use Rattle.laws.specs.Pick.{pick}
 use Rattle.refusal.specs.Refusal.{refusal}
 use Rattle.json_text.specs.Octets.{Text, octets, none}
 use Rattle.list_read.specs.Server.{Server, Address}
 use Rattle.list_read.specs.Listed.{Lists, this, unread}
 use Rattle.list_read.specs.Read.{askables, list_code}
-use Rattle.list_parts.specs.declared.Part.{Part}
-use Rattle.list_parts.specs.declared.Part.TheVariants.{Octets, Refused}
 use Rattle.list_parts.specs.declared.Addressed.{Addressed}
 use Rattle.list_parts.specs.declared.Addressed.TheVariants.{Udp, Tcp}
-use Rattle.list_parts.specs.declared.Addressed.TheVariants.{Refused as NoAddress}
 
 -- what f says of the element at a place, and d where there is no such place
 unfoldable pub nth : {A : Type 0} {B : Type 0} → B → (A → B) → List A → ℕ → B
@@ -64,25 +62,25 @@ reports_in unread = none
 -- ---- What is answered
 
 -- 36 where there is no such part, 19 where the buffer is too short for it, else how many octets it has
-unfoldable pub put_of : Text → ℕ → Part
-put_of (octets x) room = pick (ltb room (length x)) (Refused (refusal 19)) (Octets (length x))
-put_of none room = Refused (refusal 36)
+unfoldable pub put_of : Text → ℕ → Result ℕ Refusal
+put_of (octets x) room = pick (ltb room (length x)) (Err (refusal 19)) (Ok (length x))
+put_of none room = Err (refusal 36)
 
 -- 24 and 25 before
-unfoldable pub part_of : Lists → Text → ℕ → Part
-part_of l t room = pick (eqb (list_code l) 0) (put_of t room) (Refused (refusal (list_code l)))
+unfoldable pub part_of : Lists → Text → ℕ → Result ℕ Refusal
+part_of l t room = pick (eqb (list_code l) 0) (put_of t room) (Err (refusal (list_code l)))
 
 -- the same of an address, with its protocol
-abbrev pub addressed_by : Bool → Part → Addressed
-addressed_by tcp (Octets n) = pick tcp (Tcp n) (Udp n)
-addressed_by tcp (Refused why) = NoAddress why
+abbrev pub addressed_by : Bool → Result ℕ Refusal → Result Addressed Refusal
+addressed_by tcp (Ok n) = pick tcp (Ok (Tcp n)) (Ok (Udp n))
+addressed_by tcp (Err why) = Err why
 
 -- the number of an answer, 0 where nothing is refused
-abbrev pub part_number : Part → ℕ
-part_number (Octets n) = 0
-part_number (Refused why) = why.code
+abbrev pub part_number : Result ℕ Refusal → ℕ
+part_number (Ok n) = 0
+part_number (Err why) = why.code
 
-abbrev pub addressed_number : Addressed → ℕ
-addressed_number (Udp n) = 0
-addressed_number (Tcp n) = 0
-addressed_number (NoAddress why) = why.code
+abbrev pub addressed_number : Result Addressed Refusal → ℕ
+addressed_number (Ok (Udp n)) = 0
+addressed_number (Ok (Tcp n)) = 0
+addressed_number (Err why) = why.code

@@ -7,19 +7,10 @@ mod places;
 mod strings;
 
 pub use parts::{list_reports, list_source, server_address, server_name};
-use refusal::Refusal;
 
-// How many octets of a part stand at the front of the buffer, or why there are none.
-#[derive(Clone, Copy)]
-pub enum Part {
-    Octets(usize),
-    Refused(Refusal),
-}
-
-// The same of an address, by the protocol over which it is asked.
+// How many octets an address has that was put, by the protocol over which it is asked.
 #[derive(Clone, Copy)]
 pub enum Addressed {
     Udp(usize),
     Tcp(usize),
-    Refused(Refusal),
 }

@@ -5,49 +5,32 @@ ghost use Rattle.json_text.specs.Octets.{plain};
 ghost use Rattle.list_read.specs.Server.{text_by, of_address, address_at, address_name};
 ghost use Rattle.list_parts.specs.Parts.{put_of, part_number, addressed_by, addressed_number};
 
-use super::{Addressed, Part};
-use json_text::{TextSize, put_text, text_size};
-use json_tokens::Skip;
+use super::Addressed;
+use json_text::{put_text, text_size};
 use json_values::{Found, find};
 use list_read::{IN_ADDRESS, is_word, string_place};
-use refusal::{codes, refuse};
+use refusal::{Refusal, codes, refuse};
 
 // The text of a member that is a string, at the front of out.
-pub fn put_string(s: &[u8], f: Found, out: &mut [u8]) -> Part
+pub fn put_string(s: &[u8], f: Found, out: &mut [u8]) -> Result<usize, Refusal>
     ensures value { result ≡ put_of (text_by s.now f) (length out.old) }
     ensures out_after { out.new ≡ written (part_number result) (plain (text_by s.now f)) out.old }
 {
-    let Skip::Past(p) = string_place(s, f) else {
-        return Part::Refused(refuse(codes::LIST_PLACE));
+    let Some(p) = string_place(s, f) else {
+        return Err(refuse(codes::LIST_PLACE));
     };
-    let TextSize::Of(n) = text_size(s, p) else {
-        return Part::Refused(refuse(codes::LIST_PLACE));
+    let Some(n) = text_size(s, p) else {
+        return Err(refuse(codes::LIST_PLACE));
     };
     if out.len() < n {
-        return Part::Refused(refuse(codes::ROOM));
+        return Err(refuse(codes::ROOM));
     }
     put_text(s, p, out);
-    Part::Octets(n)
-}
-
-// An answer, by the protocol.
-fn addressed(tcp: bool, part: Part) -> Addressed
-    ensures { (result ≡ addressed_by tcp part) × (addressed_number result ≡ part_number part) }
-{
-    match part {
-        Part::Octets(n) => {
-            if tcp {
-                Addressed::Tcp(n)
-            } else {
-                Addressed::Udp(n)
-            }
-        }
-        Part::Refused(why) => Addressed::Refused(why),
-    }
+    Ok(n)
 }
 
 // The address that the address object at a place says, at the front of out.
-pub fn put_address(s: &[u8], m: usize, out: &mut [u8]) -> Addressed
+pub fn put_address(s: &[u8], m: usize, out: &mut [u8]) -> Result<Addressed, Refusal>
     requires { m < length s.now }
     ensures value { result
         ≡ addressed_by (address_at s.now m).tcp
@@ -59,5 +42,10 @@ pub fn put_address(s: &[u8], m: usize, out: &mut [u8]) -> Addressed
     let protocol = find(s, m, IN_ADDRESS, b"protocol");
     let tcp = is_word(s, string_place(s, protocol), b"tcp");
     let address = find(s, m, IN_ADDRESS, b"address");
-    addressed(tcp, put_string(s, address, out))
+    let n = put_string(s, address, out)?;
+    if tcp {
+        Ok(Addressed::Tcp(n))
+    } else {
+        Ok(Addressed::Udp(n))
+    }
 }

@@ -20,7 +20,7 @@ use Rattle.base64_strict.specs.Alphabet.{sextet_of}
 use Rattle.base64_strict.specs.Decode.{one_of, two_of, three_of, group_of, decode64}
 use Rattle.laws.specs.Least.{least, somewhere}
 use Rattle.json_text.specs.Octets.{is_high, is_low, paired, joined, utf8, encoded, text_of}
-use Rattle.list_address.specs.Chars.{letter, hex_digit, label_char, url_char, of_kind}
+use Rattle.list_address.specs.Chars.{letter, hex_digit, label_char, url_char}
 use Rattle.list_address.specs.Chars.{one_of as oneChar}
 use Rattle.list_address.specs.Runs.{every, is_run}
 use Rattle.list_address.specs.Decimal.{worth, unpadded, is_decimal, is_octet, is_port}
@@ -108,7 +108,7 @@ unfolding pick either both then then_step past_while after past_colon onward wal
     least_second most_second second_at tail_at long_at wide_at unit_at unit_step string_at codes_at content_at same_list literal_at
     plain_at item_step member_step array_of object_of value_by value_at ends_at is_text members_of named place_of value_place
     answer_of count_of tally found_of sextet_of one_of two_of three_of group_of decode64 string_of is64 held elements_of list_in
-    least somewhere is_high is_low paired joined utf8 encoded text_of letter hex_digit label_char url_char of_kind oneChar
+    least somewhere is_high is_low paired joined utf8 encoded text_of letter hex_digit label_char url_char oneChar
     every is_run worth unpadded is_decimal is_octet is_port onto split plus counted or_else right exactly within is_ipv4
     is_group pieces side double_at is_shortened is_ipv6 is_label is_last_label is_name is_domain is_bracketed is_host divides_at
     is_address lower differs_at has_scheme is_ended is_authority percent_at clean_at is_clean is_rest is_https text_in text_by is_some

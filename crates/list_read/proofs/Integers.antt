@@ -1,7 +1,8 @@
 -- Laws about integers in a text: where a number ends, and which bytes it has.
+use Rattle.std.specs.Prelude.{None, Option, Some}
 use Prim.Native.Nat.{ℕ, zero, suc, ◌+◌, ◌-◌, ◌≤◌, ◌<◌}
 use mathlib.Core.Path.{◌≡◌, refl, sym, ◌∙◌}
-use mathlib.Core.Bool.{Bool, true, false, true≢false}
+use mathlib.Core.Bool.{Bool, true, false, not, ◌||◌, true≢false}
 use mathlib.Core.List.{List, [], ◌∷◌}
 use native.Mathlib.Numerals.{add-one}
 use native.Mathlib.Omega.{arith}
@@ -12,8 +13,6 @@ use borrow.Author.Tests.{eq-eqb, ne_eqb, eqb-true}
 use Rattle.laws.specs.Ascii.{ascii}
 use Rattle.laws.specs.Pick.{pick, either, both}
 use Rattle.laws.proofs.Split.{split}
-use Rattle.json_tokens.specs.declared.Skip.{Skip}
-use Rattle.json_tokens.specs.declared.Skip.TheVariants.{Past, Bad}
 use Rattle.json_tokens.specs.Scan.{then, digit, past_while}
 use Rattle.json_tokens.specs.Number.{some_digits, past_minus, whole_at, integer_at, fraction_at, signed_at, exponent_at, number_at, past_sign}
 use Rattle.json_tokens.proofs.Picks.{inside}
@@ -24,18 +23,19 @@ use Rattle.json_strings.specs.Text.{same_list}
 use Rattle.json_text.specs.Octets.{octets, none, plain}
 use Rattle.json_values.specs.declared.Found.{Found}
 use Rattle.json_values.specs.declared.Found.TheVariants.{At, Nothing, Twice}
+use Rattle.std.specs.List.{list_any}
 use Rattle.list_read.specs.Server.{is_mark, unmarked, whole_of, up_to, version_by, is_some}
 
 -- ---- Where a number ends: what holds of the end of its integer, and of the end of any digits further on, holds of its
 -- own end.
-abbrev Ends : (ℕ → Type 0) → Skip → Type 0
-Ends P (Past e) = P e
-Ends P Bad = Unit {0}
+abbrev Ends : (ℕ → Type 0) → Option ℕ → Type 0
+Ends P (Some e) = P e
+Ends P None = Unit {0}
 
-ends-then : (P : ℕ → Type 0) (r : Skip) (f : ℕ → Skip) → Ends P r → ((e : ℕ) → P e → Ends P (f e)) → Ends P (then r f)
+ends-then : (P : ℕ → Type 0) (r : Option ℕ) (f : ℕ → Option ℕ) → Ends P r → ((e : ℕ) → P e → Ends P (f e)) → Ends P (then r f)
 unfolding then
-ends-then P (Past e) f h g = g e h
-ends-then P Bad f h g = tt
+ends-then P (Some e) f h g = g e h
+ends-then P None f h g = tt
 
 module _ (s : List ℕ) where
   module _ (P : ℕ → Type 0) (on : (j k : ℕ) → P j → j ≤ k → Ends P (some_digits s k)) where
@@ -64,7 +64,7 @@ module _ (s : List ℕ) where
   unfolding some_digits pick
   within-digits k = by (eqb (past_while digit s k) k) refl
     where
-      by : (b : Bool) → eqb (past_while digit s k) k ≡ b → Ends Within (pick b Bad (Past (past_while digit s k)))
+      by : (b : Bool) → eqb (past_while digit s k) k ≡ b → Ends Within (pick b None (Some (past_while digit s k)))
       by true e = tt
       by false e =
           split k (length s) (λ h. while-within digit s k h)
@@ -82,26 +82,23 @@ module _ (s : List ℕ) where
   within-number : (k : ℕ) → Ends Within (number_at s k)
   within-number k = ends-number Within (λ i j h g. within-digits j) k (within-integer k)
 
-  module _ {x : Skip} (v : ℕ) {e : ℕ} (p : x ≡ number_at s v) (q : x ≡ Past e) where
+  module _ {x : Option ℕ} (v : ℕ) {e : ℕ} (p : x ≡ number_at s v) (q : x ≡ Some e) where
     pub number-start : v ≤ e
-    number-start = let h : Ahead v (Past e) = rw (sym p ∙ q) at (ahead-number s v) in h
+    number-start = let h : Ahead v (Some e) = rw (sym p ∙ q) at (ahead-number s v) in h
 
     pub number-end : e ≤ length s
-    number-end = let h : Ends Within (Past e) = rw (sym p ∙ q) at (within-number v) in h
+    number-end = let h : Ends Within (Some e) = rw (sym p ∙ q) at (within-number v) in h
 
--- ---- The bytes from k on have no mark.
-module _ (x : List ℕ) (k : ℕ) where
-  pub mark-here : k < length x → is_mark (get_or x k 0) ≡ true → false ≡ unmarked (drop k x)
-  unfolding unmarked pick
-  mark-here h e = rw (drop-cons x k 0 h) (rw e refl)
-
-  pub mark-more : k < length x → is_mark (get_or x k 0) ≡ false → unmarked (drop (k + 1) x) ≡ unmarked (drop k x)
-  unfolding unmarked pick
-  mark-more h e = rw (add-one k, drop-cons x k 0 h) (rw e refl)
-
-  pub mark-done : length x ≤ k → true ≡ unmarked (drop k x)
-  unfolding unmarked
-  mark-done h = rw (drop_of_length-le x h) refl
+-- ---- No byte is a mark.
+pub unmarked-any : (x : List ℕ) → not (list_any is_mark x) ≡ unmarked x
+unfolding unmarked pick
+unmarked-any [] = refl
+unmarked-any (b ∷ bs) = by (is_mark b) (unmarked-any bs)
+  where
+    by : (t : Bool) → not (list_any is_mark bs) ≡ unmarked bs
+        → not (t || list_any is_mark bs) ≡ pick t false (unmarked bs)
+    by true e = refl
+    by false e = e
 
 -- ---- The digit 1.
 pub one-not : (x : List ℕ) → (length x ≡ 1 → ⊥) → false ≡ same_list x (ascii "1")
@@ -172,9 +169,9 @@ module _ (s : List ℕ) (v : ℕ) where
   unfolding up_to
   ours-other e h = by (number_at s v)
     where
-      by : (r : Skip) → false ≡ same_list (plain (up_to s v r)) (ascii "1")
-      by (Past f) = first-other (f - v) (λ z. h (e ∙ z)) ∙ whole-one _
-      by Bad = one-not [] (λ q. omega arith)
+      by : (r : Option ℕ) → false ≡ same_list (plain (up_to s v r)) (ascii "1")
+      by (Some f) = first-other (f - v) (λ z. h (e ∙ z)) ∙ whole-one _
+      by None = one-not [] (λ q. omega arith)
 
   module _ (one : get_or s v 0 ≡ 49) (d : digit (get_or s (v + 1) 0) ≡ true) where
     second-inside : v + 1 < length s
@@ -219,26 +216,26 @@ module _ (s : List ℕ) (v : ℕ) where
     unfolding up_to
     longer-not = by (number_at s v) (ends-number s Far far-digits v far-integer) (within-number s v)
       where
-        by : (r : Skip) → Ends Far r → Ends (Within s) r → false ≡ same_list (plain (up_to s v r)) (ascii "1")
-        by (Past f) h g =
+        by : (r : Option ℕ) → Ends Far r → Ends (Within s) r → false ≡ same_list (plain (up_to s v r)) (ascii "1")
+        by (Some f) h g =
             let n = length-take-le (f - v) (drop v s) (omega (arith, length-drop v s)) in
             one-not (take (f - v) (drop v s)) (λ q. omega (arith, n)) ∙ whole-one _
-        by Bad h g = one-not [] (λ q. omega arith)
+        by None h g = one-not [] (λ q. omega arith)
 
   pub ours-longer : {b c : ℕ} {r : Bool} → b ≡ get_or s v 0 → b ≡ 49 → c ≡ get_or s (v + 1) 0 → r ≡ digit c → r ≡ true
       → false ≡ same_list (plain (up_to s v (number_at s v))) (ascii "1")
   ours-longer e h f d y = longer-not (sym e ∙ h) (rw (sym f) (sym d ∙ y))
 
-module _ (s : List ℕ) (v : ℕ) {x : Skip} (p : x ≡ number_at s v) where
-  pub integer-none : x ≡ Bad → false ≡ is_some (up_to s v (number_at s v))
+module _ (s : List ℕ) (v : ℕ) {x : Option ℕ} (p : x ≡ number_at s v) where
+  pub integer-none : x ≡ None → false ≡ is_some (up_to s v (number_at s v))
   unfolding up_to is_some
   integer-none q = rw (sym p ∙ q) refl
 
-  pub ours-none : x ≡ Bad → false ≡ same_list (plain (up_to s v (number_at s v))) (ascii "1")
+  pub ours-none : x ≡ None → false ≡ same_list (plain (up_to s v (number_at s v))) (ascii "1")
   unfolding up_to
   ours-none q = rw (sym p ∙ q) (one-not [] (λ h. omega arith))
 
-  module _ {e : ℕ} {r : Bool} (q : x ≡ Past e) where
+  module _ {e : ℕ} {r : Bool} (q : x ≡ Some e) where
     pub integer-some : r ≡ unmarked (take (e - v) (drop v s)) → r ≡ is_some (up_to s v (number_at s v))
     unfolding up_to whole_of
     integer-some g = rw (sym p ∙ q) (g ∙ whole-some _ _)

@@ -1,5 +1,6 @@
 -- Laws for the loops over the elements of a list, whose values nest at most d deep. Each goes from element to element:
 -- `left s d x` are the places of those from x on.
+use Rattle.std.specs.Prelude.{None, Option, Some}
 use Prim.Native.Nat.{ℕ, suc, ◌+◌, ◌-◌, ◌<◌}
 use mathlib.Core.Path.{◌≡◌, refl, sym, ◌∙◌, ap}
 use mathlib.Core.Bool.{Bool, true, false, not}
@@ -8,8 +9,6 @@ use native.Mathlib.Omega.{arith}
 use lib.ListN.{length, get_or}
 use borrow.Author.Tests.{ne_eqb, not-true, not-false}
 use Rattle.laws.specs.Pick.{pick, both}
-use Rattle.json_tokens.specs.declared.Skip.{Skip}
-use Rattle.json_tokens.specs.declared.Skip.TheVariants.{Past, Bad}
 use Rattle.json_tokens.specs.declared.Step.{Step}
 use Rattle.json_tokens.specs.declared.Step.TheVariants.{More, End, Wrong}
 use Rattle.json_tokens.specs.Scan.{past_while, blank, then_step, after}
@@ -19,14 +18,7 @@ use Rattle.json_tokens.proofs.Turns.{Forth, starts_more, starts-end, starts-wron
 use Rattle.json_values.proofs.Ahead.{forth-items}
 use Rattle.json_tokens.proofs.While.{while-ahead}
 use Rattle.report_read.specs.Entry.{elements_of}
-use Rattle.list_read.specs.declared.Element.{Element}
-use Rattle.list_read.specs.declared.Element.TheVariants.{At, Done}
 use Rattle.list_read.specs.declared.SeenAddress.{SeenAddress}
-use Rattle.list_read.specs.declared.SeenAddress.TheVariants.{Wrong as WrongAddress}
-use Rattle.list_read.specs.declared.SeenAddress.TheVariants.{Right as RightAddress}
-use Rattle.list_read.specs.declared.Count.{Count}
-use Rattle.list_read.specs.declared.Count.TheVariants.{Of}
-use Rattle.list_read.specs.declared.Count.TheVariants.{Bad as NoCount}
 use Rattle.list_read.specs.Server.{in_addresses, in_servers, address_good, all_addresses}
 use Rattle.list_read.specs.Listed.{is_url, url_at, all_urls}
 use Rattle.list_read.specs.Facts.{element_of, past_item, from, left, Behind, Opens, Turns, address_seen, counted_of}
@@ -37,11 +29,11 @@ module _ (s : List ℕ) (d v : ℕ) {start b : ℕ} (e : start ≡ past_while bl
   unfolding elements_of pick from
   elements-from g = rw (sym e, sym h, ne_eqb b 93 g) refl
 
-  pub opens-none : b ≡ 93 → Opens s d v Done
+  pub opens-none : b ≡ 93 → Opens s d v None
   unfolding elements_of pick left
   opens-none g = record { all = sym (rw (sym e, sym h, g) refl); behind = tt }
 
-  pub opens-some : v < length s → (b ≡ 93 → ⊥) → Opens s d v (At start)
+  pub opens-some : v < length s → (b ≡ 93 → ⊥) → Opens s d v (Some start)
   unfolding left
   opens-some i g = record { all = sym (elements-from g); behind = (omega (arith, e, while-ahead blank s (v + 1)), i) }
 
@@ -58,38 +50,38 @@ module _ (s : List ℕ) (d k : ℕ) {x : Step} (e : x ≡ item_step s (value_at 
   unfolding from
   from_wrong h = starts-wrong (length s) (item_step s (value_at s d)) k e h
 
-  pub turns_more : {j : ℕ} → x ≡ More j → Turns s d k (At j)
+  pub turns_more : {j : ℕ} → x ≡ More j → Turns s d k (Some j)
   unfolding left
   turns_more {j} h =
       let f : Forth (length s) k (More j) = rw (sym e ∙ h) at (forth-items s d k) in
       record { others = from_more h; behind = f }
 
-  pub turns-end : {j : ℕ} → x ≡ End j → Turns s d k Done
+  pub turns-end : {j : ℕ} → x ≡ End j → Turns s d k None
   unfolding left
   turns-end h = record { others = from_end h; behind = tt }
 
-  pub turns-wrong : x ≡ Wrong → Turns s d k Done
+  pub turns-wrong : x ≡ Wrong → Turns s d k None
   unfolding left
   turns-wrong h = record { others = from_wrong h; behind = tt }
 
 pub ruleset turns = (opens-none, opens-some, turns_more, turns-end, turns-wrong)
 
 -- the element behind one that ends at a place
-module _ (s : List ℕ) {x : Skip} where
-  pub past-none : x ≡ Bad → Done ≡ past_item s x
+module _ (s : List ℕ) {x : Option ℕ} where
+  pub past-none : x ≡ None → None ≡ past_item s x
   unfolding past_item element_of then_step
   past-none h = rw h refl
 
-  module _ {e : ℕ} {y : Step} (h : x ≡ Past e) (g : y ≡ after s 93 e) where
-    pub past_more : {j : ℕ} → y ≡ More j → At j ≡ past_item s x
+  module _ {e : ℕ} {y : Step} (h : x ≡ Some e) (g : y ≡ after s 93 e) where
+    pub past_more : {j : ℕ} → y ≡ More j → Some j ≡ past_item s x
     unfolding past_item element_of then_step
     past_more i = rw h (rw (sym g ∙ i) refl)
 
-    pub past_end : {j : ℕ} → y ≡ End j → Done ≡ past_item s x
+    pub past_end : {j : ℕ} → y ≡ End j → None ≡ past_item s x
     unfolding past_item element_of then_step
     past_end i = rw h (rw (sym g ∙ i) refl)
 
-    pub past-wrong : y ≡ Wrong → Done ≡ past_item s x
+    pub past-wrong : y ≡ Wrong → None ≡ past_item s x
     unfolding past_item element_of then_step
     past-wrong i = rw h (rw (sym g ∙ i) refl)
 
@@ -101,14 +93,14 @@ turns-by s d k (More j) e = turns_more s d k e refl
 turns-by s d k (End j) e = turns-end s d k e refl
 turns-by s d k Wrong e = turns-wrong s d k e refl
 
-pub turns-past : {x : Skip} {y : Element} (s : List ℕ) (d k : ℕ) → y ≡ past_item s x → x ≡ value_at s d k → Turns s d k y
+pub turns-past : {x : Option ℕ} {y : Option ℕ} (s : List ℕ) (d k : ℕ) → y ≡ past_item s x → x ≡ value_at s d k → Turns s d k y
 unfolding past_item item_step
 turns-past s d k e h = rw (e, h) (turns-by s d k _ refl)
 
 -- how many elements there are at most from x on
-unfoldable pub fuel : List ℕ → Element → ℕ
-fuel s (At k) = suc (length s - k)
-fuel s Done = 0
+unfoldable pub fuel : List ℕ → Option ℕ → ℕ
+fuel s (Some k) = suc (length s - k)
+fuel s None = 0
 
 -- the first element from k on is the one at k
 pub rest : List ℕ → ℕ → ℕ → List ℕ
@@ -122,111 +114,110 @@ from-head : (s : List ℕ) (d k : ℕ) → from s d k ≡ k ∷ rest s d k
 unfolding from starts rest
 from-head s d k = refl
 
-module _ (s : List ℕ) (d : ℕ) {k : ℕ} {at : Element} (a : at ≡ At k) where
+module _ (s : List ℕ) (d : ℕ) {k : ℕ} {at : Option ℕ} (a : at ≡ Some k) where
   -- the element at k is the first that is left,
   pub left_here : left s d at ≡ k ∷ rest s d k
   unfolding left
   left_here = ap (left s d) a ∙ from-head s d k
 
   -- and the others are those from the next on
-  pub left-on : {x : Element} → Turns s d k x → left s d at ≡ k ∷ left s d x
+  pub left-on : {x : Option ℕ} → Turns s d k x → left s d at ≡ k ∷ left s d x
   unfolding left
   left-on t = ap (left s d) a ∙ t.others
 
-pub turn-less : {s : List ℕ} {d k : ℕ} {at x : Element} → at ≡ At k → Turns s d k x → fuel s x < fuel s at
+pub turn-less : {s : List ℕ} {d k : ℕ} {at x : Option ℕ} → at ≡ Some k → Turns s d k x → fuel s x < fuel s at
 unfolding fuel
 turn-less {s} {d} {k} {at} {x} a t = rw a (by x t.behind)
   where
-    by : (y : Element) → Behind s k y → fuel s y < suc (length s - k)
-    by (At j) b = omega arith
-    by Done b = omega arith
+    by : (y : Option ℕ) → Behind s k y → fuel s y < suc (length s - k)
+    by (Some j) b = omega arith
+    by None b = omega arith
 
 -- at the end nothing is left
-pub left-done : (s : List ℕ) (d : ℕ) {at : Element} → at ≡ Done → left s d at ≡ []
+pub left-done : (s : List ℕ) (d : ℕ) {at : Option ℕ} → at ≡ None → left s d at ≡ []
 unfolding left
 left-done s d a = rw a refl
 
 -- ---- How many came before: fewer than bytes.
-abbrev pub Below : ℕ → Element → Type 0
-Below n (At k) = n < k
-Below n Done = Unit {0}
+abbrev pub Below : ℕ → Option ℕ → Type 0
+Below n (Some k) = n < k
+Below n None = Unit {0}
 
-pub below-first : {s : List ℕ} {d v : ℕ} {x : Element} → Opens s d v x → Below 0 x
+pub below-first : {s : List ℕ} {d v : ℕ} {x : Option ℕ} → Opens s d v x → Below 0 x
 below-first {s} {d} {v} {x} o = by x o.behind
   where
-    by : (y : Element) → Behind s v y → Below 0 y
-    by (At k) b = omega arith
-    by Done b = tt
+    by : (y : Option ℕ) → Behind s v y → Below 0 y
+    by (Some k) b = omega arith
+    by None b = tt
 
-pub below-here : {n k : ℕ} {at : Element} → Below n at → at ≡ At k → n < k
+pub below-here : {n k : ℕ} {at : Option ℕ} → Below n at → at ≡ Some k → n < k
 below-here l a = rw a at l
 
-pub below_on : {s : List ℕ} {d : ℕ} (n : ℕ) {k : ℕ} {at x : Element} → Below n at → at ≡ At k → Turns s d k x → Below (n + 1) x
+pub below_on : {s : List ℕ} {d : ℕ} (n : ℕ) {k : ℕ} {at x : Option ℕ} → Below n at → at ≡ Some k → Turns s d k x → Below (n + 1) x
 below_on {s} {d} n {k} {at} {x} l a t = by x t.behind
   where
-    by : (y : Element) → Behind s k y → Below (n + 1) y
-    by (At j) b = omega (arith, below-here l a)
-    by Done b = tt
+    by : (y : Option ℕ) → Behind s k y → Below (n + 1) y
+    by (Some j) b = omega (arith, below-here l a)
+    by None b = tt
 
 -- ---- All URLs.
-pub urls-first : {s : List ℕ} {v : ℕ} {x : Element} → Opens s in_servers v x
+pub urls-first : {s : List ℕ} {v : ℕ} {x : Option ℕ} → Opens s in_servers v x
     → all_urls s (left s in_servers x) ≡ all_urls s (elements_of s in_servers v)
 urls-first {s} o = ap (all_urls s) o.all
 
-module _ (s : List ℕ) {r : Bool} {at : Element} (i : all_urls s (left s in_servers at) ≡ r) where
-  pub urls-done : at ≡ Done → true ≡ r
+module _ (s : List ℕ) {r : Bool} {at : Option ℕ} (i : all_urls s (left s in_servers at) ≡ r) where
+  pub urls-done : at ≡ None → true ≡ r
   unfolding all_urls
   urls-done e = rw (left-done s in_servers e) at i
 
-  module _ {k : ℕ} {t : Bool} (a : at ≡ At k) (e : t ≡ is_url (url_at s k)) where
+  module _ {k : ℕ} {t : Bool} (a : at ≡ Some k) (e : t ≡ is_url (url_at s k)) where
     pub urls-stop : not t ≡ true → false ≡ r
     unfolding all_urls both
     urls-stop h = rw (left_here s in_servers a, sym e ∙ not-true t h) at i
 
-    pub urls-turn : {x : Element} → not t ≡ false → Turns s in_servers k x → all_urls s (left s in_servers x) ≡ r
+    pub urls-turn : {x : Option ℕ} → not t ≡ false → Turns s in_servers k x → all_urls s (left s in_servers x) ≡ r
     unfolding all_urls both
     urls-turn h g = rw (left-on s in_servers a g, sym e ∙ not-false t h) at i
 
 pub ruleset urls = (urls-first, urls-done, urls-stop, urls-turn, turn-less)
 
 -- ---- How many addresses: n before this one; r is what is said of all.
-unfoldable pub added : ℕ → Count → Count
-added n (Of m) = Of (n + m)
-added n NoCount = NoCount
+unfoldable pub added : ℕ → Option ℕ → Option ℕ
+added n (Some m) = Some (n + m)
+added n None = None
 
-pub record Addressed (s : List ℕ) (r : Count) (at : Element) (n : ℕ) : Type 0 where
+pub record Addressed (s : List ℕ) (r : Option ℕ) (at : Option ℕ) (n : ℕ) : Type 0 where
   pub low : Below n at
   pub all : added n (counted_of s (left s in_addresses at)) ≡ r
 
-added_none : (c : Count) → added 0 c ≡ c
+added_none : (c : Option ℕ) → added 0 c ≡ c
 unfolding added
-added_none (Of m) = let z : 0 + m ≡ m = omega arith in ap Of z
-added_none NoCount = refl
+added_none (Some m) = let z : 0 + m ≡ m = omega arith in ap Some z
+added_none None = refl
 
-pub addressed-first : {s : List ℕ} {v : ℕ} {x : Element} → Opens s in_addresses v x
+pub addressed-first : {s : List ℕ} {v : ℕ} {x : Option ℕ} → Opens s in_addresses v x
     → Addressed s (counted_of s (elements_of s in_addresses v)) x 0
 addressed-first {s} o = record { low = below-first o; all = added_none _ ∙ ap (counted_of s) o.all }
 
 -- what is seen of an address object
-wrong_pick : (b : Bool) (x : Skip) → WrongAddress ≡ pick b (RightAddress x) WrongAddress → b ≡ false
+pub wrong_pick : {A : Type 0} (b : Bool) (x : A) → None ≡ pick b (Some x) None → b ≡ false
 unfolding pick
-wrong_pick true x q = let z : ◌≡◌ {A = ℕ} 0 1 = cc in absurd (omega arith)
+wrong_pick true x q = cc
 wrong_pick false x q = refl
 
-right-pick : (b : Bool) (x : Skip) {y : Skip} → RightAddress y ≡ pick b (RightAddress x) WrongAddress
-    → (b ≡ true) × (y ≡ x)
+pub right-pick : {A : Type 0} (b : Bool) (x : A) {y : A} → Some y ≡ pick b (Some x) None → (b ≡ true) × (y ≡ x)
 unfolding pick
 right-pick true x q = (refl, cc)
-right-pick false x q = let z : ◌≡◌ {A = ℕ} 0 1 = cc in absurd (omega arith)
+right-pick false x q = cc
 
-seen-wrong : (s : List ℕ) (k : ℕ) → WrongAddress ≡ address_seen s k → address_good s k ≡ false
+seen-wrong : (s : List ℕ) (k : ℕ) → None ≡ address_seen s k → address_good s k ≡ false
 unfolding address_seen
-seen-wrong s k e = wrong_pick (address_good s k) (value_at s in_addresses k) e
+seen-wrong s k e = wrong_pick _ _ e
 
-seen-right : (s : List ℕ) (k : ℕ) {y : Skip} → RightAddress y ≡ address_seen s k
-    → (address_good s k ≡ true) × (y ≡ value_at s in_addresses k)
+seen-right : (s : List ℕ) (k : ℕ) {y : SeenAddress} → Some y ≡ address_seen s k
+    → (address_good s k ≡ true) × (y.end ≡ value_at s in_addresses k)
 unfolding address_seen
-seen-right s k e = right-pick (address_good s k) (value_at s in_addresses k) e
+seen-right s k e = let p = right-pick _ _ e in (p.0, ap (λ (w : SeenAddress). w.end) p.1)
 
 -- one more, and the rest
 added-on : (s : List ℕ) (n k : ℕ) (ks : List ℕ) → address_good s k ≡ true
@@ -234,27 +225,27 @@ added-on : (s : List ℕ) (n k : ℕ) (ks : List ℕ) → address_good s k ≡ t
 unfolding counted_of all_addresses both added pick
 added-on s n k ks e = rw e (by (all_addresses s ks))
   where
-    by : (b : Bool) → added n (pick b (Of (suc (length ks))) NoCount) ≡ added (n + 1) (pick b (Of (length ks)) NoCount)
-    by true = let z : n + suc (length ks) ≡ n + 1 + length ks = omega arith in ap Of z
+    by : (b : Bool) → added n (pick b (Some (suc (length ks))) None) ≡ added (n + 1) (pick b (Some (length ks)) None)
+    by true = let z : n + suc (length ks) ≡ n + 1 + length ks = omega arith in ap Some z
     by false = refl
 
-module _ {s : List ℕ} {r : Count} {at : Element} {n : ℕ} (c : Addressed s r at n) where
-  pub addressed-done : at ≡ Done → Of n ≡ r
+module _ {s : List ℕ} {r : Option ℕ} {at : Option ℕ} {n : ℕ} (c : Addressed s r at n) where
+  pub addressed-done : at ≡ None → Some n ≡ r
   unfolding counted_of all_addresses pick added
   addressed-done e =
       let z : n ≡ n + 0 = omega arith in
-      ap Of z ∙ (rw (left-done s in_addresses e) at c.all)
+      ap Some z ∙ (rw (left-done s in_addresses e) at c.all)
 
-  module _ {k : ℕ} (a : at ≡ At k) where
+  module _ {k : ℕ} (a : at ≡ Some k) where
     pub addressed-less : n < k
     addressed-less = below-here c.low a
 
-    module _ {y : SeenAddress} (e : y ≡ address_seen s k) where
-      pub addressed-stop : y ≡ WrongAddress → NoCount ≡ r
+    module _ {y : Option SeenAddress} (e : y ≡ address_seen s k) where
+      pub addressed-stop : y ≡ None → None ≡ r
       unfolding counted_of all_addresses both pick added
       addressed-stop h = rw (left_here s in_addresses a, seen-wrong s k (sym h ∙ e)) at c.all
 
-      module _ {end : Skip} (h : y ≡ RightAddress end) {x : Element} (l : x ≡ past_item s end) where
+      module _ {seen : SeenAddress} (h : y ≡ Some seen) {x : Option ℕ} (l : x ≡ past_item s seen.end) where
         turned : Turns s in_addresses k x
         turned = turns-past s in_addresses k l (seen-right s k (sym h ∙ e)).1
 

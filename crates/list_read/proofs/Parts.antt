@@ -1,4 +1,5 @@
 -- Laws for the returns of the small readers: strings, texts, keys, addresses, and a server object by its members.
+use Rattle.std.specs.Prelude.{None, Option, Some}
 use Prim.Native.Nat.{ℕ, suc, ◌+◌, ◌-◌, ◌≤◌, ◌<◌}
 use mathlib.Core.Path.{◌≡◌, refl, sym, ◌∙◌, ap}
 use mathlib.Core.Bool.{Bool, true, false, not}
@@ -7,11 +8,9 @@ use native.Mathlib.Omega.{arith}
 use lib.Dec.{eqb, ltb}
 use lib.ListN.{length, get_or, take, drop, length-drop}
 use lib.Seq.{take-append_seam, length-take-le}
-use borrow.Author.Tests.{eqb-true, eq-eqb, ne_eqb, le-leb, lt-leb}
+use borrow.Author.Tests.{eqb-true, eq-eqb, ne_eqb, le-leb, lt-leb, not-true, not-false}
 use Rattle.laws.specs.Pick.{pick, both}
 use Rattle.laws.specs.Pasted.{fronted}
-use Rattle.json_tokens.specs.declared.Skip.{Skip}
-use Rattle.json_tokens.specs.declared.Skip.TheVariants.{Past, Bad}
 use Rattle.json_tokens.specs.Scan.{past_while}
 use Rattle.json_tokens.proofs.Picks.{inside}
 use Rattle.json_tokens.proofs.While.{while-ahead}
@@ -19,32 +18,22 @@ use Rattle.json_strings.specs.Text.{unescaped, content_at, same_list}
 use Rattle.json_text.specs.Octets.{Text, octets, none, text_of, plain, size_of}
 use Rattle.json_text.specs.Facts.{good}
 use Rattle.json_text.proofs.NoEscapes.{plain-text}
-use Rattle.json_text.specs.declared.TextSize.{TextSize}
-use Rattle.json_text.specs.declared.TextSize.TheVariants.{Of}
-use Rattle.json_text.specs.declared.TextSize.TheVariants.{Bad as NoText}
 use Rattle.json_values.specs.declared.Found.{Found}
 use Rattle.json_values.specs.declared.Found.TheVariants.{At, Nothing, Twice}
 use Rattle.json_values.specs.Members.{found_of}
 use Rattle.json_values.specs.Value.{value_at, object_of}
 use Rattle.json_values.proofs.Ahead.{value-is, object-is}
 use Rattle.base64_strict.specs.Decode.{decode64}
-use Rattle.json_base64.specs.declared.Size.{Size}
-use Rattle.json_base64.specs.declared.Size.TheVariants.{Of as Bytes}
-use Rattle.json_base64.specs.declared.Size.TheVariants.{Bad as NoSize}
 use Rattle.report_read.specs.Entry.{string_of, elements_of, size_in, held}
 use Rattle.report_read.specs.Entry.{list_of as array_of}
 use Rattle.list_read.proofs.Small.{both-no, both-on, both-no-eq, both-on-eq, size-good, size-no-good, size-length}
 use Rattle.list_address.specs.Address.{is_address}
 use Rattle.list_address.specs.Https.{is_https}
+use Rattle.list_read.specs.declared.SeenAddress.{SeenAddress}
+use Rattle.list_read.specs.declared.ServerParts.{ServerParts}
+use Rattle.list_read.specs.declared.Seen.{Seen}
 use Rattle.list_read.specs.declared.Sort.{Sort}
 use Rattle.list_read.specs.declared.Sort.TheVariants.{Place, Url}
-use Rattle.list_read.specs.declared.Count.{Count}
-use Rattle.list_read.specs.declared.Count.TheVariants.{Of as Counted}
-use Rattle.list_read.specs.declared.Count.TheVariants.{Bad as NoCount}
-use Rattle.list_read.specs.declared.SeenAddress.TheVariants.{Wrong as WrongAddress}
-use Rattle.list_read.specs.declared.SeenAddress.TheVariants.{Right as RightAddress}
-use Rattle.list_read.specs.declared.Seen.{Seen}
-use Rattle.list_read.specs.declared.Seen.TheVariants.{Wrong, Right}
 use Rattle.list_read.specs.Server.{is_some, text_in, text_by, version_by, content_in, is_there, key_by, passes, is_word}
 use Rattle.list_read.specs.Server.{is_protocol, is_place, of_address, address_good, addresses_at, places_in}
 use Rattle.list_read.specs.Server.{addresses_good, of_server, address_places, server_good, server_at, askable}
@@ -59,31 +48,31 @@ unfolding same_list
 same_none [] = refl
 same_none (x ∷ w) = ne_eqb (length (x ∷ w)) 0 (λ h. omega arith)
 
-module _ (s : List ℕ) (x : Skip) (w : List ℕ) where
-  pub word_at : {p : ℕ} {r : Bool} → x ≡ Past p → r ≡ same_list (content_at s p) w → r ≡ is_word s x w
+module _ (s : List ℕ) (x : Option ℕ) (w : List ℕ) where
+  pub word_at : {p : ℕ} {r : Bool} → x ≡ Some p → r ≡ same_list (content_at s p) w → r ≡ is_word s x w
   unfolding is_word content_in
   word_at h g = rw h g
 
-  pub word_none : x ≡ Bad → eqb (length w) 0 ≡ is_word s x w
+  pub word_none : x ≡ None → eqb (length w) 0 ≡ is_word s x w
   unfolding is_word content_in
   word_none h = rw h (same_none w)
 
 -- ---- Keys.
-module _ (s : List ℕ) (f : Found) {x : Skip} (e : x ≡ string_of s f) where
-  pub key-none : x ≡ Bad → NoSize ≡ size_in (key_by s f)
+module _ (s : List ℕ) (f : Found) {x : Option ℕ} (e : x ≡ string_of s f) where
+  pub key-none : x ≡ None → None ≡ size_in (key_by s f)
   unfolding size_in key_by
   key-none h = rw (sym e ∙ h) refl
 
-  pub key-at : {p : ℕ} {r : Size} → x ≡ Past p → r ≡ size_in (decode64 (content_at s p)) → r ≡ size_in (key_by s f)
+  pub key-at : {p : ℕ} {r : Option ℕ} → x ≡ Some p → r ≡ size_in (decode64 (content_at s p)) → r ≡ size_in (key_by s f)
   unfolding key_by
   key-at h g = rw (sym e ∙ h) g
 
 -- ---- Texts.
-of-octets : (t : Text) {n : ℕ} → Of n ≡ size_of 0 t → (t ≡ octets (plain t)) × (n ≡ length (plain t))
+of-octets : (t : Text) {n : ℕ} → Some n ≡ size_of 0 t → (t ≡ octets (plain t)) × (n ≡ length (plain t))
 of-octets (octets x) {n} q = let z : n ≡ 0 + length x = cc in (refl, omega arith)
 of-octets none {n} q = let z : ◌≡◌ {A = ℕ} 0 1 = cc in absurd (omega arith)
 
-of_none : (t : Text) → NoText ≡ size_of 0 t → t ≡ none
+of_none : (t : Text) → None ≡ size_of 0 t → t ≡ none
 of_none (octets x) q = let z : ◌≡◌ {A = ℕ} 0 1 = cc in absurd (omega arith)
 of_none none q = refl
 
@@ -115,39 +104,39 @@ unfolding of_sort
 of-url x h g = rw h g
 
 -- a member that is a string
-module _ (s : List ℕ) (f : Found) {x : Skip} (e : x ≡ string_of s f) where
-  text-none : x ≡ Bad → text_by s f ≡ none
+module _ (s : List ℕ) (f : Found) {x : Option ℕ} (e : x ≡ string_of s f) where
+  text-none : x ≡ None → text_by s f ≡ none
   unfolding text_by text_in
   text-none h = rw (sym e ∙ h) refl
 
-  text-some : {p : ℕ} → x ≡ Past p → text_by s f ≡ text_of (content_at s p)
+  text-some : {p : ℕ} → x ≡ Some p → text_by s f ≡ text_of (content_at s p)
   unfolding text_by text_in
   text-some h = rw (sym e ∙ h) refl
 
-  pub has-none : x ≡ Bad → false ≡ is_some (text_by s f)
+  pub has-none : x ≡ None → false ≡ is_some (text_by s f)
   unfolding is_some
   has-none h = rw (text-none h) refl
 
-  pub has_some : {p : ℕ} {r : Bool} → x ≡ Past p → r ≡ good (text_of (content_at s p)) → r ≡ is_some (text_by s f)
+  pub has_some : {p : ℕ} {r : Bool} → x ≡ Some p → r ≡ good (text_of (content_at s p)) → r ≡ is_some (text_by s f)
   has_some h g = g ∙ some_good _ ∙ ap is_some (sym (text-some h))
 
-  pub pass-none : (q : List ℕ → Bool) → x ≡ Bad → false ≡ passes q (text_by s f)
+  pub pass-none : (q : List ℕ → Bool) → x ≡ None → false ≡ passes q (text_by s f)
   unfolding passes
   pass-none q h = rw (text-none h) refl
 
-  pub pass-some : (q : List ℕ → Bool) {p : ℕ} {r : Bool} → x ≡ Past p → r ≡ passes q (text_of (content_at s p))
+  pub pass-some : (q : List ℕ → Bool) {p : ℕ} {r : Bool} → x ≡ Some p → r ≡ passes q (text_of (content_at s p))
       → r ≡ passes q (text_by s f)
   pass-some q h g = g ∙ ap (passes q) (sym (text-some h))
 
 pub ruleset texts = (has-none, has_some, pass-none, pass-some)
 
 -- a text that is written out
-module _ (t : Text) {y : TextSize} (g : y ≡ size_of 0 t) where
-  pub pass-bad : (q : List ℕ → Bool) → y ≡ NoText → false ≡ passes q t
+module _ (t : Text) {y : Option ℕ} (g : y ≡ size_of 0 t) where
+  pub pass-bad : (q : List ℕ → Bool) → y ≡ None → false ≡ passes q t
   unfolding passes
   pass-bad q i = rw (of_none t (sym i ∙ g)) refl
 
-  module _ {n : ℕ} (i : y ≡ Of n) where
+  module _ {n : ℕ} (i : y ≡ Some n) where
     is-octets : t ≡ octets (plain t)
     is-octets = (of-octets t (sym i ∙ g)).0
 
@@ -198,22 +187,22 @@ unfolding pick
 ends-at s d k h e = value-is s d k ∙ rw e (object-is s d k h)
 
 -- ---- An address object.
-seen_no : (s : List ℕ) (k : ℕ) → false ≡ address_good s k → WrongAddress ≡ address_seen s k
+seen_no : (s : List ℕ) (k : ℕ) → false ≡ address_good s k → None ≡ address_seen s k
 unfolding address_seen pick
 seen_no s k h = rw (sym h) refl
 
 module _ (s : List ℕ) (k : ℕ) {b : ℕ} (e : b ≡ get_or s k 0) where
-  pub address-brace : (b ≡ 123 → ⊥) → WrongAddress ≡ address_seen s k
+  pub address-brace : (b ≡ 123 → ⊥) → None ≡ address_seen s k
   unfolding address_good
   address-brace h = seen_no s k (both-no-eq _ e h)
 
-  module _ (h : b ≡ 123) {f : Found} (i : f ≡ found_of s protocol_name in_address k) {x : Skip} (j : x ≡ string_of s f)
+  module _ (h : b ≡ 123) {f : Found} (i : f ≡ found_of s protocol_name in_address k) {x : Option ℕ} (j : x ≡ string_of s f)
       {t : Bool} (g : t ≡ is_protocol s x) where
     of-protocol : t ≡ is_protocol s (string_of s (of_address s k protocol_name))
     unfolding of_address
     of-protocol = g ∙ ap (is_protocol s) (j ∙ ap (string_of s) i)
 
-    pub address-protocol : not t ≡ true → WrongAddress ≡ address_seen s k
+    pub address-protocol : not t ≡ true → None ≡ address_seen s k
     unfolding address_good
     address-protocol l = seen_no s k (both-on-eq e h (both-no _ of-protocol l))
 
@@ -223,77 +212,77 @@ module _ (s : List ℕ) (k : ℕ) {b : ℕ} (e : b ≡ get_or s k 0) where
       unfolding address_good of_address
       good-is = both-on-eq e h (both-on of-protocol l (n ∙ ap (λ q. is_place (text_by s q)) m))
 
-      pub address-wrong : w ≡ false → WrongAddress ≡ address_seen s k
-      address-wrong o = seen_no s k (sym o ∙ good-is)
+      pub address-wrong : not w ≡ true → None ≡ address_seen s k
+      address-wrong o = seen_no s k (sym (not-true w o) ∙ good-is)
 
-      pub address-right : {end : Skip} → end ≡ object_of s (value_at s in_address) k → w ≡ true
-          → RightAddress end ≡ address_seen s k
+      pub address-right : {end : Option ℕ} → end ≡ object_of s (value_at s in_address) k → not w ≡ false
+          → Some (record { end = end }) ≡ address_seen s k
       unfolding address_seen pick
       address-right q o =
           let z : value_at s in_addresses k ≡ object_of s (value_at s in_address) k =
           ends-at s in_addresses k (λ y. omega arith) (eq-eqb (get_or s k 0) 123 (sym e ∙ h)) in
-          rw (sym good-is ∙ o) (ap RightAddress (q ∙ sym z))
+          rw (sym good-is ∙ not-false w o) (ap (λ (e : Option ℕ). Some (record { end = e })) (q ∙ sym z))
 
 pub ruleset address = (address-brace, address-protocol, address-wrong, address-right)
 
 -- ---- Lists of addresses.
-array-at : (s : List ℕ) (u v : ℕ) (b : Bool) → eqb (get_or s u 0) 91 ≡ b → pick b (Past u) Bad ≡ Past v → v < length s
+array-at : (s : List ℕ) (u v : ℕ) (b : Bool) → eqb (get_or s u 0) 91 ≡ b → pick b (Some u) None ≡ Some v → v < length s
 unfolding pick
 array-at s u v true e q = let z : u ≡ v = cc in omega (arith, inside {k = get_or s u 0} s refl (eqb-true _ _ e) tt)
 array-at s u v false e q = let z : ◌≡◌ {A = ℕ} 0 1 = cc in absurd (omega arith)
 
-array-found : (s : List ℕ) (f : Found) (v : ℕ) → array_of s f ≡ Past v → v < length s
+array-found : (s : List ℕ) (f : Found) (v : ℕ) → array_of s f ≡ Some v → v < length s
 unfolding array_of
 array-found s (At u) v q = array-at s u v _ refl q
 array-found s Nothing v q = let z : ◌≡◌ {A = ℕ} 0 1 = cc in absurd (omega arith)
 array-found s Twice v q = let z : ◌≡◌ {A = ℕ} 0 1 = cc in absurd (omega arith)
 
-pub array-inside : {x : Skip} {v : ℕ} (s : List ℕ) (f : Found) → x ≡ array_of s f → x ≡ Past v → v < length s
+pub array-inside : {x : Option ℕ} {v : ℕ} (s : List ℕ) (f : Found) → x ≡ array_of s f → x ≡ Some v → v < length s
 array-inside s f e h = array-found s f _ (sym e ∙ h)
 
-module _ (s : List ℕ) (f : Found) {x : Skip} (e : x ≡ array_of s f) where
-  pub counted_none : x ≡ Bad → NoCount ≡ counted_in s (array_of s f)
+module _ (s : List ℕ) (f : Found) {x : Option ℕ} (e : x ≡ array_of s f) where
+  pub counted_none : x ≡ None → None ≡ counted_in s (array_of s f)
   unfolding counted_in
   counted_none h = rw (sym e ∙ h) refl
 
-  pub counted-at : {v : ℕ} {r : Count} → x ≡ Past v → r ≡ counted_of s (elements_of s in_addresses v)
+  pub counted-at : {v : ℕ} {r : Option ℕ} → x ≡ Some v → r ≡ counted_of s (elements_of s in_addresses v)
       → r ≡ counted_in s (array_of s f)
   unfolding counted_in
   counted-at h g = rw (sym e ∙ h) g
 
 -- what a count says
-counted_pick : (b : Bool) (n : ℕ) {m : ℕ} → Counted m ≡ pick b (Counted n) NoCount → (b ≡ true) × (m ≡ n)
+counted_pick : (b : Bool) (n : ℕ) {m : ℕ} → Some m ≡ pick b (Some n) None → (b ≡ true) × (m ≡ n)
 unfolding pick
 counted_pick true n q = (refl, cc)
 counted_pick false n q = let z : ◌≡◌ {A = ℕ} 0 1 = cc in absurd (omega arith)
 
-counted-pick-no : (b : Bool) (n : ℕ) → NoCount ≡ pick b (Counted n) NoCount → b ≡ false
+counted-pick-no : (b : Bool) (n : ℕ) → None ≡ pick b (Some n) None → b ≡ false
 unfolding pick
 counted-pick-no true n q = let z : ◌≡◌ {A = ℕ} 0 1 = cc in absurd (omega arith)
 counted-pick-no false n q = refl
 
-counted-good : (s : List ℕ) (x : Skip) {m : ℕ} → Counted m ≡ counted_in s x
+counted-good : (s : List ℕ) (x : Option ℕ) {m : ℕ} → Some m ≡ counted_in s x
     → (true ≡ addresses_good s x) × (m ≡ length (places_in s in_addresses x))
 unfolding counted_in counted_of addresses_good is_there places_in both
-counted-good s (Past v) q = let z = counted_pick _ _ q in (sym z.0, z.1)
-counted-good s Bad q = let z : ◌≡◌ {A = ℕ} 0 1 = cc in absurd (omega arith)
+counted-good s (Some v) q = let z = counted_pick _ _ q in (sym z.0, z.1)
+counted-good s None q = let z : ◌≡◌ {A = ℕ} 0 1 = cc in absurd (omega arith)
 
-counted-bad : (s : List ℕ) (x : Skip) → NoCount ≡ counted_in s x → false ≡ addresses_good s x
+counted-bad : (s : List ℕ) (x : Option ℕ) → None ≡ counted_in s x → false ≡ addresses_good s x
 unfolding counted_in counted_of addresses_good is_there places_in both
-counted-bad s (Past v) q = sym (counted-pick-no _ _ q)
-counted-bad s Bad q = refl
+counted-bad s (Some v) q = sym (counted-pick-no _ _ q)
+counted-bad s None q = refl
 
 -- ---- A server object by its members.
-seen-wrong : (s : List ℕ) (a b c d e : Found) (end : Skip) → false ≡ parts_good s a b c d e
-    → Wrong ≡ seen_by s a b c d e end
+seen-wrong : (s : List ℕ) (ps : ServerParts) (end : Option ℕ) → false ≡ parts_good s ps
+    → None ≡ seen_by s ps end
 unfolding seen_by pick
-seen-wrong s a b c d e end h = rw (sym h) refl
+seen-wrong s ps end h = rw (sym h) refl
 
-there-no : {x y : Skip} → x ≡ y → x ≡ Bad → false ≡ is_there y
+there-no : {x y : Option ℕ} → x ≡ y → x ≡ None → false ≡ is_there y
 unfolding is_there
 there-no e h = rw (sym e ∙ h) refl
 
-there-yes : {x y : Skip} {p : ℕ} → x ≡ y → x ≡ Past p → true ≡ is_there y
+there-yes : {x y : Option ℕ} {p : ℕ} → x ≡ y → x ≡ Some p → true ≡ is_there y
 unfolding is_there
 there-yes e h = rw (sym e ∙ h) refl
 
@@ -305,45 +294,45 @@ next-is : {b r q : Bool} → true ≡ b → r ≡ q → r ≡ both b q
 unfolding both
 next-is h g = rw (sym h) g
 
-module _ (s : List ℕ) (a b c d e : Found) (end : Skip) {t : Bool} (i : t ≡ is_some (text_by s a)) where
-  pub seen-name : not t ≡ true → Wrong ≡ seen_by s a b c d e end
+module _ (s : List ℕ) (ps : ServerParts) (end : Option ℕ) {t : Bool} (i : t ≡ is_some (text_by s ps.name)) where
+  pub seen-name : not t ≡ true → None ≡ seen_by s ps end
   unfolding parts_good
-  seen-name h = seen-wrong s a b c d e end (both-no _ i h)
+  seen-name h = seen-wrong s ps end (both-no _ i h)
 
-  module _ (h : not t ≡ false) {u : Bool} (j : u ≡ is_some (version_by s b)) where
-    pub seen-version : not u ≡ true → Wrong ≡ seen_by s a b c d e end
+  module _ (h : not t ≡ false) {u : Bool} (j : u ≡ is_some (version_by s ps.version)) where
+    pub seen-version : not u ≡ true → None ≡ seen_by s ps end
     unfolding parts_good
-    seen-version g = seen-wrong s a b c d e end (both-on i h (both-no _ j g))
+    seen-version g = seen-wrong s ps end (both-on i h (both-no _ j g))
 
-    module _ (g : not u ≡ false) {x : Skip} (k : x ≡ string_of s c) where
-      pub seen-scheme : x ≡ Bad → Wrong ≡ seen_by s a b c d e end
+    module _ (g : not u ≡ false) {x : Option ℕ} (k : x ≡ string_of s ps.scheme) where
+      pub seen-scheme : x ≡ None → None ≡ seen_by s ps end
       unfolding parts_good
-      seen-scheme l = seen-wrong s a b c d e end (both-on i h (both-on j g (first-no _ (there-no k l))))
+      seen-scheme l = seen-wrong s ps end (both-on i h (both-on j g (first-no _ (there-no k l))))
 
-      module _ {p : ℕ} (l : x ≡ Past p) {y : Size} (m : y ≡ size_in (key_by s d)) where
-        pub seen_key : y ≡ NoSize → Wrong ≡ seen_by s a b c d e end
+      module _ {p : ℕ} (l : x ≡ Some p) {y : Option ℕ} (m : y ≡ size_in (key_by s ps.key)) where
+        pub seen_key : y ≡ None → None ≡ seen_by s ps end
         unfolding parts_good
         seen_key o =
-            seen-wrong s a b c d e end
+            seen-wrong s ps end
             (both-on i h (both-on j g (next-is (there-yes k l) (first-no _ (size-no-good _ m o)))))
 
-        module _ {n : ℕ} (o : y ≡ Bytes n) {z : Count} (q : z ≡ counted_in s (array_of s e)) where
-          pub seen-addresses : z ≡ NoCount → Wrong ≡ seen_by s a b c d e end
+        module _ {n : ℕ} (o : y ≡ Some n) {z : Option ℕ} (q : z ≡ counted_in s (array_of s ps.addresses)) where
+          pub seen-addresses : z ≡ None → None ≡ seen_by s ps end
           unfolding parts_good
           seen-addresses w =
-              seen-wrong s a b c d e end
+              seen-wrong s ps end
               (both-on i h (both-on j g (next-is (there-yes k l) (next-is (size-good _ m o)
-              (counted-bad s (array_of s e) (sym w ∙ q))))))
+              (counted-bad s (array_of s ps.addresses) (sym w ∙ q))))))
 
-          pub seen-right : {v : ℕ} {r : Bool} → z ≡ Counted v → r ≡ may_ask s b (Past p) n
-              → Right r (ltb 8 v) end ≡ seen_by s a b c d e end
+          pub seen-right : {v : ℕ} {r : Bool} → z ≡ Some v → r ≡ may_ask s ps.version (Some p) n
+              → Some (record { asks = r; crowded = ltb 8 v; end = end }) ≡ seen_by s ps end
           unfolding seen_by parts_good pick
           seen-right {v} {r} w x₁ =
-              let f = counted-good s (array_of s e) (sym w ∙ q) in
-              let g₁ : true ≡ parts_good s a b c d e =
+              let f = counted-good s (array_of s ps.addresses) (sym w ∙ q) in
+              let g₁ : true ≡ parts_good s ps =
               both-on i h (both-on j g (next-is (there-yes k l) (next-is (size-good _ m o) f.0))) in
-              let y₁ : r ≡ may_ask s b (string_of s c) (length (held (key_by s d))) =
-              x₁ ∙ ap (λ x₂. may_ask s b x₂ n) (sym l ∙ k) ∙ ap (may_ask s b (string_of s c)) (size-length _ m o) in
+              let y₁ : r ≡ may_ask s ps.version (string_of s ps.scheme) (length (held (key_by s ps.key))) =
+              x₁ ∙ ap (λ x₂. may_ask s ps.version x₂ n) (sym l ∙ k) ∙ ap (may_ask s ps.version (string_of s ps.scheme)) (size-length _ m o) in
               rw (sym g₁) (rw (sym y₁, sym f.1) refl)
 
 pub ruleset seen = (seen-name, seen-version, seen-scheme, seen_key, seen-addresses, seen-right)
@@ -355,20 +344,26 @@ length-addresses s [] = refl
 length-addresses s (k ∷ ks) = ap suc (length-addresses s ks)
 
 by_parts : (s : List ℕ) (k : ℕ) → eqb (get_or s k 0) 123 ≡ true
-    → seen_by s (of_server s k name_name) (of_server s k version_name) (of_server s k scheme_name) (of_server s k key_name)
-    (of_server s k addresses_name) (object_of s (value_at s in_server) k) ≡ seen_of s k
+    → seen_by s (record {
+      name = of_server s k name_name;
+      version = of_server s k version_name;
+      scheme = of_server s k scheme_name;
+      key = of_server s k key_name;
+      addresses = of_server s k addresses_name;
+    }) (object_of s (value_at s in_server) k) ≡ seen_of s k
 unfolding seen_by seen_of server_good parts_good both may_ask is_word askable server_at is_crowded address_places
 by_parts s k e = rw (ends-at s in_servers k (λ z. omega arith) e) (rw e (rw (length-addresses s (places_in s in_addresses (array_of s (of_server s k addresses_name)))) refl))
 
 module _ (s : List ℕ) (k : ℕ) {b : ℕ} (e : b ≡ get_or s k 0) where
-  pub see-brace : (b ≡ 123 → ⊥) → Wrong ≡ seen_of s k
+  pub see-brace : (b ≡ 123 → ⊥) → None ≡ seen_of s k
   unfolding seen_of server_good both pick
   see-brace h = rw (ne_eqb (get_or s k 0) 123 (λ z. h (e ∙ z))) refl
 
-  pub see-parts : b ≡ 123 → {n v c y a : Found} {end : Skip} {r : Seen} → n ≡ found_of s name_name in_server k
+  pub see-parts : b ≡ 123 → {n v c y a : Found} {end : Option ℕ} {r : Option Seen} → n ≡ found_of s name_name in_server k
       → v ≡ found_of s version_name in_server k → c ≡ found_of s scheme_name in_server k
       → y ≡ found_of s key_name in_server k → a ≡ found_of s addresses_name in_server k
-      → end ≡ object_of s (value_at s in_server) k → r ≡ seen_by s n v c y a end → r ≡ seen_of s k
+      → end ≡ object_of s (value_at s in_server) k
+      → r ≡ seen_by s (record { name = n; version = v; scheme = c; key = y; addresses = a }) end → r ≡ seen_of s k
   unfolding of_server
   see-parts h i j l m o q g =
       rw (i, j, l, m, o, q) at g ∙ by_parts s k (eq-eqb (get_or s k 0) 123 (sym e ∙ h))

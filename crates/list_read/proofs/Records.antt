@@ -1,4 +1,5 @@
 -- Laws for the writer of records, and for the returns of the reader.
+use Rattle.std.specs.Prelude.{Err, None, Ok, Option, Some}
 use Prim.Native.Nat.{ℕ, ◌+◌, ◌*◌, ◌≤◌, ◌<◌}
 use mathlib.Core.Path.{◌≡◌, refl, sym, ◌∙◌, ap}
 use mathlib.Core.Bool.{Bool, true, false}
@@ -17,8 +18,6 @@ use Rattle.laws.proofs.Filled.{Filled, filled-first, filled_next, filled-fit, fi
 use Rattle.refusal.specs.Refusal.{refusal}
 use Rattle.hash.specs.Hashes.{srv_of}
 use Rattle.hash.proofs.Lengths.{length-srv}
-use Rattle.json_tokens.specs.declared.Skip.{Skip}
-use Rattle.json_tokens.specs.declared.Skip.TheVariants.{Past, Bad}
 use Rattle.json_strings.specs.Text.{content_at}
 use Rattle.json_values.specs.declared.Found.{Found}
 use Rattle.json_values.specs.Members.{found_of}
@@ -27,7 +26,8 @@ use Rattle.json_base64.specs.Sized.{plain}
 use Rattle.json_tokens.proofs.Picks.{inside}
 use Rattle.report_read.specs.Entry.{string_of, held}
 use Rattle.report_read.proofs.Elements.{both_left, both_right}
-use Rattle.list_read.specs.declared.Servers.TheVariants.{Records, Refused}
+use Rattle.laws.proofs.Written.{written-refused}
+use Rattle.refusal.specs.declared.Refusal.{Refusal}
 use Rattle.list_read.specs.declared.Survey.{Survey}
 use Rattle.list_read.specs.Server.{Server, in_server, key_name, key_by, of_server, askable, server_good, server_at}
 use Rattle.list_read.specs.Listed.{all_servers, servers_at, server_places, is_list, listed, this, unread, list_of}
@@ -48,22 +48,22 @@ module _ (s : List ℕ) (k : ℕ) (e : can_ask s k ≡ true) where
   unfolding can_ask askable
   ask-key = eqb-true _ 32 (both_right _ _ (both_right _ _ (both_right (ltb k (length s)) _ e)))
 
-  module _ {f : Found} (i : f ≡ found_of s key_name in_server k) {x : Skip} (j : x ≡ string_of s f) where
-    key-is : {p : ℕ} → x ≡ Past p → plain (decode64 (content_at s p)) ≡ (server_at s k).key
+  module _ {f : Found} (i : f ≡ found_of s key_name in_server k) {x : Option ℕ} (j : x ≡ string_of s f) where
+    key-is : {p : ℕ} → x ≡ Some p → plain (decode64 (content_at s p)) ≡ (server_at s k).key
     unfolding server_at of_server key_by held
     key-is h = rw (sym i) (rw (sym j ∙ h) refl)
 
-    no_key : x ≡ Bad → (server_at s k).key ≡ []
+    no_key : x ≡ None → (server_at s k).key ≡ []
     unfolding server_at of_server key_by held
     no_key h = rw (sym i) (rw (sym j ∙ h) refl)
 
-    pub key-none : (l : List ℕ) → x ≡ Bad → l ≡ (server_at s k).key
+    pub key-none : (l : List ℕ) → x ≡ None → l ≡ (server_at s k).key
     key-none l h = absurd (omega (arith, ask-key, ap length (no_key h)))
 
-    pub key_fits : {p : ℕ} → x ≡ Past p → length (plain (decode64 (content_at s p))) ≤ 32
+    pub key_fits : {p : ℕ} → x ≡ Some p → length (plain (decode64 (content_at s p))) ≤ 32
     key_fits h = omega (arith, ask-key, ap length (key-is h))
 
-    pub key-done : {p : ℕ} {l : List ℕ} (o : List ℕ) → x ≡ Past p → length o ≡ 32
+    pub key-done : {p : ℕ} {l : List ℕ} (o : List ℕ) → x ≡ Some p → length o ≡ 32
         → l ≡ fronted (plain (decode64 (content_at s p))) o → l ≡ (server_at s k).key
     key-done {p} {l} o h z g =
         g ∙ rw (key-is h) (rw (drop_of_length-le o {i = length (server_at s k).key} (omega (arith, ask-key))) (append-nil (server_at s k).key))
@@ -85,12 +85,10 @@ module _ (s : List ℕ) (k : ℕ) (e : can_ask s k ≡ true) where
       pasted-two o key srv at (at + 32) f g (omega arith) (omega arith)
       ∙ ap (pasted o at) (rw es (rw ek refl))
 
--- ---- The records of the servers at the first n of the places l, of which the first i are written.
-pub record Laying (s l was : List ℕ) (n i : ℕ) (out : List ℕ) : Type 0 where
-  pub within : i ≤ n
-  pub count : length (take n l) ≡ n
-  pub filled : Filled (records_at s (take n l)) (records_at s (drop i (take n l))) was (i * 64) out
-  pub asks : all_ask s (drop i (take n l)) ≡ true
+-- ---- The records of the servers at the places l, of which the first i are written.
+pub record Laying (s l was : List ℕ) (i : ℕ) (out : List ℕ) : Type 0 where
+  pub filled : Filled (records_at s l) (records_at s (drop i l)) was (i * 64) out
+  pub asks : all_ask s (drop i l) ≡ true
 
 records-length : (s L : List ℕ) → all_ask s L ≡ true → length (records_at s L) ≡ length L * 64
 unfolding all_ask records_at
@@ -99,37 +97,27 @@ records-length s (k ∷ ks) a =
     length-append (record_of (server_at s k)) (records_at s ks)
     ∙ omega (arith, record-length s k (both_left _ _ a), records-length s ks (both_right _ _ a))
 
-pub laying-first : (s l out : List ℕ) (n : ℕ) → length l ≡ 64 → n ≤ 64 → all_ask s (take n l) ≡ true
-    → n * 64 ≤ length out → Laying s l out n 0 out
-laying-first s l out n z h a r =
-    let c : length (take n l) ≡ n = length-take-le n l (omega arith) in
-    record {
-      within = omega arith;
-      count = c;
-      filled = filled-first (records_at s (take n l)) out (omega (arith, records-length s (take n l) a));
-      asks = a;
-    }
+pub laying-first : (s l out : List ℕ) → all_ask s l ≡ true → length l * 64 ≤ length out → Laying s l out 0 out
+laying-first s l out a r =
+    record { filled = filled-first (records_at s l) out (omega (arith, records-length s l a)); asks = a }
 
-module _ {s l was out : List ℕ} {n i : ℕ} (y : Laying s l was n i out) where
-  pub laying-done : n ≤ i → out ≡ fronted (records_at s (take n l)) was
+module _ {s l was out : List ℕ} {i : ℕ} (y : Laying s l was i out) where
+  pub laying-done : length l ≤ i → out ≡ fronted (records_at s l) was
   unfolding records_at
-  laying-done h = filled-last (rw (drop_of_length-le (take n l) {i = i} (omega (arith, y.count))) at y.filled)
+  laying-done h = filled-last (rw (drop_of_length-le l {i = i} h) at y.filled)
 
   pub laying-length : length out ≡ length was
   laying-length = filled-length y.filled
 
-  module _ (h : i < n) where
-    here : drop i (take n l) ≡ get_or l i 0 ∷ drop (i + 1) (take n l)
-    here =
-        drop-cons (take n l) i 0 (omega (arith, y.count))
-        ∙ rw (get_or-take n l i 0 h, add-one i) refl
+  module _ (h : i < length l) where
+    here : drop i l ≡ get_or l i 0 ∷ drop (i + 1) l
+    here = drop-cons l i 0 h ∙ rw (add-one i) refl
 
     pub laying-asks : can_ask s (get_or l i 0) ≡ true
     unfolding all_ask
     laying-asks = both_left _ _ (rw here at y.asks)
 
-    part : records_at s (drop i (take n l))
-        ≡ record_of (server_at s (get_or l i 0)) ++ records_at s (drop (i + 1) (take n l))
+    part : records_at s (drop i l) ≡ record_of (server_at s (get_or l i 0)) ++ records_at s (drop (i + 1) l)
     unfolding records_at
     part = rw here refl
 
@@ -142,18 +130,13 @@ module _ {s l was out : List ℕ} {n i : ℕ} (y : Laying s l was n i out) where
         )
 
     pub laying-on : {to : List ℕ} → to ≡ pasted out (i * 64) (record_of (server_at s (get_or l i 0)))
-        → Laying s l was n (i + 1) to
+        → Laying s l was (i + 1) to
     unfolding all_ask
     laying-on {to} w =
-        let f = filled_next (record_of (server_at s (get_or l i 0))) (records_at s (drop (i + 1) (take n l))) y.filled part w in
+        let f = filled_next (record_of (server_at s (get_or l i 0))) (records_at s (drop (i + 1) l)) y.filled part w in
         let q : i * 64 + length (record_of (server_at s (get_or l i 0))) ≡ (i + 1) * 64 =
         omega (arith, record-length s (get_or l i 0) laying-asks) in
-        record {
-          within = omega arith;
-          count = y.count;
-          filled = rw q at f;
-          asks = both_right _ _ (rw here at y.asks);
-        }
+        record { filled = rw q at f; asks = both_right _ _ (rw here at y.asks) }
 
 -- ---- The servers that can be asked.
 asked-same : (s ks : List ℕ) → askables (servers_at s ks) ≡ servers_at s (ask_places s ks)
@@ -215,22 +198,20 @@ size_few vs e = by (eqb (length vs) 0) (ltb 64 (length vs)) refl e
     by false false i h = ltb-false 64 (length vs) i
 
 -- ---- The reader's returns.
-module _ (s out : List ℕ) {y : Survey} (e : Surveys s y) where
-  pub read-code : (y.code ≡ 0 → ⊥)
-      → (Refused (refusal y.code) ≡ read_of (list_of s) (length out))
-      × (out ≡ written y.code (record_bytes (list_of s)) out)
+module _ (s out : List ℕ) where
+  pub read-code : {why : Refusal} → Surveys s (Err why)
+      → (Err why ≡ read_of (list_of s) (length out)) × (out ≡ written why.code (record_bytes (list_of s)) out)
   unfolding read_of pick
-  read-code h =
-      let n : eqb y.code 0 ≡ false = ne_eqb y.code 0 h in
-      let m : eqb (list_code (list_of s)) 0 ≡ false = rw e.code at n in
-      (rw m (ap (λ (c : ℕ). Refused (refusal c)) e.code), rw n refl)
+  read-code e =
+      let m : eqb (list_code (list_of s)) 0 ≡ false = ne_eqb _ 0 e.1 in
+      rw e.0 (rw m refl, written-refused (list_code (list_of s)) (record_bytes (list_of s)) out e.1)
 
-  module _ (z : y.code ≡ 0) where
+  module _ {y : Survey} (e : Surveys s (Ok y)) where
     zero-code : list_code (list_of s) ≡ 0
-    zero-code = sym e.code ∙ z
+    zero-code = e.0
 
     known : Known s (server_places s) (sources_member s) (reports_member s) y
-    known = e.known z
+    known = e.1
 
     is-good : is_list s ≡ true
     is-good = (listed-good s zero-code).0
@@ -257,14 +238,14 @@ module _ (s out : List ℕ) {y : Survey} (e : Surveys s y) where
     read-asks = rw known.places (places-ask s (server_places s) (list-servers s is-good))
 
     pub read_short : length out < y.asked * 64
-        → (Refused (refusal 19) ≡ read_of (list_of s) (length out)) × (out ≡ written 19 (record_bytes (list_of s)) out)
+        → (Err (refusal 19) ≡ read_of (list_of s) (length out)) × (out ≡ written 19 (record_bytes (list_of s)) out)
     unfolding read_of answer_of pick
     read_short h =
         (rw zero-code (rw servers-are (rw asked-are (rw (lt-ltb (length out) (y.asked * 64) h) refl))), refl)
 
     pub read_done : {to : List ℕ} → y.asked * 64 ≤ length out
         → to ≡ fronted (records_at s (take y.asked y.places)) out
-        → (Records y.asked y.passed ≡ read_of (list_of s) (length out))
+        → (Ok (y.asked, y.passed) ≡ read_of (list_of s) (length out))
         × (to ≡ written 0 (record_bytes (list_of s)) out)
     unfolding read_of answer_of record_bytes pick
     read_done {to} h g =
@@ -272,6 +253,6 @@ module _ (s out : List ℕ) {y : Survey} (e : Surveys s y) where
         ap (records_at s) known.places ∙ records-same s (ask_places s (server_places s))
         ∙ ap records_of (sym (asked-same s (server_places s)) ∙ ap askables (sym servers-are)) in (
           rw zero-code (rw servers-are (rw asked-are (rw (le-ltb (length out) (y.asked * 64) h)
-              (ap (Records y.asked) known.passed)))),
+              (ap (λ n. Ok (y.asked, n)) known.passed)))),
           g ∙ ap (λ (l : List ℕ). fronted l out) b,
         )

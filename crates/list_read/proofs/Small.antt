@@ -1,4 +1,5 @@
 -- Laws for the returns of the small readers: tests one after the other, the size of a string, a member that was found.
+use Rattle.std.specs.Prelude.{None, Option, Some}
 use Prim.Native.Char.{code}
 use Prim.Native.Nat.{ℕ, ◌+◌, ◌≤◌, ◌<◌}
 use mathlib.Core.Path.{◌≡◌, refl, sym, ◌∙◌, ap}
@@ -9,14 +10,9 @@ use lib.Dec.{eqb, ltb}
 use lib.ListN.{length, get_or}
 use borrow.Author.Tests.{eq-eqb, ne_eqb, lt-ltb, le-ltb, not-true, not-false}
 use Rattle.laws.specs.Pick.{pick, either, both}
-use Rattle.json_tokens.specs.declared.Skip.{Skip}
-use Rattle.json_tokens.specs.declared.Skip.TheVariants.{Past, Bad}
 use Rattle.json_values.specs.declared.Found.{Found}
 use Rattle.json_values.specs.declared.Found.TheVariants.{At, Nothing, Twice}
 use Rattle.base64_strict.specs.Decode.{Decoded, bytes, none}
-use Rattle.json_base64.specs.declared.Size.{Size}
-use Rattle.json_base64.specs.declared.Size.TheVariants.{Of}
-use Rattle.json_base64.specs.declared.Size.TheVariants.{Bad as NoSize}
 use Rattle.json_base64.specs.Sized.{size_of, good, plain}
 use Rattle.report_read.specs.Entry.{string_of, is64, size_in, held, list_of}
 
@@ -79,50 +75,50 @@ pub ruleset tests = (
 )
 
 -- ---- What a size says of the bytes.
-of-bytes : (d : Decoded) {n : ℕ} → Of n ≡ size_of 0 d → (true ≡ good d) × (n ≡ length (plain d))
+of-bytes : (d : Decoded) {n : ℕ} → Some n ≡ size_of 0 d → (true ≡ good d) × (n ≡ length (plain d))
 of-bytes (bytes y) {n} q = let z : n ≡ 0 + length y = cc in let u : n ≡ length y = omega arith in (refl, u)
 of-bytes none {n} q = let z : ◌≡◌ {A = ℕ} 0 1 = cc in absurd (omega arith)
 
-of_none : (d : Decoded) → NoSize ≡ size_of 0 d → false ≡ good d
+of_none : (d : Decoded) → None ≡ size_of 0 d → false ≡ good d
 of_none (bytes y) q = let z : ◌≡◌ {A = ℕ} 0 1 = cc in absurd (omega arith)
 of_none none q = refl
 
-module _ (d : Decoded) {x : Size} (e : x ≡ size_in d) where
-  pub size-good : {n : ℕ} → x ≡ Of n → true ≡ is64 d
+module _ (d : Decoded) {x : Option ℕ} (e : x ≡ size_in d) where
+  pub size-good : {n : ℕ} → x ≡ Some n → true ≡ is64 d
   unfolding size_in is64
   size-good {n} h = (of-bytes d (sym h ∙ e)).0
 
-  pub size-no-good : x ≡ NoSize → false ≡ is64 d
+  pub size-no-good : x ≡ None → false ≡ is64 d
   unfolding size_in is64
   size-no-good h = of_none d (sym h ∙ e)
 
-  pub size-length : {n : ℕ} → x ≡ Of n → n ≡ length (held d)
+  pub size-length : {n : ℕ} → x ≡ Some n → n ≡ length (held d)
   unfolding size_in held
   size-length {n} h = (of-bytes d (sym h ∙ e)).1
 
 -- ---- A member that was found.
 module _ (s : List ℕ) {x y : Found} (e : x ≡ y) where
-  pub string-at : {v : ℕ} {r : Skip} → x ≡ At v → r ≡ pick (eqb (get_or s v 0) (code "\"")) (Past (v + 1)) Bad → r ≡ string_of s y
+  pub string-at : {v : ℕ} {r : Option ℕ} → x ≡ At v → r ≡ pick (eqb (get_or s v 0) (code "\"")) (Some (v + 1)) None → r ≡ string_of s y
   unfolding string_of
   string-at h g = rw (sym e ∙ h) g
 
-  pub string-none : x ≡ Nothing → Bad ≡ string_of s y
+  pub string-none : x ≡ Nothing → None ≡ string_of s y
   unfolding string_of
   string-none h = rw (sym e ∙ h) refl
 
-  pub string-twice : x ≡ Twice → Bad ≡ string_of s y
+  pub string-twice : x ≡ Twice → None ≡ string_of s y
   unfolding string_of
   string-twice h = rw (sym e ∙ h) refl
 
-  pub list_at : {v : ℕ} {r : Skip} → x ≡ At v → r ≡ pick (eqb (get_or s v 0) (code "[")) (Past v) Bad → r ≡ list_of s y
+  pub list_at : {v : ℕ} {r : Option ℕ} → x ≡ At v → r ≡ pick (eqb (get_or s v 0) (code "[")) (Some v) None → r ≡ list_of s y
   unfolding list_of
   list_at h g = rw (sym e ∙ h) g
 
-  pub list-none : x ≡ Nothing → Bad ≡ list_of s y
+  pub list-none : x ≡ Nothing → None ≡ list_of s y
   unfolding list_of
   list-none h = rw (sym e ∙ h) refl
 
-  pub list-twice : x ≡ Twice → Bad ≡ list_of s y
+  pub list-twice : x ≡ Twice → None ≡ list_of s y
   unfolding list_of
   list-twice h = rw (sym e ∙ h) refl
 

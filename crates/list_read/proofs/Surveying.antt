@@ -1,15 +1,16 @@
 -- Laws for the survey of a list: its members, its servers, and what is said of it.
+use Rattle.std.specs.Prelude.{None, Option, Some, Err, Ok, Result}
+use Rattle.refusal.specs.declared.Refusal.{Refusal}
+use Rattle.refusal.specs.Refusal.{refusal}
 use Prim.Native.Nat.{ℕ, suc, ◌+◌, ◌-◌, ◌≤◌}
 use mathlib.Core.Path.{◌≡◌, refl, sym, ◌∙◌, ap}
-use mathlib.Core.Bool.{Bool, true, false, not}
+use mathlib.Core.Bool.{Bool, true, false, not, true≢false}
 use mathlib.Core.List.{List, [], ◌∷◌}
 use native.Mathlib.Omega.{arith}
 use lib.Dec.{eqb, ltb}
 use lib.ListN.{length, get_or}
 use borrow.Author.Tests.{eq-eqb, ne_eqb, not-true, not-false, ltb-false}
-use Rattle.laws.specs.Pick.{pick, both}
-use Rattle.json_tokens.specs.declared.Skip.{Skip}
-use Rattle.json_tokens.specs.declared.Skip.TheVariants.{Past, Bad}
+use Rattle.laws.specs.Pick.{pick, either, both}
 use Rattle.json_tokens.specs.Scan.{blank, past_while, past_blanks}
 use Rattle.json_values.specs.Value.{object_of, value_at, ends_at, deepest, is_text}
 use Rattle.json_values.specs.declared.Found.{Found}
@@ -25,7 +26,7 @@ use Rattle.list_read.specs.Listed.{servers_at, root_place, of_root, servers_memb
 use Rattle.list_read.specs.Listed.{server_places, is_list, listed, this, unread, list_of, servers_name}
 use Rattle.list_read.specs.Listed.{sources_name, reports_name}
 use Rattle.list_read.specs.Read.{passed_over, size_code, list_code}
-use Rattle.list_read.specs.Facts.{ask_places, Tallied, Tells, code_of, Finds, members_good, SurveysBy, Surveys}
+use Rattle.list_read.specs.Facts.{ask_places, Tallied, Tells, miscounted, Finds, members_good, SurveysBy, Surveys}
 use Rattle.list_read.proofs.Parts.{ends-at}
 use Rattle.list_read.proofs.Tallying.{asks-few}
 
@@ -80,49 +81,62 @@ passed-sum s (k ∷ ks) = by (askable (server_at s k)) (passed-sum s ks)
     by true h = omega arith
     by false h = omega arith
 
-code-few : (n : ℕ) (c : Bool) → code_of n c ≡ 0 → n ≤ 64
-unfolding code_of pick
-code-few n c e = by (eqb n 0) (ltb 64 n) refl e
-  where
-    by : (b d : Bool) → ltb 64 n ≡ d → ◌≡◌ {A = ℕ} (pick b 25 (pick d 25 (pick c 25 0))) 0 → n ≤ 64
-    by true d i h = absurd (omega arith)
-    by false true i h = absurd (omega arith)
-    by false false i h = ltb-false 64 n i
+off-code : (a b c : Bool) → either a (either b c) ≡ true → ◌≡◌ {A = ℕ} (pick a 25 (pick b 25 (pick c 25 0))) 25
+unfolding either pick
+off-code true b c e = refl
+off-code false true c e = refl
+off-code false false true e = refl
+off-code false false false e = absurd (true≢false (sym e))
 
-module _ {s ks : List ℕ} {t : Tally} (e : Tells s ks t) where
-  pub finds-bad : (f g : Found) {r : Survey} → not t.good ≡ true → r.code ≡ 24 → Finds s ks f g r
-  unfolding pick
-  finds-bad f g {r} h c = record {
-    code = c ∙ rw (sym e.good ∙ not-true t.good h) refl;
-    known = λ z. absurd (omega (arith, c));
-  }
+even-code : (a b c : Bool) → either a (either b c) ≡ false
+    → (b ≡ false) × ◌≡◌ {A = ℕ} (pick a 25 (pick b 25 (pick c 25 0))) 0
+unfolding either pick
+even-code true b c e = absurd (true≢false e)
+even-code false true c e = absurd (true≢false e)
+even-code false false true e = absurd (true≢false e)
+even-code false false false e = (refl, refl)
 
-  told : not t.good ≡ false → Tallied s ks t.count t.asked t.crowded t.places
-  told h = e.told (not-false t.good h)
+-- no such number is 0
+not-24 : ◌≡◌ {A = ℕ} 24 0 → ⊥
+not-24 z = omega arith
 
-  pub finds-few : not t.good ≡ false → t.asked ≤ t.count
-  finds-few h = omega (arith, asks-few s ks, (told h).asked, (told h).count)
+not-25 : ◌≡◌ {A = ℕ} 25 0 → ⊥
+not-25 z = omega arith
 
-  code-good : not t.good ≡ false
-      → code_of t.count t.crowded ≡ pick (all_servers s ks) (size_code (servers_at s ks)) 24
-  unfolding pick code_of size_code
-  code-good h =
-      rw (sym e.good ∙ not-false t.good h)
-      (rw (length-servers s ks) (rw ((told h).count, (told h).crowded) refl))
+pub finds-bad : (s ks : List ℕ) (f g : Found) {why : Refusal} → all_servers s ks ≡ false → why ≡ refusal 24
+    → Finds s ks f g (Err why)
+unfolding pick
+finds-bad s ks f g h c = rw h (c, not-24)
 
-  pub finds-good : {f g : Found} {r : Survey} → not t.good ≡ false → r.code ≡ code_of t.count t.crowded
+module _ {s ks : List ℕ} {t : Tally} (e : Tells s ks (Some t)) where
+  pub finds-few : t.asked ≤ t.count
+  finds-few = omega (arith, asks-few s ks, e.1.asked, e.1.count)
+
+  pub finds-miscounted : (f g : Found) {why : Refusal} {b : Bool} → b ≡ miscounted t.count t.crowded → b ≡ true → why ≡ refusal 25
+      → Finds s ks f g (Err why)
+  unfolding miscounted size_code pick
+  finds-miscounted f g {why} {b} i j c =
+      let n : size_code (servers_at s ks) ≡ 25 =
+      rw (length-servers s ks, sym e.1.count, sym e.1.crowded)
+      (off-code (eqb t.count 0) (ltb 64 t.count) t.crowded (sym i ∙ j)) in
+      rw (e.0, n) (c, not-25)
+
+  pub finds-good : {f g : Found} {r : Survey} {b : Bool} → b ≡ miscounted t.count t.crowded → b ≡ false
       → r.asked ≡ t.asked → r.passed ≡ t.count - t.asked → r.places ≡ t.places → r.sources ≡ f → r.reports ≡ g
-      → Finds s ks f g r
-  finds-good {f} {g} {r} h c a p l i j = record {
-    code = c ∙ code-good h;
-    known = λ z. record {
-      asked = a ∙ (told h).asked;
-      passed = omega (arith, p, (told h).asked, (told h).count, passed-sum s ks);
-      places = rw (a, l) ((told h).kept (code-few t.count t.crowded (sym c ∙ z)));
-      sources = i;
-      reports = j;
-    };
-  }
+      → Finds s ks f g (Ok r)
+  unfolding miscounted size_code pick
+  finds-good {f} {g} {r} {b} m n a p l i j =
+      let w = even-code (eqb t.count 0) (ltb 64 t.count) t.crowded (sym m ∙ n) in
+      let z : size_code (servers_at s ks) ≡ 0 = rw (length-servers s ks, sym e.1.count, sym e.1.crowded) w.1 in (
+        rw e.0 z,
+        record {
+          asked = a ∙ e.1.asked;
+          passed = omega (arith, p, e.1.asked, e.1.count, passed-sum s ks);
+          places = rw (a, l) (e.1.kept (ltb-false 64 t.count w.0));
+          sources = i;
+          reports = j;
+        },
+      )
 
 -- ---- The whole list.
 both-no-right : (p q : Bool) → q ≡ false → both p q ≡ false
@@ -136,27 +150,27 @@ both-no-left p q e = rw e refl
 
 -- by the members of the outermost object
 module _ (s : List ℕ) (a f g : Found) where
-  unlisted-by : {r : Survey} → members_good s a f g ≡ false → r.code ≡ 24 → SurveysBy s a f g r
+  unlisted-by : {why : Refusal} → members_good s a f g ≡ false → why ≡ refusal 24 → SurveysBy s a f g (Err why)
   unfolding pick
-  unlisted-by {r} h c = record { code = c ∙ rw h refl; known = λ z. absurd (omega (arith, c)) }
+  unlisted-by h c = rw h (c, not-24)
 
   module _ {t : Bool} (i : t ≡ sources_good s f) where
-    pub by-sources : {r : Survey} → not t ≡ true → r.code ≡ 24 → SurveysBy s a f g r
+    pub by-sources : {why : Refusal} → not t ≡ true → why ≡ refusal 24 → SurveysBy s a f g (Err why)
     unfolding members_good
     by-sources j c = unlisted-by (both-no-right _ _ (both-no-left _ _ (sym i ∙ not-true t j))) c
 
     module _ (j : not t ≡ false) {u : Bool} (k : u ≡ reports_good s g) where
-      pub by-reports : {r : Survey} → not u ≡ true → r.code ≡ 24 → SurveysBy s a f g r
+      pub by-reports : {why : Refusal} → not u ≡ true → why ≡ refusal 24 → SurveysBy s a f g (Err why)
       unfolding members_good
       by-reports l c =
           unlisted-by (both-no-right _ _ (both-no-right _ _ (both-no-left _ _ (sym k ∙ not-true u l)))) c
 
-      module _ (l : not u ≡ false) {y : Skip} (m : y ≡ array_of s a) where
-        pub by-servers : {r : Survey} → y ≡ Bad → r.code ≡ 24 → SurveysBy s a f g r
+      module _ (l : not u ≡ false) {y : Option ℕ} (m : y ≡ array_of s a) where
+        pub by-servers : {why : Refusal} → y ≡ None → why ≡ refusal 24 → SurveysBy s a f g (Err why)
         unfolding members_good is_there
         by-servers n c = unlisted-by (both-no-left _ _ (rw (sym m ∙ n) refl)) c
 
-        module _ {v : ℕ} (n : y ≡ Past v) where
+        module _ {v : ℕ} (n : y ≡ Some v) where
           places-are : places_in s in_servers (array_of s a) ≡ elements_of s in_servers v
           unfolding places_in
           places-are = rw (sym m ∙ n) refl
@@ -165,42 +179,37 @@ module _ (s : List ℕ) (a f g : Found) where
           unfolding members_good is_there places_in both
           good-is = rw (sym m ∙ n, sym i ∙ not-false t j, sym k ∙ not-false u l) refl
 
-          pub by-done : {r : Survey} → Finds s (elements_of s in_servers v) f g r → SurveysBy s a f g r
-          by-done {r} w = record {
-            code = w.code ∙ rw (good-is, places-are) refl;
-            known = λ z. rw places-are (w.known z);
-          }
+          pub by-done : (r : Result Survey Refusal) → Finds s (elements_of s in_servers v) f g r → SurveysBy s a f g r
+          by-done r w = rw (good-is, places-are) w
 
 pub ruleset members = (by-sources, by-reports, by-servers, by-done)
 
 -- where the outermost object ends
-pub whole-none : {x : Skip} (s : List ℕ) → x ≡ Bad → false ≡ ends_at s x
+pub whole-none : {x : Option ℕ} (s : List ℕ) → x ≡ None → false ≡ ends_at s x
 unfolding ends_at
 whole-none s h = rw h refl
 
-pub whole-at : {x : Skip} {e k : ℕ} (s : List ℕ) → x ≡ Past e → k ≡ past_while blank s e → eqb k (length s) ≡ ends_at s x
+pub whole-at : {x : Option ℕ} {e k : ℕ} (s : List ℕ) → x ≡ Some e → k ≡ past_while blank s e → eqb k (length s) ≡ ends_at s x
 unfolding ends_at
 whole-at s h g = rw (h, g) refl
 
 -- of a text
-unlisted : (s : List ℕ) {r : Survey} → root_place s ≡ Bad → r.code ≡ 24 → Surveys s r
+unlisted : (s : List ℕ) {why : Refusal} → root_place s ≡ None → why ≡ refusal 24 → Surveys s (Err why)
 unfolding is_list servers_member of_root array_of is_there list_of pick list_code
-unlisted s {r} h c =
-    let z : is_list s ≡ false = rw h (both-no-left _ _ refl) in
-    record { code = c ∙ rw z refl; known = λ z. absurd (omega (arith, c)) }
+unlisted s h c = let z : is_list s ≡ false = rw h (both-no-left _ _ refl) in rw z (c, not-24)
 
-no-root : (t u : Bool) (k : ℕ) → u ≡ false → pick t (pick u (Past k) Bad) Bad ≡ Bad
+no-root : (t u : Bool) (k : ℕ) → u ≡ false → pick t (pick u (Some k) None) None ≡ None
 unfolding pick
 no-root true u k g = rw g refl
 no-root false u k g = refl
 
 module _ (s : List ℕ) {root : ℕ} (e : root ≡ past_while blank s 0) {b : ℕ} (h : b ≡ get_or s root 0) where
-  pub survey-brace : {r : Survey} → (b ≡ 123 → ⊥) → r.code ≡ 24 → Surveys s r
+  pub survey-brace : {why : Refusal} → (b ≡ 123 → ⊥) → why ≡ refusal 24 → Surveys s (Err why)
   unfolding root_place
   survey-brace n c =
       unlisted s (no-root (is_text s) _ _ (ne_eqb (get_or s (past_blanks s 0) 0) 123 (λ z. n (h ∙ ap (λ k. get_or s k 0) e ∙ z)))) c
 
-  module _ (g : b ≡ 123) {end : Skip} (i : end ≡ object_of s (value_at s in_root) root) {t : Bool} (j : t ≡ ends_at s end) where
+  module _ (g : b ≡ 123) {end : Option ℕ} (i : end ≡ object_of s (value_at s in_root) root) {t : Bool} (j : t ≡ ends_at s end) where
     brace : eqb (get_or s (past_blanks s 0) 0) 123 ≡ true
     brace = eq-eqb _ 123 (ap (λ k. get_or s k 0) (sym e) ∙ sym h ∙ g)
 
@@ -210,15 +219,15 @@ module _ (s : List ℕ) {root : ℕ} (e : root ≡ past_while blank s 0) {b : �
         j ∙ ap (ends_at s) (i ∙ ap (object_of s (value_at s in_root)) e
         ∙ sym (ends-at s deepest (past_blanks s 0) (λ z. omega arith) brace))
 
-    pub survey-open : {r : Survey} → not t ≡ true → r.code ≡ 24 → Surveys s r
+    pub survey-open : {why : Refusal} → not t ≡ true → why ≡ refusal 24 → Surveys s (Err why)
     unfolding root_place pick
     survey-open n c = unlisted s (rw (sym is-json ∙ not-true t n) refl) c
 
     module _ (n : not t ≡ false) {a f d : Found} (ia : a ≡ found_of s servers_name in_root root)
         (ib : f ≡ found_of s sources_name in_root root) (id : d ≡ found_of s reports_name in_root root) where
-      root_is : root_place s ≡ Past root
+      root_is : root_place s ≡ Some root
       unfolding root_place pick
-      root_is = rw (sym is-json ∙ not-false t n) (rw brace (ap Past (sym e)))
+      root_is = rw (sym is-json ∙ not-false t n) (rw brace (ap Some (sym e)))
 
       is-a : servers_member s ≡ a
       unfolding servers_member of_root
@@ -247,11 +256,12 @@ module _ (s : List ℕ) {root : ℕ} (e : root ≡ past_while blank s 0) {b : �
       code_is true = rw places-at refl
       code_is false = refl
 
-      pub survey-done : {r : Survey} → SurveysBy s a f d r → Surveys s r
+      whole-code : pick (members_good s a f d) (size_code (servers_at s (places_in s in_servers (array_of s a)))) 24
+          ≡ list_code (list_of s)
       unfolding list_of
-      survey-done {r} w = record {
-        code = w.code ∙ code_is (members_good s a f d) ∙ rw list-is refl;
-        known = λ z. rw (places-at, is_b, is-d) (w.known z);
-      }
+      whole-code = code_is (members_good s a f d) ∙ rw list-is refl
+
+      pub survey-done : (r : Result Survey Refusal) → SurveysBy s a f d r → Surveys s r
+      survey-done r w = rw (sym whole-code, places-at, is_b, is-d) w
 
 pub ruleset surveying = (survey-brace, survey-open, survey-done)

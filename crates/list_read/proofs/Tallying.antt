@@ -1,4 +1,5 @@
 -- Laws for the loop that counts the servers of a list.
+use Rattle.std.specs.Prelude.{None, Option, Some}
 use Prim.Native.Nat.{ℕ, suc, ◌+◌, ◌≤◌, ◌<◌}
 use mathlib.Core.Path.{◌≡◌, refl, sym, ◌∙◌, ap}
 use mathlib.Core.Bool.{Bool, true, false, true≢false}
@@ -10,39 +11,24 @@ use lib.ListN.{length, set, length-append, length-set, length-replicate}
 use lib.Seq.{take-suc-set}
 use borrow.Author.Tests.{lt-ltb}
 use Rattle.laws.specs.Pick.{pick, either, both}
-use Rattle.json_tokens.specs.declared.Skip.{Skip}
 use Rattle.report_read.specs.Entry.{elements_of}
-use Rattle.list_read.specs.declared.Element.{Element}
-use Rattle.list_read.specs.declared.Element.TheVariants.{At, Done}
 use Rattle.list_read.specs.declared.Seen.{Seen}
-use Rattle.list_read.specs.declared.Seen.TheVariants.{Wrong, Right}
 use Rattle.list_read.specs.declared.Tally.{Tally}
 use Rattle.list_read.specs.Server.{in_servers, askable, server_good, server_at}
 use Rattle.list_read.specs.Listed.{all_servers, servers_at}
 use Rattle.list_read.specs.Read.{is_crowded, any_crowded}
-use Rattle.list_read.specs.Facts.{left, Opens, Turns, past_item, seen_of, ask_places, kept_of, blank_of, Counts, Tallied, Tells}
-use Rattle.list_read.proofs.Items.{turns-past, turn-less, fuel, Below, below-first, below-here, below_on, left-done, left_here, left-on, rest}
+use Rattle.list_read.specs.Facts.{left, Opens, Turns, past_item, seen_of, ask_places, kept_of, blank_tally, Counts, Tallied, Tells}
+use Rattle.list_read.proofs.Items.{turns-past, turn-less, fuel, Below, below-first, below-here, below_on, left-done, left_here, left-on, rest, wrong_pick, right-pick}
 
 -- ---- What is seen of one.
-right-pick : (g a b : Bool) (x : Skip) {c d : Bool} {y : Skip} → Right c d y ≡ pick g (Right a b x) Wrong
-    → (g ≡ true) × ((c ≡ a) × ((d ≡ b) × (y ≡ x)))
-unfolding pick
-right-pick true a b x q = (refl, (cc, (cc, cc)))
-right-pick false a b x q = let z : ◌≡◌ {A = ℕ} 0 1 = cc in absurd (omega arith)
-
-wrong_pick : (g a b : Bool) (x : Skip) → Wrong ≡ pick g (Right a b x) Wrong → g ≡ false
-unfolding pick
-wrong_pick true a b x q = let z : ◌≡◌ {A = ℕ} 0 1 = cc in absurd (omega arith)
-wrong_pick false a b x q = refl
-
 -- the next element, by where the server object ends
-pub next-turns : {x : Seen} {c d : Bool} {p : Skip} {y : Element} (s : List ℕ) (k : ℕ) → x ≡ seen_of s k → x ≡ Right c d p
-    → y ≡ past_item s p → Turns s in_servers k y
+pub next-turns : {x : Option Seen} {v : Seen} {y : Option ℕ} (s : List ℕ) (k : ℕ) → x ≡ seen_of s k → x ≡ Some v
+    → y ≡ past_item s v.end → Turns s in_servers k y
 unfolding seen_of
-next-turns s k e h g = turns-past s in_servers k g (right-pick _ _ _ _ (sym h ∙ e)).1.1.1
+next-turns s k e h g = turns-past s in_servers k g (ap (λ (w : Seen). w.end) (right-pick _ _ (sym h ∙ e)).1)
 
-pub next-less : {x : Seen} {c d : Bool} {p : Skip} {at y : Element} (s : List ℕ) {k : ℕ} → at ≡ At k → x ≡ seen_of s k
-    → x ≡ Right c d p → y ≡ past_item s p → fuel s y < fuel s at
+pub next-less : {x : Option Seen} {v : Seen} {at y : Option ℕ} (s : List ℕ) {k : ℕ} → at ≡ Some k → x ≡ seen_of s k
+    → x ≡ Some v → y ≡ past_item s v.end → fuel s y < fuel s at
 next-less s {k} a e h g = turn-less a (next-turns s k e h g)
 
 -- ---- One more at the end.
@@ -144,54 +130,50 @@ module _ {s ks : List ℕ} (k : ℕ) {n m : ℕ} {big : Bool} {l : List ℕ} (t 
   }
 
 -- ---- How far counting has come.
-pub record Going (s ks : List ℕ) (at : Element) (t : Tally) : Type 0 where
+pub record Going (s ks : List ℕ) (at : Option ℕ) (t : Tally) : Type 0 where
   pub low : Below t.count at
   pub done : List ℕ
   pub whole : done ++ left s in_servers at ≡ ks
-  pub good : t.good ≡ true
   pub all : all_servers s done ≡ true
   pub told : Tallied s done t.count t.asked t.crowded t.places
   pub size : length t.places ≡ 64
 
-pub going-first : {s : List ℕ} {v : ℕ} {x : Element} {t : Tally} → Opens s in_servers v x → t ≡ blank_of true
+pub going-first : {s : List ℕ} {v : ℕ} {x : Option ℕ} {t : Tally} → Opens s in_servers v x → t ≡ blank_tally
     → Going s (elements_of s in_servers v) x t
-unfolding blank_of all_servers any_crowded servers_at ask_places
+unfolding blank_tally all_servers any_crowded servers_at ask_places
 going-first {s} {v} {x} {t} o e = rw e record {
   low = below-first o;
   done = [];
   whole = o.all;
-  good = refl;
   all = refl;
   told = record { count = refl; asked = refl; crowded = refl; kept = λ h. refl };
   size = length-replicate {A = ℕ} 64 0;
 }
 
-module _ {s ks : List ℕ} {at : Element} {t : Tally} (g : Going s ks at t) where
-  pub going_done : at ≡ Done → Tells s ks t
+module _ {s ks : List ℕ} {at : Option ℕ} {t : Tally} (g : Going s ks at t) where
+  pub going_done : at ≡ None → Tells s ks (Some t)
   going_done e =
       let w : g.done ≡ ks = sym (append-nil g.done) ∙ (rw (left-done s in_servers e) at g.whole) in
-      record { good = g.good ∙ sym (rw w at g.all); told = λ h. rw w at g.told }
+      (rw w at g.all, rw w at g.told)
 
-  module _ {k : ℕ} (a : at ≡ At k) where
+  module _ {k : ℕ} (a : at ≡ Some k) where
     pub going-low : t.count < k
     going-low = below-here g.low a
 
     pub going-few : t.asked ≤ t.count
     going-few = omega (arith, asks-few s g.done, g.told.asked, g.told.count)
 
-    pub going-stop : {x : Seen} {r : Tally} → x ≡ seen_of s k → x ≡ Wrong → r ≡ blank_of false → Tells s ks r
-    unfolding seen_of blank_of
-    going-stop {x} {r} e h i =
-        let n : all_servers s ks ≡ false =
-        ap (all_servers s) (sym g.whole ∙ rw (left_here s in_servers a) refl)
-        ∙ all-stop s k g.done (rest s in_servers k) (wrong_pick _ _ _ _ (sym h ∙ e)) in
-        rw i record { good = sym n; told = λ z. absurd (true≢false (sym z)) }
-
-    pub going_on : {x : Seen} {c d : Bool} {p : Skip} {u : Tally} {y : Element} → x ≡ seen_of s k → x ≡ Right c d p
-        → Counts t k c d u → y ≡ past_item s p → Going s ks y u
+    pub going-stop : {x : Option Seen} → x ≡ seen_of s k → x ≡ None → all_servers s ks ≡ false
     unfolding seen_of
-    going_on {x} {c} {d} {p} {u} {y} e h w l =
-        let q = right-pick _ _ _ _ (sym h ∙ e) in
+    going-stop {x} e h =
+        ap (all_servers s) (sym g.whole ∙ rw (left_here s in_servers a) refl)
+        ∙ all-stop s k g.done (rest s in_servers k) (wrong_pick _ _ (sym h ∙ e))
+
+    pub going_on : {x : Option Seen} {v : Seen} {u : Tally} {y : Option ℕ} → x ≡ seen_of s k → x ≡ Some v
+        → Counts t k v u → y ≡ past_item s v.end → Going s ks y u
+    unfolding seen_of
+    going_on {x} {v} {u} {y} e h w l =
+        let q = right-pick _ _ (sym h ∙ e) in
         let f = next-turns s k e h l in
         record {
           low = rw w.count (below_on t.count g.low a f);
@@ -199,12 +181,11 @@ module _ {s ks : List ℕ} {at : Element} {t : Tally} (g : Going s ks at t) wher
           whole =
               append_assoc g.done (k ∷ []) (left s in_servers y)
               ∙ sym (ap (λ (l : List ℕ). g.done ++ l) (left-on s in_servers a f)) ∙ g.whole;
-          good = w.good ∙ g.good;
           all = all_snoc s k g.done g.all q.0;
           told =
-              tallied-on k g.told g.size c d (sym q.1.0) (sym q.1.1.0) w.count w.asked w.crowd
+              tallied-on k g.told g.size v.asks v.crowded (sym (ap (λ (w : Seen). w.asks) q.1)) (sym (ap (λ (w : Seen). w.crowded) q.1)) w.count w.asked w.crowd
               w.places;
-          size = ap length w.places ∙ kept-length t.places t.asked k c ∙ g.size;
+          size = ap length w.places ∙ kept-length t.places t.asked k v.asks ∙ g.size;
         }
 
 pub ruleset going = (going-first, going_done, going-stop, going_on)

@@ -1,11 +1,9 @@
 -- A server list (draft 19, section 8.3), as a function of the text: "a JSON object that contains the key "servers".
 -- Server list objects MAY also contain the keys "sources" and "reports"."
 use Prim.Native.Char.{code}
-use Rattle.std.specs.Prelude.{ℕ, Bool, true, false, List, [], ◌∷◌, eqb, get_or}
+use Rattle.std.specs.Prelude.{ℕ, Bool, true, false, List, [], ◌∷◌, eqb, get_or, None, Option, Some}
 use Rattle.laws.specs.Ascii.{ascii}
 use Rattle.laws.specs.Pick.{pick, both}
-use Rattle.json_tokens.specs.declared.Skip.{Skip}
-use Rattle.json_tokens.specs.declared.Skip.TheVariants.{Past, Bad}
 use Rattle.json_tokens.specs.Scan.{past_blanks}
 use Rattle.json_text.specs.Octets.{Text, plain}
 use Rattle.json_values.specs.declared.Found.{Found}
@@ -79,13 +77,13 @@ servers_at s (k ∷ ks) = server_at s k ∷ servers_at s ks
 -- ---- The list
 
 -- the place of the outermost object, where the text is JSON and has one
-unfoldable pub root_place : List ℕ → Skip
-root_place s = pick (is_text s) (pick (eqb (get_or s (past_blanks s 0) 0) (code "{")) (Past (past_blanks s 0)) Bad) Bad
+unfoldable pub root_place : List ℕ → Option ℕ
+root_place s = pick (is_text s) (pick (eqb (get_or s (past_blanks s 0) 0) (code "{")) (Some (past_blanks s 0)) None) None
 
 -- its member of a name
-unfoldable pub of_root : List ℕ → List ℕ → Skip → Found
-of_root s w (Past k) = found_of s w in_root k
-of_root s w Bad = Nothing
+unfoldable pub of_root : List ℕ → List ℕ → Option ℕ → Found
+of_root s w (Some k) = found_of s w in_root k
+of_root s w None = Nothing
 
 -- the members that a list may have
 unfoldable pub servers_member : List ℕ → Found

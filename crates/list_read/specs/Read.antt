@@ -1,17 +1,16 @@
 -- What the reader of server lists answers, and what it writes. Order: 24, 25, 19.
-use Rattle.std.specs.Prelude.{ℕ, suc, ◌*◌, Bool, false, List, [], ◌∷◌, ◌++◌, eqb, ltb, length}
+use Rattle.refusal.specs.declared.Refusal.{Refusal}
+use Rattle.std.specs.Prelude.{ℕ, suc, ◌*◌, Bool, false, List, [], ◌∷◌, ◌++◌, eqb, ltb, length, Err, Ok, Result}
 use Rattle.laws.specs.Pick.{pick, either}
 use Rattle.hash.specs.Hashes.{srv_of}
 use Rattle.refusal.specs.Refusal.{refusal}
-use Rattle.list_read.specs.declared.Servers.{Servers}
-use Rattle.list_read.specs.declared.Servers.TheVariants.{Records, Refused}
 use Rattle.list_read.specs.Server.{Server, askable}
 use Rattle.list_read.specs.Listed.{Lists, this, unread}
 
 -- the number of an answer, 0 where nothing is refused
-abbrev pub servers_number : Servers → ℕ
-servers_number (Records n m) = 0
-servers_number (Refused why) = why.code
+abbrev pub servers_number : Result (ℕ × ℕ) Refusal → ℕ
+servers_number (Ok (n, m)) = 0
+servers_number (Err why) = why.code
 
 -- the servers that we can ask, in their order, and how many others there are
 unfoldable pub askables : List Server → List Server
@@ -55,12 +54,12 @@ list_code unread = 24
 
 -- 19 where the buffer has fewer than 64 bytes for each server that we can ask; else how many records there are, and how
 -- many servers were passed over
-unfoldable pub answer_of : List Server → ℕ → Servers
+unfoldable pub answer_of : List Server → ℕ → Result (ℕ × ℕ) Refusal
 answer_of vs room =
-    pick (ltb room (length (askables vs) * 64)) (Refused (refusal 19)) (Records (length (askables vs)) (passed_over vs))
+    pick (ltb room (length (askables vs) * 64)) (Err (refusal 19)) (Ok ((length (askables vs)), (passed_over vs)))
 
-unfoldable pub read_of : Lists → ℕ → Servers
-read_of l room = pick (eqb (list_code l) 0) (answer_of (servers_of l) room) (Refused (refusal (list_code l)))
+unfoldable pub read_of : Lists → ℕ → Result (ℕ × ℕ) Refusal
+read_of l room = pick (eqb (list_code l) 0) (answer_of (servers_of l) room) (Err (refusal (list_code l)))
 
 -- what is written where nothing is refused
 unfoldable pub record_bytes : Lists → List ℕ

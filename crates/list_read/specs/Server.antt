@@ -2,12 +2,10 @@
 -- objects, each containing the keys "name", "version", "publicKeyType", "publicKey", and "addresses"". Other members
 -- are skipped; of these there is just one each.
 use Prim.Native.Char.{code}
-use Rattle.std.specs.Prelude.{ℕ, ◌-◌, Bool, true, false, List, [], ◌∷◌, eqb, leb, length, get_or}
+use Rattle.std.specs.Prelude.{ℕ, ◌-◌, Bool, true, false, List, [], ◌∷◌, eqb, leb, length, get_or, None, Option, Some}
 use Rattle.laws.specs.Ascii.{ascii}
 use Rattle.laws.specs.Pasted.{part}
 use Rattle.laws.specs.Pick.{pick, either, both}
-use Rattle.json_tokens.specs.declared.Skip.{Skip}
-use Rattle.json_tokens.specs.declared.Skip.TheVariants.{Past, Bad}
 use Rattle.json_tokens.specs.Number.{number_at}
 use Rattle.json_strings.specs.Text.{content_at, same_list}
 use Rattle.json_text.specs.Octets.{Text, octets, none, text_of, plain}
@@ -76,9 +74,9 @@ in_address = deepest - 5
 -- ---- The values of members.
 
 -- the text of a string, by the place of its characters, and of a member that is a string
-unfoldable pub text_in : List ℕ → Skip → Text
-text_in s (Past p) = text_of (content_at s p)
-text_in s Bad = none
+unfoldable pub text_in : List ℕ → Option ℕ → Text
+text_in s (Some p) = text_of (content_at s p)
+text_in s None = none
 
 unfoldable pub text_by : List ℕ → Found → Text
 text_by s f = text_in s (string_of s f)
@@ -100,9 +98,9 @@ unfoldable pub whole_of : List ℕ → Text
 whole_of x = pick (unmarked x) (octets x) none
 
 -- as it is written, from its place to its end
-unfoldable pub up_to : List ℕ → ℕ → Skip → Text
-up_to s v (Past e) = whole_of (part v e s)
-up_to s v Bad = none
+unfoldable pub up_to : List ℕ → ℕ → Option ℕ → Text
+up_to s v (Some e) = whole_of (part v e s)
+up_to s v None = none
 
 unfoldable pub version_by : List ℕ → Found → Text
 version_by s (At v) = up_to s v (number_at s v)
@@ -110,13 +108,13 @@ version_by s Nothing = none
 version_by s Twice = none
 
 -- the numbers of a string's characters, and that there is a string
-unfoldable pub content_in : List ℕ → Skip → List ℕ
-content_in s (Past p) = content_at s p
-content_in s Bad = []
+unfoldable pub content_in : List ℕ → Option ℕ → List ℕ
+content_in s (Some p) = content_at s p
+content_in s None = []
 
-unfoldable pub is_there : Skip → Bool
-is_there (Past p) = true
-is_there Bad = false
+unfoldable pub is_there : Option ℕ → Bool
+is_there (Some p) = true
+is_there None = false
 
 -- what a string of base64 stands for
 unfoldable pub key_by : List ℕ → Found → Decoded
@@ -142,10 +140,10 @@ unfoldable pub of_address : List ℕ → ℕ → List ℕ → Found
 of_address s k w = found_of s w in_address k
 
 -- a string is the word
-unfoldable pub is_word : List ℕ → Skip → List ℕ → Bool
+unfoldable pub is_word : List ℕ → Option ℕ → List ℕ → Bool
 is_word s x w = same_list (content_in s x) w
 
-unfoldable pub is_protocol : List ℕ → Skip → Bool
+unfoldable pub is_protocol : List ℕ → Option ℕ → Bool
 is_protocol s x = either (is_word s x (ascii "udp")) (is_word s x (ascii "tcp"))
 
 unfoldable pub address_good : List ℕ → ℕ → Bool
@@ -168,11 +166,11 @@ addresses_at s [] = []
 addresses_at s (k ∷ ks) = address_at s k ∷ addresses_at s ks
 
 -- the places of the elements of a list that is an object's member; none where there is no list
-unfoldable pub places_in : List ℕ → ℕ → Skip → List ℕ
-places_in s d (Past v) = elements_of s d v
-places_in s d Bad = []
+unfoldable pub places_in : List ℕ → ℕ → Option ℕ → List ℕ
+places_in s d (Some v) = elements_of s d v
+places_in s d None = []
 
-unfoldable pub addresses_good : List ℕ → Skip → Bool
+unfoldable pub addresses_good : List ℕ → Option ℕ → Bool
 addresses_good s x = both (is_there x) (all_addresses s (places_in s in_addresses x))
 
 -- ---- Servers.

@@ -13,7 +13,6 @@ mod values;
 mod versions;
 
 pub use elements::{first_item, next_item};
-use json_tokens::Skip;
 use json_values::{DEPTH, Found};
 pub use reading::read_servers;
 use refusal::Refusal;
@@ -38,67 +37,57 @@ pub const IN_ADDRESS: usize = DEPTH - 5;
 // The longest text of an address or a URL that is read.
 const LONGEST: usize = 2048;
 
-// An element of a list by its place, or that there is none left.
-#[derive(Clone, Copy)]
-pub enum Element {
-    At(usize),
-    Done,
-}
-
-// What a text is looked at for.
+// What a text is looked at for: the address of a server, or a URL.
 #[derive(Clone, Copy)]
 enum Sort {
     Place,
     Url,
 }
 
-// What is seen of an address object: where it ends, if it is good.
+// What is seen of a good address object: where it ends, if it does.
 #[derive(Clone, Copy)]
-enum SeenAddress {
-    Wrong,
-    Right(Skip),
+struct SeenAddress {
+    end: Option<usize>,
 }
 
-// How many elements a list has, or that one is wrong.
+// The members of a server object, by what is found of each.
 #[derive(Clone, Copy)]
-enum Count {
-    Of(usize),
-    Bad,
+struct ServerParts {
+    name: Found,
+    version: Found,
+    scheme: Found,
+    key: Found,
+    addresses: Found,
 }
 
-// What is seen of a server object: whether it can be asked, whether it has too many addresses, and where it ends.
+// What is seen of a good server object: whether we can ask the server, whether it has too many addresses, and where the
+// object ends, if it does. Each is a fact of its own: beside neither of the first two stands a value that it speaks of.
 #[derive(Clone, Copy)]
-enum Seen {
-    Wrong,
-    Right(bool, bool, Skip),
+struct Seen {
+    asks: bool,
+    crowded: bool,
+    end: Option<usize>,
 }
 
-// What is counted of server objects: whether all are good, how many there are, how many can be asked, whether one has
-// too many addresses, and the places of those that can be asked.
+// What is counted of good server objects: how many there are, how many can be asked, whether one has too many addresses
+// (of which nothing else is kept), and the places of those that can be asked.
+// places: an array beside its count, since the library has no heap.
 #[derive(Clone, Copy)]
 struct Tally {
-    good: bool,
     count: usize,
     asked: usize,
     crowded: bool,
     places: [usize; 64],
 }
 
-// What a list says: the number of its refusal, 0 where it has none; how many servers can be asked, at which places, and
-// how many are passed over; where it says its sources, and where reports go.
+// What a list says that is not refused: how many servers can be asked, at which places, and how many are passed over;
+// where it says its sources, and where reports go.
+// places: an array beside its count, since the library has no heap.
 #[derive(Clone, Copy)]
 pub struct Survey {
-    pub code: u8,
     pub asked: usize,
     pub passed: usize,
     pub places: [usize; 64],
     pub sources: Found,
     pub reports: Found,
-}
-
-// How many records stand at the front of the buffer and how many servers were passed over, or why there are none.
-#[derive(Clone, Copy)]
-pub enum Servers {
-    Records(usize, usize),
-    Refused(Refusal),
 }

@@ -7,15 +7,14 @@ ghost use Rattle.list_read.specs.Listed.{list_of};
 ghost use Rattle.list_read.specs.Read.{record_of, read_of, servers_number, record_bytes};
 ghost use Rattle.list_read.specs.Facts.{can_ask, all_ask, records_at};
 
+use super::IN_SERVER;
 use super::surveys::survey_of;
 use super::values::string_place;
-use super::{IN_SERVER, Servers};
 use hash::srv_value;
 use json_base64::decode;
-use json_tokens::Skip;
 use json_values::find;
 use octets::put;
-use refusal::{codes, refuse};
+use refusal::{Refusal, codes, refuse};
 
 // The key of a server that can be asked.
 fn key_of(s: &[u8], k: usize) -> [u8; 32]
@@ -23,7 +22,7 @@ fn key_of(s: &[u8], k: usize) -> [u8; 32]
     ensures { result ≡ (server_at s.now k).key }
 {
     let mut key = [0u8; 32];
-    let Skip::Past(p) = string_place(s, find(s, k, IN_SERVER, b"publicKey")) else {
+    let Some(p) = string_place(s, find(s, k, IN_SERVER, b"publicKey")) else {
         return key;
     };
     decode(s, p, &mut key);
@@ -41,33 +40,27 @@ fn put_record(s: &[u8], k: usize, out: &mut [u8], at: usize)
     put(out, at + 32, &srv);
 }
 
-// The records of the servers at the first n places.
-fn put_all(s: &[u8], n: usize, places: [usize; 64], out: &mut [u8])
-    requires { (n ≤ 64) × ((all_ask s.now (take n places) ≡ true) × (n * 64 ≤ length out.old)) }
-    ensures { out.new ≡ fronted (records_at s.now (take n places)) out.old }
+// The records of the servers at the places.
+fn put_all(s: &[u8], places: &[usize], out: &mut [u8])
+    requires { (all_ask s.now places.now ≡ true) × (length places.now * 64 ≤ length out.old) }
+    ensures { out.new ≡ fronted (records_at s.now places.now) out.old }
 {
-    let mut i = 0;
-    while i < n {
-        put_record(s, places[i], out, i * 64);
-        i += 1;
+    for (i, k) in places.iter().enumerate() {
+        put_record(s, *k, out, i * 64);
     }
 }
 
 // The records of the servers of a list that can be asked, at the front of out. 24 is judged of every server first, past
 // the 64th too.
-pub fn read_servers(text: &[u8], out: &mut [u8]) -> Servers
+pub fn read_servers(text: &[u8], out: &mut [u8]) -> Result<(usize, usize), Refusal>
     ensures value { result ≡ read_of (list_of text.now) (length out.old) }
     ensures out_after { out.new ≡ written (servers_number result) (record_bytes (list_of text.now)) out.old }
 {
-    let y = survey_of(text);
-    if y.code != 0 {
-        return Servers::Refused(refuse(y.code));
-    }
+    let y = survey_of(text)?;
     let n = y.asked;
     if out.len() < n * 64 {
-        return Servers::Refused(refuse(codes::ROOM));
+        return Err(refuse(codes::ROOM));
     }
-    let p = y.places;
-    put_all(text, n, p, out);
-    Servers::Records(n, y.passed)
+    put_all(text, &y.places[..n], out);
+    Ok((n, y.passed))
 }

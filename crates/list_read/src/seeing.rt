@@ -7,23 +7,19 @@ use super::addresses::addresses_in;
 use super::texts::has_text;
 use super::values::{array_place, is_word, key_size, string_place};
 use super::versions::{is_integer, is_ours};
-use super::{Count, IN_SERVER, Seen};
-use json_base64::Size;
-use json_tokens::{Skip, byte};
+use super::{IN_SERVER, Seen, ServerParts};
+use json_tokens::byte;
 use json_values::{Found, members};
 
 // How many addresses a member has, if it is a list and each is good.
-fn addresses_of(s: &[u8], f: Found) -> Count
+fn addresses_of(s: &[u8], f: Found) -> Option<usize>
     ensures { result ≡ counted_in s.now (list_of s.now f) }
 {
-    let Skip::Past(v) = array_place(s, f) else {
-        return Count::Bad;
-    };
-    addresses_in(s, v)
+    addresses_in(s, array_place(s, f)?)
 }
 
 // We can ask a server of this version, with a key of this type and size.
-fn may_ask(s: &[u8], version: Found, scheme: Skip, size: usize) -> bool
+fn may_ask(s: &[u8], version: Found, scheme: Option<usize>, size: usize) -> bool
     ensures { result ≡ may_ask s.now version scheme size }
 {
     if !is_word(s, scheme, b"ed25519") {
@@ -36,42 +32,32 @@ fn may_ask(s: &[u8], version: Found, scheme: Skip, size: usize) -> bool
 }
 
 // A server object by its members and its end.
-fn see_parts(
-    s: &[u8],
-    name: Found,
-    version: Found,
-    scheme: Found,
-    key: Found,
-    addresses: Found,
-    end: Skip,
-) -> Seen
-    ensures { result ≡ seen_by s.now name version scheme key addresses end }
+fn see_parts(s: &[u8], parts: ServerParts, end: Option<usize>) -> Option<Seen>
+    ensures { result ≡ seen_by s.now parts end }
 {
-    if !has_text(s, name) {
-        return Seen::Wrong;
+    if !has_text(s, parts.name) {
+        return None;
     }
-    if !is_integer(s, version) {
-        return Seen::Wrong;
+    if !is_integer(s, parts.version) {
+        return None;
     }
-    let Skip::Past(p) = string_place(s, scheme) else {
-        return Seen::Wrong;
-    };
-    let Size::Of(n) = key_size(s, key) else {
-        return Seen::Wrong;
-    };
-    let Count::Of(m) = addresses_of(s, addresses) else {
-        return Seen::Wrong;
-    };
-    Seen::Right(may_ask(s, version, Skip::Past(p), n), 8 < m, end)
+    let p = string_place(s, parts.scheme)?;
+    let n = key_size(s, parts.key)?;
+    let m = addresses_of(s, parts.addresses)?;
+    Some(Seen {
+        asks: may_ask(s, parts.version, Some(p), n),
+        crowded: 8 < m,
+        end,
+    })
 }
 
 // A server object at its place.
-pub fn see(s: &[u8], k: usize) -> Seen
+pub fn see(s: &[u8], k: usize) -> Option<Seen>
     ensures { result ≡ seen_of s.now k }
 {
     let b = byte(s, k);
     if b != b'{' {
-        return Seen::Wrong;
+        return None;
     }
     let m = members(
         s,
@@ -83,11 +69,12 @@ pub fn see(s: &[u8], k: usize) -> Seen
         b"publicKey",
         b"addresses",
     );
-    let name = m.a;
-    let version = m.b;
-    let scheme = m.c;
-    let key = m.d;
-    let addresses = m.e;
-    let end = m.end;
-    see_parts(s, name, version, scheme, key, addresses, end)
+    let parts = ServerParts {
+        name: m.a,
+        version: m.b,
+        scheme: m.c,
+        key: m.d,
+        addresses: m.e,
+    };
+    see_parts(s, parts, m.end)
 }

@@ -1,87 +1,55 @@
 // All servers of a list, counted.
 ghost use Rattle.std.specs.Prelude.{◌≡◌, ◌+◌, ◌^◌, ◌<◌, length};
-ghost use Rattle.laws.specs.Pick.{pick, either};
 ghost use Rattle.report_read.specs.Entry.{elements_of};
 ghost use Rattle.list_read.specs.Server.{in_servers};
-ghost use Rattle.list_read.specs.Facts.{kept_of, blank_of, Counts, Tells};
+ghost use Rattle.list_read.specs.Facts.{blank_tally, Counts, Tells};
 
 use super::elements::{first_item, next_past};
 use super::seeing::see;
-use super::{Element, IN_SERVERS, Seen, Tally};
+use super::{IN_SERVERS, Seen, Tally};
 
-// A place more, where there is room.
-fn kept(places: [usize; 64], m: usize, k: usize, asks: bool) -> [usize; 64]
-    ensures { result ≡ kept_of places m k asks }
-{
-    let mut p = places;
-    if asks {
-        if m < 64 {
-            p[m] = k;
-        }
-    }
-    p
-}
-
-fn one_more(m: usize, asks: bool) -> usize
-    requires { m + 1 < 2 ^ 64 }
-    ensures { result ≡ pick asks (m + 1) m }
-{
-    if asks { m + 1 } else { m }
-}
-
-fn any(a: bool, b: bool) -> bool
-    ensures { result ≡ either a b }
-{
-    if a { true } else { b }
-}
-
-// A server more.
-fn counted(t: Tally, k: usize, asks: bool, crowded: bool) -> Tally
+// A server more. Its place is kept where there is room.
+#[tactic(auto, unfolding(laws::specs::Pick::either, laws::specs::Pick::pick, crate::specs::Facts::kept_of))]
+fn counted(t: Tally, k: usize, seen: Seen) -> Tally
     requires { (t.count + 1 < 2 ^ 64) × (t.asked + 1 < 2 ^ 64) }
-    ensures { Counts t k asks crowded result }
+    ensures { Counts t k seen result }
 {
-    let p = t.places;
-    let m = t.asked;
-    let q = kept(p, m, k, asks);
-    Tally {
-        good: t.good,
-        count: t.count + 1,
-        asked: one_more(m, asks),
-        crowded: any(t.crowded, crowded),
-        places: q,
+    let mut u = t;
+    u.count += 1;
+    u.crowded = t.crowded || seen.crowded;
+    if seen.asks {
+        if t.asked < 64 {
+            u.places[t.asked] = k;
+        }
+        u.asked += 1;
     }
+    u
 }
 
-// Nothing is counted yet, or something is wrong.
-fn blank(good: bool) -> Tally
-    ensures { result ≡ blank_of good }
+// Nothing is counted yet.
+fn blank() -> Tally
+    ensures { result ≡ blank_tally }
 {
-    let p = [0usize; 64];
     Tally {
-        good: good,
         count: 0,
         asked: 0,
         crowded: false,
-        places: p,
+        places: [0; 64],
     }
 }
 
-// The servers of the list at a place.
-pub fn tally(s: &[u8], v: usize) -> Tally
+// The servers of the list at a place, if all are good.
+pub fn tally(s: &[u8], v: usize) -> Option<Tally>
     requires { v < length s.now }
     ensures { Tells s.now (elements_of s.now in_servers v) result }
 {
     let mut at = first_item(s, v, IN_SERVERS);
-    let mut t = blank(true);
-    loop {
-        let Element::At(k) = at else {
-            return t;
-        };
-        let Seen::Right(asks, crowded, end) = see(s, k) else {
-            return blank(false);
-        };
-        let u = counted(t, k, asks, crowded);
-        t = u;
-        at = next_past(s, end);
+    let mut t = blank();
+    // while: where the next one starts is learned from the look at this one, so that no text is walked over twice.
+    while let Some(k) = at {
+        let seen = see(s, k)?;
+        t = counted(t, k, seen);
+        at = next_past(s, seen.end);
     }
+    Some(t)
 }

@@ -8,8 +8,8 @@ ghost use Rattle.list_read.specs.Facts.{of_sort};
 use super::values::string_place;
 use super::{LONGEST, Sort};
 use json_strings::unescaped_run;
-use json_text::{TextSize, fill, is_unicode, text_size};
-use json_tokens::{Skip, byte};
+use json_text::{fill, is_unicode, text_size};
+use json_tokens::byte;
 use json_values::Found;
 use list_address::{is_address, is_https};
 
@@ -17,7 +17,7 @@ use list_address::{is_address, is_https};
 pub fn has_text(s: &[u8], f: Found) -> bool
     ensures { result ≡ is_some (text_by s.now f) }
 {
-    let Skip::Past(p) = string_place(s, f) else {
+    let Some(p) = string_place(s, f) else {
         return false;
     };
     is_unicode(s, p)
@@ -37,7 +37,7 @@ fn is_of(x: &[u8], sort: Sort) -> bool
 fn is_written(s: &[u8], p: usize, sort: Sort) -> bool
     ensures { result ≡ passes (of_sort sort) (text_of (content_at s.now p)) }
 {
-    let TextSize::Of(n) = text_size(s, p) else {
+    let Some(n) = text_size(s, p) else {
         return false;
     };
     if LONGEST < n {
@@ -67,7 +67,7 @@ fn is_there(s: &[u8], p: usize, sort: Sort) -> bool
 pub fn is_sort(s: &[u8], f: Found, sort: Sort) -> bool
     ensures { result ≡ passes (of_sort sort) (text_by s.now f) }
 {
-    let Skip::Past(p) = string_place(s, f) else {
+    let Some(p) = string_place(s, f) else {
         return false;
     };
     is_there(s, p, sort)

@@ -7,47 +7,36 @@ ghost use Rattle.json_strings.specs.Text.{same_list};
 ghost use Rattle.json_text.specs.Octets.{plain};
 ghost use Rattle.list_read.specs.Server.{is_mark, unmarked, is_some, up_to, version_by};
 
-use json_tokens::{Skip, byte, number};
+use json_tokens::{byte, number};
 use json_values::Found;
 
 // The first byte of a fraction or of an exponent.
+#[tactic(auto, unfolding(crate::specs::Server::is_mark, laws::specs::Pick::either))]
 fn is_mark(b: u8) -> bool
     ensures { result ≡ is_mark b }
 {
-    if b == b'.' {
-        return true;
-    }
-    if b == b'e' {
-        return true;
-    }
-    b == b'E'
+    matches!(b, b'.' | b'e' | b'E')
 }
 
 // Neither a fraction nor an exponent begins in the bytes.
 fn no_mark(x: &[u8]) -> bool
     ensures { result ≡ unmarked x.now }
 {
-    let mut k = 0;
-    while k < x.len() {
-        if is_mark(x[k]) {
-            return false;
-        }
-        k += 1;
-    }
-    true
+    !x.iter().any(|b| is_mark(*b))
 }
 
 // The value at a place is an integer.
 fn integer_at(s: &[u8], v: usize) -> bool
     ensures { result ≡ is_some (up_to s.now v (number_at s.now v)) }
 {
-    let Skip::Past(e) = number(s, v) else {
+    let Some(e) = number(s, v) else {
         return false;
     };
     no_mark(&s[v..e])
 }
 
-// A member is an integer.
+// A member is an integer. As `matches!` with the test for a guard neither this nor `is_ours` is proved by itself: what
+// each of its arms answers stays open.
 pub fn is_integer(s: &[u8], f: Found) -> bool
     ensures { result ≡ is_some (version_by s.now f) }
 {
@@ -58,13 +47,12 @@ pub fn is_integer(s: &[u8], f: Found) -> bool
     }
 }
 
+// The library's test by the name of the definition: called as it is in `ours_at`, it is not proved to be `digit`.
+#[tactic(auto, unfolding(laws::specs::Pick::both))]
 fn is_digit(b: u8) -> bool
     ensures { result ≡ digit b }
 {
-    if b < b'0' {
-        return false;
-    }
-    b <= b'9'
+    b.is_ascii_digit()
 }
 
 // The bytes are the digit 1.
@@ -90,7 +78,7 @@ fn ours_at(s: &[u8], v: usize) -> bool
     if is_digit(c) {
         return false;
     }
-    let Skip::Past(e) = number(s, v) else {
+    let Some(e) = number(s, v) else {
         return false;
     };
     is_one(&s[v..e])

@@ -1,4 +1,5 @@
 -- Laws of texts that are pieces one after the other, as they are put and as room is taken for them.
+use Rattle.std.specs.Prelude.{Option}
 use Prim.Native.Nat.{ℕ, ◌+◌, ◌-◌, ◌≤◌}
 use mathlib.Core.Path.{◌≡◌, refl, sym, ◌∙◌, ap}
 use mathlib.Core.List.{List, [], ◌∷◌, ◌++◌, append-nil}
@@ -9,7 +10,6 @@ use Rattle.laws.specs.Pasted.{pasted, fronted}
 use Rattle.laws.proofs.Pasted.{part-back, length_part}
 use Rattle.laws.specs.Flat.{flat}
 use Rattle.laws.specs.Written.{Puts}
-use Rattle.json_quote.specs.declared.Room.{Room}
 use Rattle.json_quote.specs.Room.{spent}
 use Rattle.json_quote.proofs.Putting.{Putting, putting-fit, putting-next, putting-last}
 use Rattle.json_quote.proofs.Rooms.{spent-sum}
@@ -39,7 +39,7 @@ unfolding flat
 pieces-last f = putting-last f
 
 -- room for the next piece
-pub room-piece : (a b : Room) (x : List ℕ) (xs : List (List ℕ)) {r : Room} → b ≡ spent a (length x)
+pub room-piece : (a b : Option ℕ) (x : List ℕ) (xs : List (List ℕ)) {r : Option ℕ} → b ≡ spent a (length x)
     → r ≡ spent b (length (flat xs)) → r ≡ spent a (length (flat (x ∷ xs)))
 room-piece a b x xs e f =
     f ∙ ap (λ z. spent z (length (flat xs))) e ∙ spent-sum a (length x) (length (flat xs))

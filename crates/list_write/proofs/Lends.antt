@@ -1,20 +1,22 @@
--- Laws of what is lent of many servers, for loops over them.
+-- Laws of what is lent of many servers: the lengths, whether all fits together, and the first server.
 use Prim.Native.Nat.{ℕ, zero, suc, ◌+◌, ◌*◌, ◌-◌, ◌/◌, ◌%◌, ◌≤◌, ◌<◌}
-use mathlib.Core.Path.{◌≡◌, refl, sym, ◌∙◌, ap}
-use mathlib.Core.Bool.{Bool, true, false}
+use mathlib.Core.Path.{◌≡◌, refl, sym, ◌∙◌, ap, ap₂}
+use mathlib.Core.Bool.{Bool, true, false, ◌&&◌, ◌||◌}
 use mathlib.Core.List.{List, [], ◌∷◌}
 use native.Mathlib.Omega.{arith}
 use native.Mathlib.Numerals.{add-one}
 use lib.Dec.{eqb}
-use lib.ListN.{length, drop, get_or, drop_of_length-le}
-use lib.Seq.{drop-cons}
+use lib.ListN.{length, take, drop, get_or, drop_of_length-le, length-drop}
+use lib.Seq.{drop-cons, drop-drop, length-take-le}
 use borrow.Author.Tests.{eq-eqb, ne_eqb, eqb-true, eqb-false}
+use Rattle.std.specs.List.{list_all, list_any}
 use Rattle.laws.specs.Pick.{either, both}
 use Rattle.laws.specs.Pasted.{part}
-use Rattle.laws.proofs.Pasted.{length_part}
-use Rattle.list_write.specs.Given.{given}
+use Rattle.list_write.specs.declared.Item.TheVariants.{Address}
+use Rattle.list_write.specs.Lines.{lines_of, all_good}
+use Rattle.list_write.specs.Given.{Given, given, good_server, is_crowded}
 use Rattle.list_write.specs.Lent.{Lent, lent, total, fitted, given_at, given_from, givens, all_servers, any_crowded}
-use Rattle.list_write.specs.Facts.{keyless, nameless, Cut, Place, Walk}
+use Rattle.list_write.proofs.Feeds.{halves}
 
 total-cons : (l : List ℕ) (i : ℕ) → i < length l → total (drop i l) ≡ get_or l i 0 + total (drop (i + 1) l)
 unfolding total
@@ -62,97 +64,111 @@ module _ (k n : ℕ) where
   pub keys-whole : {r b : Bool} → k % 32 ≡ 0 → k / 32 ≡ n → r ≡ b → r ≡ both (eqb k (32 * n)) b
   keys-whole e f g = let h : k ≡ 32 * n = omega arith in keys-right h g
 
-pub halves : (a b : Bool) → both a b ≡ true → (a ≡ true) × (b ≡ true)
-unfolding both
-halves true true z = (refl, refl)
-halves true false z = absurd (let w : ◌≡◌ {A = ℕ} 0 1 = cc in omega arith)
-halves false b z = absurd (let w : ◌≡◌ {A = ℕ} 0 1 = cc in omega arith)
-
--- ---- Pieces that stand one after the other.
-pub cut-is : (s : List ℕ) (p n : ℕ) {e : ℕ} → e ≡ p + n → p + n ≤ length s → Cut s p n (part p e s)
-cut-is s p n {e} q h = record {
-  is = ap (λ x. part p x s) q;
-  long = length_part s p e (omega arith) (omega arith) ∙ omega arith;
-}
-
-module _ {s lengths : List ℕ} {i p : ℕ} (w : Place s lengths i p) (h : i < length lengths) where
-  pub place-fits : p + get_or lengths i 0 ≤ length s
-  place-fits = omega (arith, w.left, total-cons lengths i h)
-
-  pub place-turn : {r : List ℕ} → Cut s p (get_or lengths i 0) r → Place s lengths (i + 1) (p + length r)
-  place-turn c = record { here = omega arith; left = omega (arith, w.left, total-cons lengths i h, c.long) }
-
-pub place-long : {s : List ℕ} {p n : ℕ} {r : List ℕ} → Cut s p n r → p + n ≤ length s → p + length r ≤ length s
-place-long c h = omega (arith, c.long)
-
--- ---- A place among the servers: server i, whose name starts at p, and whose addresses start at q.
-pub record Lending (l : Lent) (i p q : ℕ) : Type 0 where
+-- what fits together, by its lengths
+pub record Fitting (l : Lent) : Type 0 where
   pub keyed : length l.keys ≡ 32 * length l.versions
-  pub count : length l.lengths_of_names ≡ length l.versions
-  pub walk : Walk l.names l.lengths_of_names l.addresses l.lengths_of_addresses i p q
+  pub named : length l.lengths_of_names ≡ length l.versions
+  pub lined : length l.lengths_of_addresses ≡ length l.versions
+  pub names : total l.lengths_of_names ≡ length l.names
+  pub lines : total l.lengths_of_addresses ≡ length l.addresses
 
-pub lending-first : (l : Lent) → fitted l ≡ true → Lending l 0 0 0
+pub fitting : (l : Lent) → fitted l ≡ true → Fitting l
 unfolding fitted
-lending-first l h =
+fitting l h =
     let a = halves (eqb (length l.keys) (32 * length l.versions)) _ h in
     let b = halves (eqb (length l.lengths_of_names) (length l.versions)) _ a.1 in
     let c = halves (eqb (length l.lengths_of_addresses) (length l.versions)) _ b.1 in
     let d = halves (eqb (total l.lengths_of_names) (length l.names)) _ c.1 in
-    let n = eqb-true (length l.lengths_of_names) (length l.versions) b.0 in
-    let m = eqb-true (length l.lengths_of_addresses) (length l.versions) c.0 in
     record {
       keyed = eqb-true _ _ a.0;
-      count = n;
-      walk = record {
-        even = m ∙ sym n;
-        name = place-first (eqb-true (total l.lengths_of_names) (length l.names) d.0);
-        lines = place-first (eqb-true (total l.lengths_of_addresses) (length l.addresses) d.1);
-      };
+      named = eqb-true _ _ b.0;
+      lined = eqb-true _ _ c.0;
+      names = eqb-true _ _ d.0;
+      lines = eqb-true _ _ d.1;
     }
-  where
-    place-first : {s lengths : List ℕ} → total lengths ≡ length s → Place s lengths 0 0
-    place-first e = record { here = omega arith; left = omega arith }
 
-pub walk-lines : {ns nl xs al : List ℕ} {i p q : ℕ} → Walk ns nl xs al i p q → i < length nl → i < length al
-walk-lines w h = omega (arith, w.even)
+pub fits : {l : Lent} → Fitting l → fitted l ≡ true
+unfolding fitted both
+fits f = rw (eq-eqb _ _ f.keyed, eq-eqb _ _ f.named, eq-eqb _ _ f.lined, eq-eqb _ _ f.names, eq-eqb _ _ f.lines) refl
 
-pub walk_turn : {ns nl xs al : List ℕ} {i p q : ℕ} → Walk ns nl xs al i p q → i < length nl → {x y : List ℕ}
-    → Cut ns p (get_or nl i 0) x → Cut xs q (get_or al i 0) y → Walk ns nl xs al (i + 1) (p + length x) (q + length y)
-walk_turn w h c d = record {
-  even = w.even;
-  name = place-turn w.name h c;
-  lines = place-turn w.lines (walk-lines w h) d;
-}
+-- ---- The first server, and those behind it.
+part-on : (n p k : ℕ) (s : List ℕ) → part (n + p) (n + p + k) s ≡ part p (p + k) (drop n s)
+part-on n p k s =
+    let a : n + p + k - (n + p) ≡ k = omega arith in
+    let b : p + k - p ≡ k = omega arith in
+    ap₂ take (a ∙ sym b) (sym (drop-drop p n s))
 
-module _ {l : Lent} {i p q : ℕ} (w : Lending l i p q) (h : i < length l.versions) where
-  pub lending-name : i < length l.lengths_of_names
-  lending-name = omega (arith, w.count)
+module _ (ks vs ns nl xs al : List ℕ) (v n a : ℕ) where
+  abbrev here : Lent
+  here = lent ks (v ∷ vs) ns (n ∷ nl) xs (a ∷ al)
 
-  pub lending-lines : i < length l.lengths_of_addresses
-  lending-lines = walk-lines w.walk lending-name
+  abbrev there : Lent
+  there = lent (drop 32 ks) vs (drop n ns) nl (drop a xs) al
 
-  pub lending-key : 32 * i + 32 ≤ length l.keys
-  lending-key = omega (arith, w.keyed)
+  second : (l : List ℕ) (x i : ℕ) → get_or (x ∷ l) (i + 1) 0 ≡ get_or l i 0
+  second l x i = rw (add-one i) refl
 
-  pub lending-turn : {x y : List ℕ} → Cut l.names p (get_or l.lengths_of_names i 0) x
-      → Cut l.addresses q (get_or l.lengths_of_addresses i 0) y → Lending l (i + 1) (p + length x) (q + length y)
-  lending-turn c d = record { keyed = w.keyed; count = w.count; walk = walk_turn w.walk lending-name c d }
+  at-on : (i p q : ℕ) → given_at here (i + 1) (n + p) (a + q) ≡ given_at there i p q
+  unfolding given_at
+  at-on i p q =
+      let z : 32 * (i + 1) ≡ 32 + 32 * i = omega arith in
+      rw (z, second nl n i, second vs v i, second al a i)
+      (rw (part-on n p (get_or nl i 0) ns, part-on 32 (32 * i) 32 ks, part-on a q (get_or al i 0) xs) refl)
 
--- ---- The servers from there on.
+  from-on : (m i p q : ℕ) → given_from m here (i + 1) (n + p) (a + q) ≡ given_from m there i p q
+  unfolding given_from
+  from-on zero i p q = refl
+  from-on (suc m) i p q =
+      let e : n + p + get_or (n ∷ nl) (i + 1) 0 ≡ n + (p + get_or nl i 0) = omega (arith, second nl n i) in
+      let f : a + q + get_or (a ∷ al) (i + 1) 0 ≡ a + (q + get_or al i 0) = omega (arith, second al a i) in
+      ap₂ (λ g gs. g ∷ gs) (at-on i p q)
+      (ap₂ (given_from m here (i + 1 + 1)) e f ∙ from-on m (i + 1) (p + get_or nl i 0) (q + get_or al i 0))
 
-pub givens-turn : (l : Lent) (i p q : ℕ) {x y : List ℕ} → i < length l.versions
-    → Cut l.names p (get_or l.lengths_of_names i 0) x → Cut l.addresses q (get_or l.lengths_of_addresses i 0) y
-    → given_from (length l.versions - i) l i p q
-    ≡ given x (get_or l.versions i 0) (part (32 * i) (32 * i + 32) l.keys) y
-    ∷ given_from (length l.versions - (i + 1)) l (i + 1) (p + length x) (q + length y)
-unfolding given_from given_at
-givens-turn l i p q h c d =
-    let k : length l.versions - i ≡ suc (length l.versions - (i + 1)) = omega arith in
-    rw (k, c.long, d.long, c.is, d.is) refl
+  givens-first : givens here ≡ given (take n ns) v (take 32 ks) (take a xs) ∷ givens there
+  unfolding givens given_from given_at
+  givens-first =
+      let e : 0 + n - 0 ≡ n = omega arith in
+      let f : 0 + a - 0 ≡ a = omega arith in
+      let g : 0 + n ≡ n + 0 = omega arith in
+      let h : 0 + a ≡ a + 0 = omega arith in
+      ap₂ (λ x xs. x ∷ xs) (ap₂ (λ x y. given x v (take 32 ks) y) (ap (λ k. take k ns) e) (ap (λ k. take k xs) f))
+      (ap₂ (given_from (length vs) here 1) g h ∙ from-on (length vs) 0 0 0)
 
-pub givens-end : (l : Lent) (i p q : ℕ) → length l.versions ≤ i → given_from (length l.versions - i) l i p q ≡ []
-unfolding given_from
-givens-end l i p q h = let k : length l.versions - i ≡ 0 = omega arith in rw k refl
+  fits-behind : Fitting here → Fitting there
+  unfolding total
+  fits-behind f = record {
+    keyed = omega (arith, f.keyed, length-drop 32 ks);
+    named = omega (arith, f.named);
+    lined = omega (arith, f.lined);
+    names = omega (arith, f.names, length-drop n ns);
+    lines = omega (arith, f.lines, length-drop a xs);
+  }
+
+-- the same by what code has split off
+module _ (ks us ns ml xs bl : List ℕ) {vs nl al : List ℕ} {v n a : ℕ} (e : us ≡ v ∷ vs) (f : ml ≡ n ∷ nl) (g : bl ≡ a ∷ al)
+    (h : fitted (lent ks us ns ml xs bl) ≡ true) where
+  pub first-name : n ≤ length ns
+  unfolding total
+  first-name = let k = ap total f in omega (arith, (fitting _ h).names, k)
+
+  pub first-lines : a ≤ length xs
+  unfolding total
+  first-lines = let k = ap total g in omega (arith, (fitting _ h).lines, k)
+
+  pub first-key : length (take 32 ks) ≡ 32
+  first-key = let k = ap length e in length-take-le 32 ks (omega (arith, (fitting _ h).keyed, k))
+
+  module _ {ks' ns' xs' : List ℕ} (q : ks' ≡ drop 32 ks) (r : ns' ≡ drop n ns) (s : xs' ≡ drop a xs) where
+    pub behind-fits : fitted (lent ks' vs ns' nl xs' al) ≡ true
+    behind-fits = rw (q, r, s) (fits (fits-behind ks vs ns nl xs al v n a (fitting _ (rw (e, f, g) at h))))
+
+    pub first-is : {k x y : List ℕ} → x ≡ take n ns → k ≡ take 32 ks → y ≡ take a xs
+        → givens (lent ks us ns ml xs bl) ≡ given x v k y ∷ givens (lent ks' vs ns' nl xs' al)
+    first-is i j l = rw (q, r, s, i, j, l, e, f, g) (givens-first ks vs ns nl xs al v n a)
+
+pub no-servers : (l : Lent) → length l.versions ≡ 0 → givens l ≡ []
+unfolding givens given_from
+no-servers l h = rw h refl
 
 from-length : (l : Lent) (n i p q : ℕ) → length (given_from n l i p q) ≡ n
 unfolding given_from
@@ -163,26 +179,35 @@ pub givens-length : (l : Lent) → length (givens l) ≡ length l.versions
 unfolding givens
 givens-length l = from-length l (length l.versions) 0 0 0
 
--- ---- What does not look at keys and versions, and at names either.
-module _ (ks vs ns nl xs al : List ℕ) where
-  good-from : (n i p q : ℕ)
-      → all_servers (given_from n (keyless ns nl xs al) i p q) ≡ all_servers (given_from n (lent ks vs ns nl xs al) i p q)
-  unfolding given_from given_at all_servers
-  good-from zero i p q = refl
-  good-from (suc n) i p q = ap (both _) (good-from n (i + 1) _ _)
+-- ---- All servers.
+pub all-servers : (gs : List Given) → list_all (λ g. good_server g.name g.addresses) gs ≡ all_servers gs
+unfolding all_servers both
+all-servers [] = refl
+all-servers (g ∷ gs) = by (good_server g.name g.addresses) (all-servers gs)
+  where
+    by : (t : Bool) → list_all (λ g. good_server g.name g.addresses) gs ≡ all_servers gs
+        → (t && list_all (λ g. good_server g.name g.addresses) gs) ≡ both t (all_servers gs)
+    by true e = e
+    by false e = refl
 
-  crowd-from : (n i p o q : ℕ)
-      → any_crowded (given_from n (nameless xs al) i o q) ≡ any_crowded (given_from n (lent ks vs ns nl xs al) i p q)
-  unfolding given_from given_at any_crowded
-  crowd-from zero i p o q = refl
-  crowd-from (suc n) i p o q = ap (either _) (crowd-from n (i + 1) _ _ _)
+pub any-crowded : (gs : List Given) → list_any (λ g. is_crowded g.addresses) gs ≡ any_crowded gs
+unfolding any_crowded either
+any-crowded [] = refl
+any-crowded (g ∷ gs) = by (is_crowded g.addresses) (any-crowded gs)
+  where
+    by : (t : Bool) → list_any (λ g. is_crowded g.addresses) gs ≡ any_crowded gs
+        → (t || list_any (λ g. is_crowded g.addresses) gs) ≡ either t (any_crowded gs)
+    by true e = refl
+    by false e = e
 
-  pub good-keyless : length nl ≡ length vs
-      → all_servers (givens (keyless ns nl xs al)) ≡ all_servers (givens (lent ks vs ns nl xs al))
-  unfolding givens
-  good-keyless e = rw e (good-from (length vs) 0 0 0)
+-- what all of them being good says of the first
+pub servers-first : {gs : List Given} (x : Given) (xs : List Given) → gs ≡ x ∷ xs → all_servers gs ≡ true
+    → (good_server x.name x.addresses ≡ true) × (all_servers xs ≡ true)
+unfolding all_servers
+servers-first x xs e h = halves (good_server x.name x.addresses) (all_servers xs) (rw e at h)
 
-  pub crowd-nameless : length al ≡ length vs
-      → any_crowded (givens (nameless xs al)) ≡ any_crowded (givens (lent ks vs ns nl xs al))
-  unfolding givens
-  crowd-nameless e = rw e (crowd-from (length vs) 0 0 0 0)
+-- and of the lines of a good one
+pub good-lines : (name addresses : List ℕ) → good_server name addresses ≡ true
+    → all_good Address (lines_of addresses) ≡ true
+unfolding good_server
+good-lines name addresses h = (halves _ (all_good Address (lines_of addresses)) h).1

@@ -6,6 +6,5 @@ pub mod Tests
 pub mod Lends
 pub mod Openings
 pub mod Arrays
-pub mod Walks
 pub mod Answering
 pub mod Once

@@ -1,7 +1,7 @@
 -- The texts that are put by pieces, at their beginning; and how long some are.
+use Rattle.std.specs.Prelude.{Option}
 use Prim.Native.Nat.{ℕ, ◌+◌, ◌-◌, ◌≤◌}
 use mathlib.Core.Path.{◌≡◌, sym, ◌∙◌, ap}
-use mathlib.Core.Bool.{true, false}
 use mathlib.Core.List.{List, [], ◌∷◌}
 use native.Mathlib.Omega.{arith}
 use lib.ListN.{length, take, drop, length-take}
@@ -13,11 +13,11 @@ use Rattle.laws.specs.Flat.{flat}
 use Rattle.laws.specs.Pick.{pick}
 use Rattle.laws.specs.Written.{Puts}
 use Rattle.laws.proofs.Written.{puts_none}
-use Rattle.json_quote.specs.declared.Room.{Room}
 use Rattle.json_quote.specs.Quoted.{quoted}
 use Rattle.json_quote.specs.Room.{spent}
 use Rattle.json_quote.proofs.Putting.{Putting, putting-first}
 use Rattle.json_quote.proofs.Rooms.{spent-sum, spent-zero}
+use Rattle.list_write.specs.declared.Item.TheVariants.{Source, Address}
 use Rattle.list_write.specs.Decimal.{decimal}
 use Rattle.list_write.specs.Given.{Given}
 use Rattle.list_write.specs.Lines.{lines_of}
@@ -47,7 +47,7 @@ module _ (o : List ℕ) (at : ℕ) where
 
   pub server-first : (g : Given) → at + length (server_text g) ≤ length o
       → Putting (server_text g) (flat (head_text g.name g.version ∷ key_text g.key
-      ∷ items_text false (lines_of g.addresses) ∷ ascii "}" ∷ [])) o at o at
+      ∷ items_text Address (lines_of g.addresses) ∷ ascii "}" ∷ [])) o at o at
   unfolding server_text
   server-first g h = putting-first _ o at h
 
@@ -57,7 +57,7 @@ module _ (o : List ℕ) (at : ℕ) where
   sources-none s e h = rw (eq-eqb _ _ e) (puts_none o at (omega arith))
 
   pub sources-first : (s : List ℕ) → (length s ≡ 0 → ⊥) → at + length (sources_text s) ≤ length o
-      → Putting (sources_text s) (flat (ascii ",\"sources\":[" ∷ items_text true (lines_of s) ∷ [])) o at o at
+      → Putting (sources_text s) (flat (ascii ",\"sources\":[" ∷ items_text Source (lines_of s) ∷ [])) o at o at
   unfolding sources_text pick
   sources-first s e h = rw (ne_eqb _ _ e) (putting-first _ o at (rw (ne_eqb _ _ e) at h))
 
@@ -72,7 +72,7 @@ module _ (o : List ℕ) (at : ℕ) where
   reports-first s e h = rw (ne_eqb _ _ e) (putting-first _ o at (rw (ne_eqb _ _ e) at h))
 
 -- ---- Room. An address: what is fixed in it, and its string.
-pub address_room : (w a : Room) (t : List ℕ) {r : Room} → 4 ≤ length t → a ≡ spent w 29
+pub address_room : (w a : Option ℕ) (t : List ℕ) {r : Option ℕ} → 4 ≤ length t → a ≡ spent w 29
     → r ≡ spent a (length (quoted (take (length t - 4) (drop 4 t)))) → r ≡ spent w (length (address_text t))
 unfolding address_text
 address_room w a t h e f =
@@ -122,46 +122,46 @@ key-size key e =
 
 pub server-size : (g : Given) → length g.key ≡ 32
     → length (server_text g)
-    ≡ 119 + length (decimal g.version) + length (quoted g.name) + length (items_text false (lines_of g.addresses))
+    ≡ 119 + length (decimal g.version) + length (quoted g.name) + length (items_text Address (lines_of g.addresses))
 unfolding server_text
 server-size g e =
     let a = flat-length (head_text g.name g.version)
-    (key_text g.key ∷ items_text false (lines_of g.addresses) ∷ ascii "}" ∷ []) in
-    let b = flat-length (key_text g.key) (items_text false (lines_of g.addresses) ∷ ascii "}" ∷ []) in
-    let c = flat-length (items_text false (lines_of g.addresses)) (ascii "}" ∷ []) in
+    (key_text g.key ∷ items_text Address (lines_of g.addresses) ∷ ascii "}" ∷ []) in
+    let b = flat-length (key_text g.key) (items_text Address (lines_of g.addresses) ∷ ascii "}" ∷ []) in
+    let c = flat-length (items_text Address (lines_of g.addresses)) (ascii "}" ∷ []) in
     let d : _ ≡ 1 + length (flat []) = flat-length (ascii "}") [] in
     omega (arith, a, b, c, d, flat-none, head-size g.name g.version, key-size g.key e)
 
-pub server-room : (w a b : Room) (g : Given) (n : ℕ) {r : Room} → length g.key ≡ 32
+pub server-room : (w a b : Option ℕ) (g : Given) (n : ℕ) {r : Option ℕ} → length g.key ≡ 32
     → n ≡ 119 + length (decimal g.version)
     → a ≡ spent w n → b ≡ spent a (length (quoted g.name))
-    → r ≡ spent b (length (items_text false (lines_of g.addresses))) → r ≡ spent w (length (server_text g))
+    → r ≡ spent b (length (items_text Address (lines_of g.addresses))) → r ≡ spent w (length (server_text g))
 server-room w a b g n k l e f h =
     let x = length (quoted g.name) in
-    let y = length (items_text false (lines_of g.addresses)) in
+    let y = length (items_text Address (lines_of g.addresses)) in
     h ∙ ap (λ z. spent z y) (f ∙ ap (λ z. spent z x) e ∙ spent-sum w n x) ∙ spent-sum w (n + x) y
     ∙ ap (spent w) (omega (arith, server-size g k))
 
 -- the members behind the servers
-pub sources-room-none : (w : Room) (s : List ℕ) → length s ≡ 0 → w ≡ spent w (length (sources_text s))
+pub sources-room-none : (w : Option ℕ) (s : List ℕ) → length s ≡ 0 → w ≡ spent w (length (sources_text s))
 unfolding sources_text pick
 sources-room-none w s e = rw (eq-eqb _ _ e) (sym (spent-zero w))
 
-pub sources-room-some : (w a : Room) (s : List ℕ) {r : Room} → (length s ≡ 0 → ⊥) → a ≡ spent w 12
-    → r ≡ spent a (length (items_text true (lines_of s))) → r ≡ spent w (length (sources_text s))
+pub sources-room-some : (w a : Option ℕ) (s : List ℕ) {r : Option ℕ} → (length s ≡ 0 → ⊥) → a ≡ spent w 12
+    → r ≡ spent a (length (items_text Source (lines_of s))) → r ≡ spent w (length (sources_text s))
 unfolding sources_text pick
 sources-room-some w a s h e f =
-    rw (ne_eqb _ _ h) (room-piece w a (ascii ",\"sources\":[") (items_text true (lines_of s) ∷ []) e
-    (f ∙ ap (spent a) (one (items_text true (lines_of s)))))
+    rw (ne_eqb _ _ h) (room-piece w a (ascii ",\"sources\":[") (items_text Source (lines_of s) ∷ []) e
+    (f ∙ ap (spent a) (one (items_text Source (lines_of s)))))
   where
     one : (x : List ℕ) → length x ≡ length (flat (x ∷ []))
     one x = omega (arith, flat-length x [], flat-none)
 
-pub reports-room-none : (w : Room) (s : List ℕ) → length s ≡ 0 → w ≡ spent w (length (reports_text s))
+pub reports-room-none : (w : Option ℕ) (s : List ℕ) → length s ≡ 0 → w ≡ spent w (length (reports_text s))
 unfolding reports_text pick
 reports-room-none w s e = rw (eq-eqb _ _ e) (sym (spent-zero w))
 
-pub reports-room-some : (w a : Room) (s : List ℕ) {r : Room} → (length s ≡ 0 → ⊥) → a ≡ spent w 11
+pub reports-room-some : (w a : Option ℕ) (s : List ℕ) {r : Option ℕ} → (length s ≡ 0 → ⊥) → a ≡ spent w 11
     → r ≡ spent a (length (quoted s)) → r ≡ spent w (length (reports_text s))
 unfolding reports_text pick
 reports-room-some w a s h e f =

@@ -1,28 +1,28 @@
--- For the private functions: a walk over the servers that are lent.
-use Rattle.std.specs.Prelude.{ℕ, ◌+◌, ◌≤◌, List, [], ◌≡◌, length, drop}
-use Rattle.laws.specs.Pasted.{part}
-use Rattle.list_write.specs.Lent.{Lent, lent, total}
+-- For the private functions: what is left of the iterators, and what is known of a list that can be written.
+use Rattle.std.specs.Prelude.{ℕ, true, false, List, ◌≡◌, None, Option, Some}
+use Rattle.list_write.specs.declared.Item.TheVariants.{Source}
+use Rattle.list_write.specs.declared.Listing.{Listing}
+use Rattle.list_write.specs.declared.lending.Lent.{Lent as Parts}
+use Rattle.list_write.specs.declared.lending.Servers.{Servers}
+use Rattle.list_write.specs.declared.lines.Lines.{Lines}
+use Rattle.list_write.specs.Given.{Given}
+use Rattle.list_write.specs.Lines.{lines_of, all_good}
+use Rattle.list_write.specs.Lent.{fitted, givens, all_servers}
+use Rattle.list_write.specs.Lending.{lent_of}
 
--- servers by their names and addresses, for what does not look at keys and versions; and by their addresses alone.
--- Lengths stand in for the versions, of which only the number counts.
-abbrev pub keyless : List ℕ → List ℕ → List ℕ → List ℕ → Lent
-keyless ns nl xs al = lent [] nl ns nl xs al
+-- the servers, and the lines, that are still to come
+abbrev pub given_left : Servers → List Given
+given_left s = givens (lent_of s.left)
 
-abbrev pub nameless : List ℕ → List ℕ → Lent
-nameless xs al = lent [] al [] [] xs al
+abbrev pub lines_left : Lines → List (List ℕ)
+lines_left s = lines_of s.0.now
 
--- r has the n bytes of s from p on
-pub record Cut (s : List ℕ) (p n : ℕ) (r : List ℕ) : Type 0 where
-  pub is : r ≡ part p (p + n) s
-  pub long : length r ≡ n
+-- the servers of what is lent, if it fits together
+abbrev pub Fits : Parts → Option Servers → Type 0
+Fits l (Some s) = s.left ≡ l
+Fits l None = fitted (lent_of l) ≡ false
 
--- of the pieces that stand in s one after the other and are as long as lengths says, piece i starts at p
-pub record Place (s lengths : List ℕ) (i p : ℕ) : Type 0 where
-  pub here : i ≤ length lengths
-  pub left : p + total (drop i lengths) ≡ length s
-
--- the name of server i starts at p, and its addresses start at q
-pub record Walk (names lengths_of_names addresses lengths_of_addresses : List ℕ) (i p q : ℕ) : Type 0 where
-  pub even : length lengths_of_addresses ≡ length lengths_of_names
-  pub name : Place names lengths_of_names i p
-  pub lines : Place addresses lengths_of_addresses i q
+-- a list that nothing but room can keep from being written
+pub record Ready (l : Listing) : Type 0 where
+  pub servers : all_servers (given_left l.servers) ≡ true
+  pub lines : all_good Source (lines_of l.sources.now) ≡ true

@@ -1,7 +1,8 @@
 -- What is lent of one server, and what is refused of it.
-use Rattle.std.specs.Prelude.{ℕ, Bool, false, List, eqb, ltb, length}
+use Rattle.std.specs.Prelude.{ℕ, Bool, List, eqb, ltb, length}
 use Rattle.laws.specs.Pick.{pick, either, both}
 use Rattle.json_quote.specs.Utf8.{is_utf8}
+use Rattle.list_write.specs.declared.Item.TheVariants.{Address}
 use Rattle.list_write.specs.Lines.{lines_of, all_good, is_url}
 
 -- its name as UTF-8, the number of its version, its key, and the lines of its addresses
@@ -16,7 +17,7 @@ given n v k a = record { name = n; version = v; key = k; addresses = a }
 
 -- the name is UTF-8, and each line an address
 unfoldable pub good_server : List ℕ → List ℕ → Bool
-good_server name addresses = both (is_utf8 name) (all_good false (lines_of addresses))
+good_server name addresses = both (is_utf8 name) (all_good Address (lines_of addresses))
 
 -- more than 8 addresses
 unfoldable pub is_crowded : List ℕ → Bool

@@ -1,11 +1,13 @@
 -- Lines, and what they are to hold.
 use Prim.Native.Char.{code}
-use Rattle.std.specs.Prelude.{ℕ, suc, ◌+◌, ◌-◌, Bool, true, false, List, [], ◌∷◌, eqb, leb, length, take, drop, get_or}
+use Rattle.std.specs.Prelude.{ℕ, suc, ◌-◌, Bool, true, List, [], ◌∷◌, eqb, leb, length, take, drop, get_or}
 use Rattle.laws.specs.Ascii.{ascii}
 use Rattle.laws.specs.Pick.{pick, either, both}
 use Rattle.laws.specs.Same.{same}
 use Rattle.list_address.specs.Address.{is_address}
 use Rattle.list_address.specs.Https.{is_https}
+use Rattle.list_write.specs.declared.Item.{Item}
+use Rattle.list_write.specs.declared.Item.TheVariants.{Source, Address}
 
 -- an octet before the first line
 unfoldable pub on_line : ℕ → List (List ℕ) → List (List ℕ)
@@ -40,22 +42,19 @@ unfoldable pub is_address_line : List ℕ → Bool
 is_address_line t =
     both (is_protocol (take 4 t)) (both (leb (length (drop 4 t)) longest) (is_address (drop 4 t)))
 
--- a source, or else an address
-unfoldable pub is_item : Bool → List ℕ → Bool
-is_item true t = is_url t
-is_item false t = is_address_line t
+-- what a line is to hold
+unfoldable pub is_item : Item → List ℕ → Bool
+is_item Source t = is_url t
+is_item Address t = is_address_line t
 
-unfoldable pub item_good : Bool → List ℕ → Bool
-item_good url l = both (ended l) (is_item url (line_text l))
+unfoldable pub item_good : Item → List ℕ → Bool
+item_good item l = both (ended l) (is_item item (line_text l))
 
-unfoldable pub all_good : Bool → List (List ℕ) → Bool
-all_good url [] = true
-all_good url (l ∷ ls) = both (item_good url l) (all_good url ls)
+unfoldable pub all_good : Item → List (List ℕ) → Bool
+all_good item [] = true
+all_good item (l ∷ ls) = both (item_good item l) (all_good item ls)
 
--- For the private functions: how long the first line is, and where the one that starts at k ends.
+-- For the private functions: how long the first line is.
 unfoldable pub line_size : List ℕ → ℕ
 line_size [] = 0
 line_size (x ∷ xs) = pick (eqb x (code "\n")) 1 (suc (line_size xs))
-
-unfoldable pub past_line : List ℕ → ℕ → ℕ
-past_line s k = k + line_size (drop k s)

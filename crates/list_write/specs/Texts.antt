@@ -6,6 +6,8 @@ use Rattle.laws.specs.Ascii.{ascii}
 use Rattle.laws.specs.Flat.{flat}
 use Rattle.laws.specs.Pick.{pick}
 use Rattle.json_quote.specs.Quoted.{quoted}
+use Rattle.list_write.specs.declared.Item.{Item}
+use Rattle.list_write.specs.declared.Item.TheVariants.{Source, Address}
 use Rattle.list_write.specs.Decimal.{decimal}
 use Rattle.list_write.specs.Lines.{lines_of, line_text}
 use Rattle.list_write.specs.Given.{Given}
@@ -27,16 +29,16 @@ unfoldable pub address_text : List ℕ → List ℕ
 address_text t =
     flat (ascii "{\"protocol\":\"" ∷ take 3 t ∷ ascii "\",\"address\":" ∷ quoted (drop 4 t) ∷ ascii "}" ∷ [])
 
--- a source, or else an address
-unfoldable pub item_text : Bool → List ℕ → List ℕ
-item_text true t = quoted t
-item_text false t = address_text t
+-- what a line holds
+unfoldable pub item_text : Item → List ℕ → List ℕ
+item_text Source t = quoted t
+item_text Address t = address_text t
 
-unfoldable pub element_text : Bool → List ℕ → List ℕ
-element_text url l = item_text url (line_text l)
+unfoldable pub element_text : Item → List ℕ → List ℕ
+element_text item l = item_text item (line_text l)
 
-unfoldable pub items_text : Bool → List (List ℕ) → List ℕ
-items_text url ls = row (element_text url) true ls
+unfoldable pub items_text : Item → List (List ℕ) → List ℕ
+items_text item ls = row (element_text item) true ls
 
 -- ---- Servers.
 
@@ -50,7 +52,7 @@ key_text key =
 unfoldable pub server_text : Given → List ℕ
 server_text g =
     flat
-    (head_text g.name g.version ∷ key_text g.key ∷ items_text false (lines_of g.addresses) ∷ ascii "}" ∷ [])
+    (head_text g.name g.version ∷ key_text g.key ∷ items_text Address (lines_of g.addresses) ∷ ascii "}" ∷ [])
 
 unfoldable pub servers_text : List Given → List ℕ
 servers_text gs = row server_text true gs
@@ -60,7 +62,7 @@ servers_text gs = row server_text true gs
 -- no member where no source is lent,
 unfoldable pub sources_text : List ℕ → List ℕ
 sources_text s =
-    pick (eqb (length s) 0) [] (flat (ascii ",\"sources\":[" ∷ items_text true (lines_of s) ∷ []))
+    pick (eqb (length s) 0) [] (flat (ascii ",\"sources\":[" ∷ items_text Source (lines_of s) ∷ []))
 
 -- and none where no URL for reports is
 unfoldable pub reports_text : List ℕ → List ℕ

@@ -1,50 +1,46 @@
 // What is refused of the servers that are lent.
 ghost use Rattle.std.specs.Prelude.{◌≡◌};
+ghost use Rattle.refusal.specs.Refusal.{refusal, passes};
 ghost use Rattle.list_write.specs.Given.{good_server, is_crowded, server_code, good_reports};
 
-use super::ADDRESSES;
 use super::items::is_url;
 use super::lines::{line_count, lines_good};
+use super::{ADDRESSES, Item, Server};
 use json_quote::is_utf8;
-use refusal::codes;
+use refusal::{Refusal, codes, refuse};
 
 // Whether a server can be written.
-pub fn server_good(name: &[u8], addresses: &[u8]) -> bool
-    ensures { result ≡ good_server name.now addresses.now }
+#[tactic(auto, unfolding(crate::specs::Given::good_server, laws::specs::Pick::both))]
+pub fn server_good(server: Server<'_>) -> bool
+    ensures { result ≡ good_server server.entry.name.now server.entry.addresses.now }
 {
-    if !is_utf8(name) {
-        return false;
-    }
-    lines_good(addresses, false)
+    is_utf8(server.name) && lines_good(server.addresses, Item::Address)
 }
 
 // Whether it has too many addresses.
-pub fn is_crowded(addresses: &[u8]) -> bool
-    ensures { result ≡ is_crowded addresses.now }
+pub fn is_crowded(server: Server<'_>) -> bool
+    ensures { result ≡ is_crowded server.entry.addresses.now }
 {
-    ADDRESSES < line_count(addresses)
+    ADDRESSES < line_count(server.addresses)
 }
 
-// The code of a server, 0 where nothing is refused of it.
-pub fn server_code(name: &[u8], addresses: &[u8]) -> u8
-    ensures { result ≡ server_code name.now addresses.now }
+// Why a server is refused.
+pub fn check_server(server: Server<'_>) -> Result<(), Refusal>
+    ensures { result ≡ passes (refusal (server_code server.entry.name.now server.entry.addresses.now)) }
 {
-    if !server_good(name, addresses) {
-        return codes::REPORT_TEXT;
+    if !server_good(server) {
+        return Err(refuse(codes::REPORT_TEXT));
     }
-    if is_crowded(addresses) {
-        codes::ENTRIES
-    } else {
-        0
+    if is_crowded(server) {
+        return Err(refuse(codes::ENTRIES));
     }
+    Ok(())
 }
 
 // Whether the URL for reports is one, or is left out.
+#[tactic(auto, unfolding(crate::specs::Given::good_reports, laws::specs::Pick::either))]
 pub fn reports_good(reports: &[u8]) -> bool
     ensures { result ≡ good_reports reports.now }
 {
-    if reports.len() == 0 {
-        return true;
-    }
-    is_url(reports)
+    reports.is_empty() || is_url(reports)
 }

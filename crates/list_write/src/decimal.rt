@@ -11,6 +11,7 @@ pub fn digits_of(x: u32) -> Digits
     let mut text = [0u8; 10];
     let mut from = 9;
     let mut rest = x;
+    // loop: 0 has a digit, too.
     loop {
         text[from] = 48 + (rest % 10) as u8;
         if rest < 10 {

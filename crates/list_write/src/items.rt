@@ -2,6 +2,7 @@
 ghost use Rattle.std.specs.Prelude.{◌≡◌};
 ghost use Rattle.list_write.specs.Lines.{is_url, is_address_line, is_protocol, is_item};
 
+use super::Item;
 use list_address::{is_address, is_https};
 use octets::equal;
 
@@ -12,22 +13,18 @@ const UDP: [u8; 4] = *b"udp ";
 
 const TCP: [u8; 4] = *b"tcp ";
 
+#[tactic(auto, unfolding(crate::specs::Lines::is_url, laws::specs::Pick::both))]
 pub fn is_url(t: &[u8]) -> bool
     ensures { result ≡ is_url t.now }
 {
-    if LONGEST < t.len() {
-        return false;
-    }
-    is_https(t)
+    t.len() <= LONGEST && is_https(t)
 }
 
+#[tactic(auto, unfolding(crate::specs::Lines::is_protocol, laws::specs::Pick::either))]
 fn is_protocol(t: &[u8]) -> bool
     ensures { result ≡ is_protocol t.now }
 {
-    if equal(t, &UDP) {
-        return true;
-    }
-    equal(t, &TCP)
+    equal(t, &UDP) || equal(t, &TCP)
 }
 
 fn is_address_line(t: &[u8]) -> bool
@@ -45,11 +42,13 @@ fn is_address_line(t: &[u8]) -> bool
     is_address(&t[4..])
 }
 
-pub fn is_item(t: &[u8], url: bool) -> bool
-    ensures { result ≡ is_item url t.now }
+// Whether a line's text is what it is to hold. Not by `is_of` of `list_read`: in JSON the protocol of an address is a
+// member of its own, and here it stands before the address on its line.
+pub fn is_item(t: &[u8], item: Item) -> bool
+    ensures { result ≡ is_item item t.now }
 {
-    if url {
-        return is_url(t);
+    match item {
+        Item::Source => is_url(t),
+        Item::Address => is_address_line(t),
     }
-    is_address_line(t)
 }

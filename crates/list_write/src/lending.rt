@@ -1,24 +1,27 @@
-// What is lent of many servers: keys of 32 bytes and numbers of versions; names one after the other, and their lengths;
-// and so their lines of addresses.
-ghost use Rattle.std.specs.Prelude.{◌≡◌, ◌+◌, ◌≤◌, eqb, length};
-ghost use Rattle.list_write.specs.Lent.{lent, total, fitted, givens, all_servers, any_crowded};
-ghost use Rattle.list_write.specs.Facts.{keyless, nameless, Cut, Place, Walk};
+// What is lent of many servers, and the servers one after the other.
+ghost use Rattle.std.specs.Prelude.{◌≡◌, true, eqb};
+ghost use Rattle.list_write.specs.Lent.{total, fitted};
+ghost use Rattle.list_write.specs.Lending.{lent_of};
 
-use super::checking::{is_crowded, server_good};
+use super::server::Server;
 
-fn wide(x: u32) -> usize
-    ensures { result ≡ x }
-{
-    x as usize
+// Keys of 32 bytes, one after the other; the numbers of the versions; the names, one after the other, and how long each
+// is; and so the lines of the addresses.
+#[derive(Clone, Copy)]
+pub struct Lent<'a> {
+    pub keys: &'a [u8],
+    pub versions: &'a [u32],
+    pub names: &'a [u8],
+    pub name_lengths: &'a [u32],
+    pub addresses: &'a [u8],
+    pub address_lengths: &'a [u32],
 }
 
-// The n bytes of s from p on.
-pub fn piece(s: &[u8], p: usize, n: u32) -> &[u8]
-    requires { p + n ≤ length s.now }
-    ensures { Cut s.now p n result.now }
-{
-    let e = p + wide(n);
-    &s[p..e]
+// The servers that are left, of which all that is lent fits together.
+#[derive(Clone, Copy)]
+pub struct Servers<'a> {
+    pub left: Lent<'a>,
+    pub ghost whole: { fitted (lent_of left) ≡ true },
 }
 
 // Whether the lengths come to n.
@@ -26,95 +29,87 @@ fn comes_to(lengths: &[u32], n: usize) -> bool
     ensures { result ≡ eqb (total lengths.now) n }
 {
     let mut left = n;
-    let mut i = 0;
-    while i < lengths.len() {
-        let k = wide(lengths[i]);
+    for length in lengths {
+        let k = *length as usize;
         if left < k {
             return false;
         }
         left -= k;
-        i += 1;
     }
     left == 0
 }
 
-// Whether all that is lent fits together.
-pub fn fits(
-    keys: &[u8],
-    versions: &[u32],
-    names: &[u8],
-    name_lengths: &[u32],
-    addresses: &[u8],
-    address_lengths: &[u32],
-) -> bool
-    ensures { result
-        ≡ fitted
-        (lent keys.now versions.now names.now name_lengths.now
-        addresses.now address_lengths.now) }
-{
-    let n = versions.len();
-    if keys.len() % 32 != 0 {
-        return false;
-    }
-    if keys.len() / 32 != n {
-        return false;
-    }
-    if name_lengths.len() != n {
-        return false;
-    }
-    if address_lengths.len() != n {
-        return false;
-    }
-    if !comes_to(name_lengths, names.len()) {
-        return false;
-    }
-    comes_to(address_lengths, addresses.len())
-}
+impl<'a> Lent<'a> {
+    ghost use Rattle.list_write.specs.Facts.{Fits};
 
-// Whether all servers can be written.
-pub fn servers_good(
-    names: &[u8],
-    name_lengths: &[u32],
-    addresses: &[u8],
-    address_lengths: &[u32],
-) -> bool
-    requires { Walk names.now name_lengths.now addresses.now address_lengths.now 0 0 0 }
-    ensures { result
-        ≡ all_servers
-        (givens
-        (keyless names.now name_lengths.now addresses.now
-        address_lengths.now)) }
-{
-    let mut i = 0;
-    let mut p = 0;
-    let mut q = 0;
-    while i < name_lengths.len() {
-        let name = piece(names, p, name_lengths[i]);
-        let lines = piece(addresses, q, address_lengths[i]);
-        if !server_good(name, lines) {
+    // Whether all that is lent fits together.
+    fn fits(self) -> bool
+        ensures { result ≡ fitted (lent_of self.entry) }
+    {
+        let n = self.versions.len();
+        if self.keys.len() % 32 != 0 {
             return false;
         }
-        i += 1;
-        p += name.len();
-        q += lines.len();
+        if self.keys.len() / 32 != n {
+            return false;
+        }
+        if self.name_lengths.len() != n {
+            return false;
+        }
+        if self.address_lengths.len() != n {
+            return false;
+        }
+        if !comes_to(self.name_lengths, self.names.len()) {
+            return false;
+        }
+        comes_to(self.address_lengths, self.addresses.len())
     }
-    true
+
+    // The servers, if it does.
+    pub fn servers(self) -> Option<Servers<'a>>
+        ensures { Fits self.entry result }
+    {
+        if self.fits() {
+            Some(Servers { left: self })
+        } else {
+            None
+        }
+    }
 }
 
-// Whether one has too many addresses.
-pub fn any_crowded(addresses: &[u8], address_lengths: &[u32]) -> bool
-    requires { Place addresses.now address_lengths.now 0 0 }
-    ensures { result ≡ any_crowded (givens (nameless addresses.now address_lengths.now)) }
-{
-    let mut i = 0;
-    let mut q = 0;
-    while i < address_lengths.len() {
-        let lines = piece(addresses, q, address_lengths[i]);
-        if is_crowded(lines) {
-            return true;
-        }
-        i += 1;
-        q += lines.len();
+impl<'a> Iterator for Servers<'a> {
+    ghost use Rattle.std.specs.Iterator.{YieldsFirstBy, item_count};
+    ghost use Rattle.list_write.specs.Lending.{given_of};
+    ghost use Rattle.list_write.specs.Facts.{given_left};
+
+    type Item = Server<'a>;
+
+    ghost next_gives = { YieldsFirstBy given_of given_left };
+
+    ghost remaining = { item_count given_left };
+
+    fn next(&mut self) -> Option<Server<'a>> {
+        let l = self.left;
+        let (version, versions) = l.versions.split_first()?;
+        let (name_length, name_lengths) = l.name_lengths.split_first()?;
+        let (address_length, address_lengths) = l.address_lengths.split_first()?;
+        let (key, keys) = l.keys.split_first_chunk::<32>()?;
+        let (name, names) = l.names.split_at(*name_length as usize);
+        let (lines, addresses) = l.addresses.split_at(*address_length as usize);
+        let left = Lent {
+            keys,
+            versions,
+            names,
+            name_lengths,
+            addresses,
+            address_lengths,
+        };
+        *self = Servers { left };
+        Some(Server {
+            name,
+            version: *version,
+            key,
+            addresses: lines,
+        })
     }
-    false
 }

@@ -10,12 +10,14 @@ mod many;
 mod objects;
 mod pieces;
 mod rows;
+mod server;
 mod sizing;
 mod tails;
 mod whole;
 mod writing;
 
-use refusal::Refusal;
+use lending::Servers;
+use server::Server;
 pub use writing::{write_server, write_servers};
 
 // The most servers of a list, and the most addresses of a server.
@@ -23,11 +25,20 @@ const SERVERS: usize = 64;
 
 const ADDRESSES: usize = 8;
 
-// How long the text is that stands at the front of the buffer, or why nothing was written.
+// What a line is to hold: a source, which is a URL; or an address behind its protocol and a blank. It is public for the
+// definitions, which laws of other crates name.
 #[derive(Clone, Copy)]
-pub enum Listing {
-    Text(usize),
-    Refused(Refusal),
+pub enum Item {
+    Source,
+    Address,
+}
+
+// A whole list: its servers, the lines of its sources, and where reports go.
+#[derive(Clone, Copy)]
+struct Listing<'a> {
+    servers: Servers<'a>,
+    sources: &'a [u8],
+    reports: &'a [u8],
 }
 
 // A number in decimal: its digits end with the text, and start at this index of it.

@@ -1,12 +1,13 @@
 // The object of a server, piece after piece. Each function answers the index at which its piece ends.
-ghost use Rattle.std.specs.Prelude.{◌≡◌, true, false, ◌+◌, ◌≤◌, length};
+ghost use Rattle.std.specs.Prelude.{◌≡◌, true, ◌+◌, ◌≤◌, length};
 ghost use Rattle.laws.specs.Written.{Puts};
-ghost use Rattle.list_write.specs.Given.{given};
+ghost use Rattle.list_write.specs.Lending.{given_of};
 ghost use Rattle.list_write.specs.Lines.{lines_of, all_good};
 ghost use Rattle.list_write.specs.Texts.{head_text, key_text, server_text};
 
 use super::pieces::{put_byte, put_code, put_decimal, put_word};
 use super::rows::put_items;
+use super::{Item, Server};
 use json_quote::put_quoted;
 
 // The name and the version.
@@ -31,21 +32,14 @@ fn put_key(out: &mut [u8], at: usize, key: &[u8]) -> usize
 }
 
 // The whole object.
-pub fn put_server(
-    out: &mut [u8],
-    at: usize,
-    name: &[u8],
-    version: u32,
-    key: &[u8],
-    addresses: &[u8],
-) -> usize
-    requires { (all_good false (lines_of addresses.now) ≡ true)
-        × (at + length (server_text (given name.now version key.now addresses.now)) ≤ length out.old) }
-    ensures { Puts out.old at
-        (server_text (given name.now version key.now addresses.now)) out.new result }
+pub fn put_server(out: &mut [u8], at: usize, server: Server<'_>) -> usize
+    requires { (all_good Item.Address (lines_of server.addresses.now) ≡ true)
+        × (at + length (server_text (given_of server)) ≤ length out.old) }
+    ensures { Puts out.old at (server_text (given_of server.entry)) out.new result }
 {
-    let a = put_head(out, at, name, version);
+    let key: &[u8; 32] = server.key;
+    let a = put_head(out, at, server.name, server.version);
     let b = put_key(out, a, key);
-    let c = put_items(out, b, addresses, false);
+    let c = put_items(out, b, server.addresses, Item::Address);
     put_byte(out, c, b'}')
 }

@@ -3,13 +3,12 @@ ghost use Rattle.std.specs.Prelude.{[], ◌∷◌, ◌≡◌, ◌+◌, ◌≤◌
 ghost use Rattle.base64_strict.specs.Encode.{encode64};
 ghost use Rattle.laws.specs.Written.{Puts};
 ghost use Rattle.list_write.specs.Decimal.{decimal};
-ghost use Rattle.list_write.specs.Texts.{separator};
 
 use super::decimal::digits_of;
 use base64_strict::encode;
 use octets::put;
 
-// A word.
+// A word. Beside what `octets` puts, it answers where the word ends.
 pub fn put_word(out: &mut [u8], at: usize, w: &[u8]) -> usize
     requires { at + length w.now ≤ length out.old }
     ensures { Puts out.old at w.now out.new result }
@@ -27,7 +26,7 @@ pub fn put_byte(out: &mut [u8], at: usize, b: u8) -> usize
     at + 1
 }
 
-// A number in decimal.
+// A number in decimal. The library's `Display` would need a writer over the buffer; this is one word.
 pub fn put_decimal(out: &mut [u8], at: usize, x: u32) -> usize
     requires { at + length (decimal x) ≤ length out.old }
     ensures { Puts out.old at (decimal x) out.new result }
@@ -38,7 +37,7 @@ pub fn put_decimal(out: &mut [u8], at: usize, x: u32) -> usize
     put_word(out, at, &text[from..])
 }
 
-// Bytes in base64.
+// Bytes in base64. `report_write` has the same: `base64_strict`, from which both take `encode`, puts nothing at an index.
 pub fn put_code(out: &mut [u8], at: usize, s: &[u8]) -> usize
     requires { at + length (encode64 s.now) ≤ length out.old }
     ensures { Puts out.old at (encode64 s.now) out.new result }
@@ -46,15 +45,4 @@ pub fn put_code(out: &mut [u8], at: usize, s: &[u8]) -> usize
     let n = (s.len() + 2) / 3 * 4;
     encode(s, &mut out[at..at + n]);
     at + n
-}
-
-// The comma before every element of an array but the first.
-pub fn put_separator(out: &mut [u8], at: usize, first: bool) -> usize
-    requires { at + length (separator first) ≤ length out.old }
-    ensures { Puts out.old at (separator first) out.new result }
-{
-    if first {
-        return at;
-    }
-    put_byte(out, at, b',')
 }

@@ -6,13 +6,13 @@ ghost use Rattle.list_write.specs.Lent.{lent, givens};
 ghost use Rattle.list_write.specs.Texts.{server_text, list_text};
 ghost use Rattle.list_write.specs.Answers.{listing_number, server_answer, list_answer};
 
-use super::Listing;
-use super::checking::server_code;
+use super::checking::check_server;
+use super::lending::Lent;
 use super::objects::put_server;
 use super::sizing::server_room;
-use super::whole::{list_code, list_room, put_list};
-use json_quote::Room;
-use refusal::{codes, refuse};
+use super::whole::{check_list, list_room, put_list};
+use super::{Listing, Server};
+use refusal::{Refusal, codes, refuse};
 
 // One server object, at the front of out.
 pub fn write_server(
@@ -21,23 +21,27 @@ pub fn write_server(
     key: [u8; 32],
     addresses: &[u8],
     out: &mut [u8],
-) -> Listing
+) -> Result<usize, Refusal>
     ensures value { result ≡ server_answer (given name.now version key addresses.now) (length out.old) }
     ensures out_after { out.new
         ≡ written (listing_number result) (server_text (given name.now version key addresses.now))
         out.old }
 {
-    let code = server_code(name, addresses);
-    if code != 0 {
-        return Listing::Refused(refuse(code));
-    }
-    match server_room(Room::Left(out.len()), name, version, &key, addresses) {
-        Room::Left(_) => Listing::Text(put_server(out, 0, name, version, &key, addresses)),
-        Room::Short => Listing::Refused(refuse(codes::ROOM)),
+    let server = Server {
+        name,
+        version,
+        key: &key,
+        addresses,
+    };
+    check_server(server)?;
+    match server_room(Some(out.len()), server) {
+        Some(_) => Ok(put_server(out, 0, server)),
+        None => Err(refuse(codes::ROOM)),
     }
 }
 
-// A whole list, at the front of out.
+// A whole list, at the front of out. It takes each part by itself, as the C interface hands them over; inside they go
+// together.
 pub fn write_servers(
     keys: &[u8],
     versions: &[u32],
@@ -48,7 +52,7 @@ pub fn write_servers(
     sources: &[u8],
     reports: &[u8],
     out: &mut [u8],
-) -> Listing
+) -> Result<usize, Refusal>
     ensures value { result
         ≡ list_answer
         (lent keys.now versions.now names.now name_lengths.now
@@ -63,41 +67,25 @@ pub fn write_servers(
         sources.now reports.now)
         out.old }
 {
-    let code = list_code(
+    let lent = Lent {
         keys,
         versions,
         names,
         name_lengths,
         addresses,
         address_lengths,
+    };
+    let Some(servers) = lent.servers() else {
+        return Err(refuse(codes::LISTS));
+    };
+    let list = Listing {
+        servers,
         sources,
         reports,
-    );
-    if code != 0 {
-        return Listing::Refused(refuse(code));
-    }
-    match list_room(
-        Room::Left(out.len()),
-        keys,
-        versions,
-        names,
-        name_lengths,
-        addresses,
-        address_lengths,
-        sources,
-        reports,
-    ) {
-        Room::Left(_) => Listing::Text(put_list(
-            out,
-            keys,
-            versions,
-            names,
-            name_lengths,
-            addresses,
-            address_lengths,
-            sources,
-            reports,
-        )),
-        Room::Short => Listing::Refused(refuse(codes::ROOM)),
+    };
+    check_list(list)?;
+    match list_room(Some(out.len()), list) {
+        Some(_) => Ok(put_list(out, list)),
+        None => Err(refuse(codes::ROOM)),
     }
 }

@@ -1,4 +1,5 @@
 -- The request's sentences and the answer are one: 29 exactly where the stamp is bad, else the window of its interval.
+use Rattle.std.specs.Prelude.{Ok}
 use Prim.Native.Nat.{ℕ}
 use mathlib.Core.Path.{◌≡◌, refl, sym, ap, subst, ◌∙◌}
 use mathlib.Core.Bool.{Bool, true, false}
@@ -11,7 +12,6 @@ use Rattle.old_stamp.specs.Stamp.{date_of, micros_of, stamp_bad, stamp_code}
 use Rattle.old_stamp.specs.Window.{old_window_of, stamped_of, stamped_number}
 use Rattle.old_stamp.specs.Meaning.{BadStamp, GoodStamp, IsWindow}
 use Rattle.old_stamp.specs.declared.OldWindow.{OldWindow}
-use Rattle.old_stamp.specs.declared.Stamped.TheVariants.{Within}
 use Rattle.old_stamp.proofs.AnswerLaws.{early-bad, late-bad, else-good}
 use Rattle.old_stamp.proofs.Rounding.{low-is, high_is, low-only, high-only}
 
@@ -52,24 +52,24 @@ module _ (stamp : ℕ) where
     unfolding stamped_of when_of
     bad-stamped b = rw (bad-tested b) refl
 
-    good-stamped : GoodStamp stamp → stamped_of stamp radi ≡ Within (old_window_of stamp radi)
+    good-stamped : GoodStamp stamp → stamped_of stamp radi ≡ Ok (old_window_of stamp radi)
     unfolding stamped_of
     good-stamped g = rw (good-tested g) refl
 
     -- the answer is a window exactly where the stamp is good and the two ends are those of its interval
-    pub window-exactly : (w : OldWindow) → stamped_of stamp radi ≡ Within w ↔ IsWindow stamp radi w
+    pub window-exactly : (w : OldWindow) → stamped_of stamp radi ≡ Ok w ↔ IsWindow stamp radi w
     window-exactly w = (λ e. ⊎_elim (λ b. absurd (refused e b)) (λ g. told e g) either, back)
       where
-        refused : stamped_of stamp radi ≡ Within w → BadStamp stamp → ⊥
+        refused : stamped_of stamp radi ≡ Ok w → BadStamp stamp → ⊥
         refused e b = let z : ◌≡◌ {A = ℕ} 0 29 = sym (ap stamped_number e) ∙ bad-stamped b in omega arith
 
-        told : stamped_of stamp radi ≡ Within w → GoodStamp stamp → IsWindow stamp radi w
+        told : stamped_of stamp radi ≡ Ok w → GoodStamp stamp → IsWindow stamp radi w
         told e g =
-            let f : Within (old_window_of stamp radi) ≡ Within w = sym (good-stamped g) ∙ e in
+            let f : Ok (old_window_of stamp radi) ≡ Ok w = sym (good-stamped g) ∙ e in
             let same : old_window_of stamp radi ≡ w = cc in
             subst (IsWindow stamp radi) same (record { good = g; low_end = low-is _ radi; high_end = high_is _ radi })
 
-        back : IsWindow stamp radi w → stamped_of stamp radi ≡ Within w
+        back : IsWindow stamp radi w → stamped_of stamp radi ≡ Ok w
         back i =
             good-stamped i.good
             ∙ rw (← low-only _ radi _ i.low_end, ← high-only _ radi _ i.high_end) refl

@@ -1,10 +1,9 @@
 -- The window of an old stamp (request P12): the moment t of the stamp and RADI, both in microseconds, as a low and a
 -- high end in seconds since 1970.
-use Rattle.std.specs.Prelude.{ℕ, ◌+◌, ◌-◌, ◌/◌, cond}
+use Rattle.refusal.specs.declared.Refusal.{Refusal}
+use Rattle.std.specs.Prelude.{ℕ, ◌+◌, ◌-◌, ◌/◌, cond, Err, Ok, Result}
 use Rattle.old_stamp.specs.Stamp.{stamp_bad, stamp_code, moment_of}
 use Rattle.old_stamp.specs.declared.OldWindow.{OldWindow}
-use Rattle.old_stamp.specs.declared.Stamped.{Stamped}
-use Rattle.old_stamp.specs.declared.Stamped.TheVariants.{Refused, Within}
 
 -- a number of microseconds as whole seconds, rounded down,
 abbrev pub floor_second : ℕ → ℕ
@@ -26,10 +25,10 @@ abbrev pub old_window_of : ℕ → ℕ → OldWindow
 old_window_of stamp radi = record { low = low_at (moment_of stamp) radi; high = high_at (moment_of stamp) radi }
 
 -- the answer: 29 where the stamp is bad, else its window
-unfoldable pub stamped_of : ℕ → ℕ → Stamped
-stamped_of stamp radi = cond (stamp_bad stamp) (Refused (stamp_code stamp)) (Within (old_window_of stamp radi))
+unfoldable pub stamped_of : ℕ → ℕ → Result OldWindow Refusal
+stamped_of stamp radi = cond (stamp_bad stamp) (Err (stamp_code stamp)) (Ok (old_window_of stamp radi))
 
 -- the number of an answer: 0 with the window, or the refusal's
-abbrev pub stamped_number : Stamped → ℕ
-stamped_number (Within w) = 0
-stamped_number (Refused why) = why.code
+abbrev pub stamped_number : Result OldWindow Refusal → ℕ
+stamped_number (Ok w) = 0
+stamped_number (Err why) = why.code

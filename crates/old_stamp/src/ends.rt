@@ -9,7 +9,7 @@ pub const SECOND: u64 = 1_000_000;
 pub fn low_end(t: u64, radi: u64) -> u64
     ensures { result ≡ low_at t radi }
 {
-    if radi <= t { (t - radi) / SECOND } else { 0 }
+    t.saturating_sub(radi) / SECOND
 }
 
 // The end, rounded up.
@@ -18,5 +18,5 @@ pub fn high_end(t: u64, radi: u64) -> u64
     requires radi_bound { radi < 2 ^ 62 }
     ensures { result ≡ high_at t radi }
 {
-    (t + radi + (SECOND - 1)) / SECOND
+    (t + radi).div_ceil(SECOND)
 }

@@ -6,7 +6,6 @@ mod ends;
 mod reading;
 
 pub use reading::old_window;
-use refusal::Refusal;
 
 // The ends of an old stamp's window, in seconds since 1970. It is a type of its own, and no crate that checks
 // responses, piles or reports is above this one: an old window enters none of them.
@@ -14,11 +13,4 @@ use refusal::Refusal;
 pub struct OldWindow {
     pub low: u64,
     pub high: u64,
-}
-
-// Why an old stamp is refused, or its window. The refusal comes first, as in a verdict.
-#[derive(Clone, Copy)]
-pub enum Stamped {
-    Refused(Refusal),
-    Within(OldWindow),
 }

@@ -3,9 +3,9 @@ ghost use Rattle.std.specs.Prelude.{◌≡◌, ◌^◌, ◌≤◌, ◌<◌};
 ghost use Rattle.old_stamp.specs.Stamp.{stamp_code, moment_at};
 ghost use Rattle.old_stamp.specs.Window.{stamped_of, stamped_number};
 
+use super::OldWindow;
 use super::ends::{SECOND, high_end, low_end};
-use super::{OldWindow, Stamped};
-use refusal::{codes, refuse};
+use refusal::{Refusal, codes, refuse};
 
 // One of the date: the low 5 bytes of a stamp count below it.
 const DATE: u64 = 0x100_0000_0000;
@@ -20,21 +20,21 @@ const DAY: u64 = 86_400 * SECOND;
 const LIMIT: u64 = DAY + SECOND;
 
 // The window of a stamp and a radius in microseconds.
-pub fn old_window(stamp: u64, radi: u32) -> Stamped
+pub fn old_window(stamp: u64, radi: u32) -> Result<OldWindow, Refusal>
     ensures result_value { stamped_number result ≡ (stamp_code stamp).code }
     ensures value { result ≡ stamped_of stamp radi }
 {
     let date = stamp / DATE;
     let micros = stamp % DATE;
     if date < DAY_ZERO {
-        return Stamped::Refused(refuse(codes::OLD_STAMP));
+        return Err(refuse(codes::OLD_STAMP));
     }
     if LIMIT <= micros {
-        return Stamped::Refused(refuse(codes::OLD_STAMP));
+        return Err(refuse(codes::OLD_STAMP));
     }
-    let wide = radi as u64;
+    let wide = u64::from(radi);
     let t = moment(date, micros);
-    Stamped::Within(OldWindow {
+    Ok(OldWindow {
         low: low_end(t, wide),
         high: high_end(t, wide),
     })
@@ -47,10 +47,5 @@ fn moment(date: u64, micros: u64) -> u64
     requires micros_bound { micros < 2 ^ 40 }
     ensures { result ≡ moment_at date micros }
 {
-    let midnight = (date - DAY_ZERO) * DAY;
-    if micros <= DAY {
-        midnight + micros
-    } else {
-        midnight + DAY
-    }
+    (date - DAY_ZERO) * DAY + micros.min(DAY)
 }

@@ -1,5 +1,6 @@
 -- The codes of a record: of document 01's order, 16, 14 and 1 to 13, none is above 16. So a refusal of a record is told
 -- from those of a whole pile, 17 to 19, by its number.
+use Rattle.std.specs.Prelude.{Err, Ok}
 use Prim.Native.Nat.{ℕ, ◌≤◌}
 use mathlib.Core.Path.{◌≡◌}
 use mathlib.Core.Bool.{Bool, true, false, cond}
@@ -9,13 +10,13 @@ use lib.Dec.{eqb}
 use Rattle.laws.proofs.First.{first-keeps, when-keeps, end-keeps}
 use Rattle.refusal.specs.Refusal.{refusals, first, when}
 use Rattle.refusal.specs.declared.Refusal.{Refusal}
-use Rattle.wire_message.specs.Rules.{TagRule, message_code}
+use Rattle.wire_message.specs.Rules.{message_code}
+use Rattle.wire_message.specs.declared.rules.TagRule.{TagRule}
 use Rattle.wire_message.proofs.Cases.{frame-by, message-by}
 use Rattle.wire_packet.specs.Packet.{packet_code, body}
 use Rattle.wire_packet.specs.Response.{srep, cert, dele, shape_code, response_message_code, response_code}
 use Rattle.wire_packet.specs.Tables.{root_table, srep_table, cert_table, dele_table}
 use Rattle.check_response.specs.Check.{answers_code, agreement_code, check_code, verdict_by}
-use Rattle.check_response.specs.declared.Verdict.TheVariants.{Valid, Refused}
 use Rattle.check_response.specs.declared.Window.{Window}
 use Rattle.pile.specs.Pile.{record_at, request_packet, response_packet}
 use Rattle.pile.specs.Valid.{record_code, window_at, judge_code, judgement_of}
@@ -86,15 +87,15 @@ judge-low pile answers k =
     (check-low (request_packet (record_at pile k)) (response_packet (record_at pile k)) _ _) last))
     last)
 
-by-low : (r : Refusal) (w : Window) → Low r → {why : Refusal} → verdict_by r w ≡ Refused why → Low why
+by-low : (r : Refusal) (w : Window) → Low r → {why : Refusal} → verdict_by r w ≡ Err why → Low why
 by-low r w low {why} = go (eqb r.code 0)
   where
-    go : (b : Bool) → cond b (Valid w) (Refused r) ≡ Refused why → Low why
+    go : (b : Bool) → cond b (Ok w) (Err r) ≡ Err why → Low why
     go true e = absurd (let z : ◌≡◌ {A = ℕ} 0 1 = cc in omega arith)
     go false e = let same : r ≡ why = cc in rw same at low
 
 -- so a record that is refused has no code above 16
-pub refused-low : (pile answers : List ℕ) (k : ℕ) {why : Refusal} → (judgement_of pile answers k).verdict ≡ Refused why
+pub refused-low : (pile answers : List ℕ) (k : ℕ) {why : Refusal} → (judgement_of pile answers k).verdict ≡ Err why
     → why.code ≤ 16
 unfolding judgement_of
 refused-low pile answers k e = by-low (judge_code pile answers k) (window_at pile k) (judge-low pile answers k) e

@@ -1,5 +1,6 @@
 -- The tests by which piles, records and links are stated hold exactly where the sentences of Meaning do. The way from a
 -- test to a sentence that speaks of good packets asks that the pile is bytes; the way back asks nothing.
+use Rattle.std.specs.Prelude.{Err, Ok}
 use Prim.Native.Nat.{ℕ, ◌+◌, ◌*◌, ◌-◌, ◌≤◌, ◌<◌}
 use mathlib.Core.Path.{◌≡◌, refl, sym, ap, ◌∙◌}
 use mathlib.Core.Bool.{Bool, true, false, not, cond, true≢false}
@@ -22,7 +23,6 @@ use Rattle.laws.proofs.Zeros.{zeros-at, zeros-all}
 use Rattle.refusal.specs.Refusal.{refusals}
 use Rattle.refusal.specs.declared.Refusal.{Refusal}
 use Rattle.check_response.specs.Check.{check_code}
-use Rattle.check_response.specs.declared.Verdict.TheVariants.{Valid, Refused}
 use Rattle.check_response.specs.declared.Window.{Window}
 use Rattle.check_response.proofs.Exactly.{passes-code, code-exactly}
 use Rattle.check_response.proofs.Lent.{by-valid, valid-by, by-refused, key-by, no_key}
@@ -187,7 +187,7 @@ module _ (pile answers : List ℕ) (k : ℕ) where
       → (check_code (request_packet (record_at pile k)) (response_packet (record_at pile k))
       (said_yes answers (2 * k)) (said_yes answers (2 * k + 1))
       ).code ≡ 0
-      → (judgement_of pile answers k).verdict ≡ Valid (window_at pile k)
+      → (judgement_of pile answers k).verdict ≡ Ok (window_at pile k)
   unfolding judgement_of
   passed-judged g h u z = valid-by (judge_code pile answers k) _ (passed-code g h u z)
 
@@ -218,28 +218,28 @@ module _ (pile answers : List ℕ) (k : ℕ) where
   )
 
   -- so it is judged valid exactly when it is,
-  pub valid-judged : ValidRecord pile answers k → (judgement_of pile answers k).verdict ≡ Valid (window_at pile k)
+  pub valid-judged : ValidRecord pile answers k → (judgement_of pile answers k).verdict ≡ Ok (window_at pile k)
   unfolding judgement_of
   valid-judged v = valid-by (judge_code pile answers k) _ (valid-code v)
 
   pub valid-exactly : Bytes pile
-      → (judgement_of pile answers k).verdict ≡ Valid (window_at pile k) ↔ ValidRecord pile answers k
+      → (judgement_of pile answers k).verdict ≡ Ok (window_at pile k) ↔ ValidRecord pile answers k
   unfolding judgement_of
   valid-exactly bytes = (λ e. (judge-exactly bytes).0 (by-valid (judge_code pile answers k) _ _ e).0, valid-judged)
 
   -- and no other window comes out than its response's own
-  pub window-of-its-own : (w : Window) → (judgement_of pile answers k).verdict ≡ Valid w → w ≡ window_at pile k
+  pub window-of-its-own : (w : Window) → (judgement_of pile answers k).verdict ≡ Ok w → w ≡ window_at pile k
   unfolding judgement_of
   window-of-its-own w e = (by-valid (judge_code pile answers k) _ w e).1
 
   -- beside a window stands its response's own key,
-  pub key-of-its-own : (w : Window) → (judgement_of pile answers k).verdict ≡ Valid w
+  pub key-of-its-own : (w : Window) → (judgement_of pile answers k).verdict ≡ Ok w
       → (judgement_of pile answers k).pubk ≡ pubk_at pile k
   unfolding judgement_of
   key-of-its-own w e = key-by (judge_code pile answers k) _ (by-valid (judge_code pile answers k) _ w e).0
 
   -- and beside a refusal 32 zero bytes
-  pub no-key-told : (why : Refusal) → (judgement_of pile answers k).verdict ≡ Refused why
+  pub no-key-told : (why : Refusal) → (judgement_of pile answers k).verdict ≡ Err why
       → (judgement_of pile answers k).pubk ≡ zeros32
   unfolding judgement_of
   no-key-told why e = no_key (judge_code pile answers k) _ (by-refused (judge_code pile answers k) _ why e)

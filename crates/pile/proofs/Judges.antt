@@ -1,5 +1,8 @@
 -- What is said of a record, and of a place in a pile, from what the tests before it say: the same whoever says whether
 -- signatures verify.
+use Rattle.check_response.specs.declared.Window.{Window}
+use Rattle.refusal.specs.declared.Refusal.{Refusal}
+use Rattle.std.specs.Prelude.{Result}
 use mathlib.Core.Path.{◌≡◌, sym, ap, ap₂, ◌∙◌}
 use mathlib.Core.Bool.{Bool, true, false}
 use mathlib.Core.List.{List}
@@ -8,7 +11,6 @@ use Rattle.laws.proofs.First.{before-true, before-false}
 use Rattle.refusal.specs.Refusal.{refusals}
 use Rattle.check_response.specs.Check.{checked_of, verdict_of, key_of, verdict_by, key_by, verdict_number}
 use Rattle.check_response.specs.declared.Checked.{Checked}
-use Rattle.check_response.specs.declared.Verdict.{Verdict}
 use Rattle.check_response.proofs.Lent.{verdict-says}
 use Rattle.pile.specs.Pile.{request_packet, response_packet}
 use Rattle.pile.specs.Valid.{record_bad, record_code, refused_by, record_verdict, record_checked, checked_at, window_at}
@@ -35,7 +37,7 @@ judge-clauses : (pile answers : List ℕ) (k : ℕ) {c : Checked} {j : Judgement
 unfolding judgement_of
 judge-clauses pile answers k e f g = rw g (
   ap verdict_number e ∙ verdict-says (judge_code pile answers k) (window_at pile k),
-  ap₂ (λ (v : Verdict) (key : List ℕ). record { place = k; verdict = v; pubk = key }) e f,
+  ap₂ (λ (v : Result Window Refusal) (key : List ℕ). record { place = k; verdict = v; pubk = key }) e f,
 )
 
 module _ (pile answers : List ℕ) (k : ℕ) {b : Bool} {c : Checked} {j : Judgement} (e : b ≡ nothing_at pile answers k) where

@@ -7,3 +7,4 @@ pub mod Recorded
 pub mod Codes
 pub mod Places
 pub mod Once
+pub mod Scans

@@ -1,15 +1,13 @@
 -- What is said of one record (document 01, "Piles and reports", and the order of codes): 16, then 14 and 1 to 13, else
 -- its window, with the delegated key beside it (request P9). Its rand plays no part in that.
 -- Where there is no record to judge it is 15: document 01 has no code for a place past the last.
-use Rattle.std.specs.Prelude.{ℕ, ◌+◌, ◌*◌, Bool, not, List, [], ◌∷◌, leb, ltb, drop}
+use Rattle.std.specs.Prelude.{ℕ, ◌+◌, ◌*◌, Bool, not, List, [], ◌∷◌, leb, ltb, drop, Err, Result}
 use Rattle.laws.specs.Any.{any}
 use Rattle.laws.specs.Zeros.{zeros}
 use Rattle.refusal.specs.Refusal.{refusal, first, when}
 use Rattle.refusal.specs.declared.Refusal.{Refusal}
 use Rattle.check_response.specs.Check.{check_code, window_in, pubk_in, verdict_by, key_by}
 use Rattle.check_response.specs.declared.Checked.{Checked}
-use Rattle.check_response.specs.declared.Verdict.{Verdict}
-use Rattle.check_response.specs.declared.Verdict.TheVariants.{Refused}
 use Rattle.check_response.specs.declared.Window.{Window}
 use Rattle.wire_packet.specs.Blank.{zeros32}
 use Rattle.wire_packet.specs.Packet.{body}
@@ -33,13 +31,13 @@ record_bad r =
 
 -- what is said where a code refuses before the response is looked at
 abbrev pub refused_by : ℕ → Checked
-refused_by code = record { verdict = Refused (refusal code); pubk = zeros32 }
+refused_by code = record { verdict = Err (refusal code); pubk = zeros32 }
 
 -- 16 first, and then 14 and 1 to 13 of its response; d and s are the two answers
 unfoldable pub record_code : List ℕ → Bool → Bool → Refusal
 record_code r d s = first (when (record_bad r) 16 ∷ check_code (request_packet r) (response_packet r) d s ∷ [])
 
-unfoldable pub record_verdict : List ℕ → Bool → Bool → Verdict
+unfoldable pub record_verdict : List ℕ → Bool → Bool → Result Window Refusal
 record_verdict r d s = verdict_by (record_code r d s) (window_in (body (response_packet r)))
 
 -- the verdict, and beside it the delegated key, 32 zero bytes on a refusal
@@ -48,7 +46,7 @@ record_checked r d s =
     record { verdict = record_verdict r d s; pubk = key_by (record_code r d s) (pubk_in (body (response_packet r))) }
 
 -- of record k, with its delegation's answer and its response's: the verdict alone, and with the key
-abbrev pub judged_at : List ℕ → List ℕ → ℕ → Verdict
+abbrev pub judged_at : List ℕ → List ℕ → ℕ → Result Window Refusal
 judged_at pile answers k = record_verdict (record_at pile k) (said_yes answers (2 * k)) (said_yes answers (2 * k + 1))
 
 abbrev pub checked_at : List ℕ → List ℕ → ℕ → Checked

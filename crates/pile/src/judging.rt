@@ -7,10 +7,9 @@ ghost use Rattle.pile.specs.Valid.{judged_by, judgement_of};
 ghost use Rattle.check_response.specs.Check.{verdict_number};
 
 use super::Judgement;
-use super::damage::record_bad;
 use super::layout::RECORD;
 use super::piles::pile_bad;
-use super::records::{record_at, request_of, response_of};
+use super::records::{RecordBytes, record_at};
 use check_response::{Checked, Verdict, check_response};
 use refusal::{codes, refuse};
 
@@ -29,12 +28,11 @@ pub fn judge<'a>(pile: &'a [u8], answers: &'a [u8], k: usize) -> Judgement
 pub fn judged(k: usize, c: Checked) -> Judgement
     ensures { result ≡ judged_by k c }
 {
-    let v = c.verdict;
-    let key = c.pubk;
+    let pubk = c.pubk;
     Judgement {
         place: k,
-        verdict: v,
-        pubk: key,
+        verdict: c.verdict,
+        pubk,
     }
 }
 
@@ -42,21 +40,18 @@ pub fn judged(k: usize, c: Checked) -> Judgement
 pub fn refused(code: u8) -> Checked
     ensures { result ≡ refused_by code }
 {
-    let why = refuse(code);
     Checked {
-        verdict: Verdict::Refused(why),
+        verdict: Err(refuse(code)),
         pubk: [0u8; 32],
     }
 }
 
 // There is no record k to judge.
+#[tactic(auto, unfolding(crate::specs::Valid::nothing_at, laws::specs::Any::any))]
 fn nothing_at<'a>(pile: &'a [u8], answers: &'a [u8], k: usize) -> bool
     ensures { result ≡ nothing_at pile.now answers.now k }
 {
-    if pile_bad(pile, answers) {
-        return true;
-    }
-    pile.len() / RECORD <= k
+    pile_bad(pile, answers) || pile.len() / RECORD <= k
 }
 
 // The verdict on record k, which is there with its two answers.
@@ -64,8 +59,7 @@ pub fn verdict_at<'a>(pile: &'a [u8], answers: &'a [u8], k: usize) -> Verdict
     requires { (RECORD * k + RECORD ≤ length pile.now) × (2 * k + 2 ≤ length answers.now) }
     ensures { result ≡ judged_at pile.now answers.now k }
 {
-    let c = checked_at(pile, answers, k);
-    c.verdict
+    checked_at(pile, answers, k).verdict
 }
 
 // The same with the key beside it.
@@ -75,21 +69,23 @@ fn checked_at<'a>(pile: &'a [u8], answers: &'a [u8], k: usize) -> Checked
 {
     let delegation = said_yes(answers, 2 * k);
     let signature = said_yes(answers, 2 * k + 1);
-    checked_on(record_at(pile, k), delegation, signature)
+    let r = record_at(pile, k);
+    checked_on(&r, delegation, signature)
 }
 
 // What is said of a record: 16 before the response is looked at.
-fn checked_on(r: &[u8], delegation: bool, signature: bool) -> Checked
-    requires { length r.now ≡ RECORD }
-    ensures { result ≡ record_checked r.now delegation signature }
+// The two answers are what `check_response` asks, which C is told of: they pick no step here.
+fn checked_on(r: &RecordBytes<'_>, delegation: bool, signature: bool) -> Checked
+    ensures { result ≡ record_checked r.now.bytes.now delegation signature }
 {
-    if record_bad(r) {
+    if r.is_bad() {
         return refused(codes::RECORD);
     }
-    check_response(request_of(r), response_of(r), delegation, signature)
+    check_response(r.request(), r.response(), delegation, signature)
 }
 
 // Answer i is yes.
+#[tactic(auto, unfolding(crate::specs::Pile::said_yes))]
 fn said_yes(answers: &[u8], i: usize) -> bool
     requires { i < length answers.now }
     ensures { result ≡ said_yes answers.now i }

@@ -12,14 +12,11 @@ mod piles;
 mod records;
 
 use check_response::Verdict;
-pub use damage::record_bad;
 pub use judging::{judge, judged, refused, verdict_at};
 pub use layout::RECORD;
 pub use linking::{first_rand_zero, linked};
 pub use piles::{length_bad, pile_code};
-pub use records::{
-    key_of, rand_of, record_at, request_of, response_area, response_length, response_of,
-};
+pub use records::{RecordBytes, record_at};
 
 // What is said of one record: its place, from 0, its window or its refusal, and the delegated key, 32 zero bytes on a
 // refusal.

@@ -7,87 +7,87 @@ ghost use Rattle.pile.specs.Pile.{response_area, request_packet, response_packet
 use super::layout::{KEY, RAND, RECORD, REQUEST, REQUEST_LENGTH, RESPONSE, RESPONSE_LENGTH, ZEROS};
 use octets::le32;
 
+// A record where it lies in its pile: it has all its 4,096 bytes.
+#[derive(Clone, Copy)]
+pub struct RecordBytes<'a> {
+    pub bytes: &'a [u8],
+    pub ghost long: { length bytes.now ≡ RECORD },
+}
+
 // Record k of a pile.
-pub fn record_at(pile: &[u8], k: usize) -> &[u8]
+pub fn record_at(pile: &[u8], k: usize) -> RecordBytes<'_>
     requires { RECORD * k + RECORD ≤ length pile.now }
-    ensures { (result.now ≡ record_at pile.now k) × (length result.now ≡ RECORD) }
+    ensures { result.bytes.now ≡ record_at pile.now k }
 {
     let at = RECORD * k;
-    &pile[at..at + RECORD]
+    RecordBytes {
+        bytes: &pile[at..at + RECORD],
+    }
 }
 
-// The server's long-term key.
-pub fn key_of(r: &[u8]) -> &[u8]
-    requires { length r.now ≡ RECORD }
-    ensures { result.now ≡ key_in r.now }
-{
-    &r[KEY..RAND]
-}
+impl<'a> RecordBytes<'a> {
+    // The server's long-term key.
+    pub fn key(&self) -> &'a [u8]
+        ensures { result.now ≡ key_in self.now.bytes.now }
+    {
+        &self.bytes[KEY..RAND]
+    }
 
-// The rand.
-pub fn rand_of(r: &[u8]) -> &[u8]
-    requires { length r.now ≡ RECORD }
-    ensures { result.now ≡ rand_in r.now }
-{
-    &r[RAND..REQUEST_LENGTH]
-}
+    // The rand.
+    pub fn rand(&self) -> &'a [u8]
+        ensures { result.now ≡ rand_in self.now.bytes.now }
+    {
+        &self.bytes[RAND..REQUEST_LENGTH]
+    }
 
-// How long the request is, as the record says it.
-pub fn request_length(r: &[u8]) -> usize
-    requires { length r.now ≡ RECORD }
-    ensures { result ≡ request_length r.now }
-{
-    le32(r, REQUEST_LENGTH) as usize
-}
+    // How long the request is, as the record says it.
+    pub fn request_length(&self) -> usize
+        ensures { result ≡ request_length self.now.bytes.now }
+    {
+        le32(self.bytes, REQUEST_LENGTH) as usize
+    }
 
-// And the response.
-pub fn response_length(r: &[u8]) -> usize
-    requires { length r.now ≡ RECORD }
-    ensures { result ≡ response_length r.now }
-{
-    le32(r, RESPONSE_LENGTH) as usize
-}
+    // And the response.
+    pub fn response_length(&self) -> usize
+        ensures { result ≡ response_length self.now.bytes.now }
+    {
+        le32(self.bytes, RESPONSE_LENGTH) as usize
+    }
 
-// What must be zero between the lengths and the areas.
-pub fn zeros_of(r: &[u8]) -> &[u8]
-    requires { length r.now ≡ RECORD }
-    ensures { result.now ≡ zeros_in r.now }
-{
-    &r[ZEROS..REQUEST]
-}
+    // What must be zero between the lengths and the areas.
+    pub fn zeros(&self) -> &'a [u8]
+        ensures { result.now ≡ zeros_in self.now.bytes.now }
+    {
+        &self.bytes[ZEROS..REQUEST]
+    }
 
-// The area of the request.
-pub fn request_area(r: &[u8]) -> &[u8]
-    requires { length r.now ≡ RECORD }
-    ensures { (result.now ≡ request_area r.now) × (length result.now ≡ AREA) }
-{
-    &r[REQUEST..RESPONSE]
-}
+    // The area of the request.
+    pub fn request_area(&self) -> &'a [u8]
+        ensures { (result.now ≡ request_area self.now.bytes.now) × (length result.now ≡ AREA) }
+    {
+        &self.bytes[REQUEST..RESPONSE]
+    }
 
-// The area of the response.
-pub fn response_area(r: &[u8]) -> &[u8]
-    requires { length r.now ≡ RECORD }
-    ensures { (result.now ≡ response_area r.now) × (length result.now ≡ AREA) }
-{
-    &r[RESPONSE..RECORD]
-}
+    // The area of the response.
+    pub fn response_area(&self) -> &'a [u8]
+        ensures { (result.now ≡ response_area self.now.bytes.now) × (length result.now ≡ AREA) }
+    {
+        &self.bytes[RESPONSE..RECORD]
+    }
 
-// The request packet: the front of its area.
-pub fn request_of(r: &[u8]) -> &[u8]
-    requires { (length r.now ≡ RECORD) × (request_length r.now ≤ AREA) }
-    ensures { result.now ≡ request_packet r.now }
-{
-    let n = request_length(r);
-    let area = request_area(r);
-    &area[..n]
-}
+    // The request packet: the front of its area.
+    pub fn request(&self) -> &'a [u8]
+        requires { request_length self.now.bytes.now ≤ AREA }
+        ensures { result.now ≡ request_packet self.now.bytes.now }
+    {
+        &self.request_area()[..self.request_length()]
+    }
 
-// The response packet.
-pub fn response_of(r: &[u8]) -> &[u8]
-    requires { (length r.now ≡ RECORD) × (response_length r.now ≤ AREA) }
-    ensures { result.now ≡ response_packet r.now }
-{
-    let n = response_length(r);
-    let area = response_area(r);
-    &area[..n]
+    // The response packet.
+    pub fn response(&self) -> &'a [u8]
+        requires { response_length self.now.bytes.now ≤ AREA }
+        ensures { result.now ≡ response_packet self.now.bytes.now }
+    {
+        &self.response_area()[..self.response_length()]
+    }
 }

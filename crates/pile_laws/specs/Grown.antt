@@ -1,16 +1,13 @@
 -- Records that are added at the end of a pile, with their answers, and what may be answered then (request P14). The
 -- pile has its first records as before, and so have the answers.
-use Rattle.std.specs.Prelude.{List, ◌++◌, ◌≡◌, ℕ, ◌-◌, ◌≤◌, ◌<◌, T, length, get_or}
+use Rattle.refusal.specs.declared.Refusal.{Refusal}
+use Rattle.std.specs.Prelude.{List, ◌++◌, ◌≡◌, ℕ, ◌-◌, ◌≤◌, ◌<◌, T, length, get_or, Err, Ok, Result}
 use Rattle.pile.specs.Layout.{RECORD}
 use Rattle.pile.specs.Pile.{records_in}
 use Rattle.pile.specs.Links.{linked_of}
 use Rattle.pile.specs.Meaning.{GoodPile}
 use Rattle.pile_runs.specs.Clash.{valid}
 use Rattle.pile_report.specs.Report.{judged}
-use Rattle.pile_report.specs.declared.Report.{Report}
-use Rattle.pile_report.specs.declared.Report.TheVariants as report
-use Rattle.pile_report.specs.declared.Taken.{Taken}
-use Rattle.pile_report.specs.declared.Taken.TheVariants as taken
 
 -- ---- what is added
 
@@ -37,12 +34,12 @@ pub record Joins (pile answers more said : List ℕ) : Type 0 where
 -- ---- what may be answered
 
 -- a pair that is no further apart than i and j
-abbrev pub NoFurther : ℕ → ℕ → Report → Type 0
-NoFurther i j (report.Pair a b) = b - a ≤ j - i
-NoFurther i j (report.Refused why k) = ⊥
+abbrev pub NoFurther : ℕ → ℕ → Result (ℕ × ℕ) (Refusal × ℕ) → Type 0
+NoFurther i j (Ok (a, b)) = b - a ≤ j - i
+NoFurther i j (Err (why, k)) = ⊥
 
 -- a run that is no longer than that from i to j, or, where the buffer has too little room for the pile, 19; but never
 -- that there is none
-abbrev pub NoLonger : ℕ → ℕ → List ℕ → ℕ → Taken → Type 0
-NoLonger i j pile room (taken.Run a b) = b - a ≤ j - i
-NoLonger i j pile room (taken.Refused why) = (why.code ≡ 19) × (room < length pile)
+abbrev pub NoLonger : ℕ → ℕ → List ℕ → ℕ → Result (ℕ × ℕ) Refusal → Type 0
+NoLonger i j pile room (Ok (a, b)) = b - a ≤ j - i
+NoLonger i j pile room (Err why) = (why.code ≡ 19) × (room < length pile)

@@ -1,5 +1,6 @@
 -- Which codes the check of a report tells: none above 18, and 18 exactly where the pile has all that a report has but
 -- the pair. The codes of a record are not above 16, so that none is taken for 18.
+use Rattle.std.specs.Prelude.{Err, Ok, Result}
 use mathlib.Core.Path.{◌≡◌, ap}
 use mathlib.Core.List.{List}
 use mathlib.Core.Logic.{◌↔◌}
@@ -11,8 +12,6 @@ use Rattle.pile.proofs.Codes.{refused-low}
 use Rattle.pile_runs.specs.Clash.{valid}
 use Rattle.pile_report.specs.Report.{judged, joined, PileRefused, Reports, report_number}
 use Rattle.pile_report.specs.Report.{of-record, code-17, code-18, code-15, of-records}
-use Rattle.pile_report.specs.declared.Report.{Report}
-use Rattle.pile_report.specs.declared.Report.TheVariants.{Pair, Refused}
 use Rattle.pile_report.specs.Meaning.{Clear}
 use Rattle.pile_report.proofs.Says.{not-not, report-once}
 use Rattle.pile_report.proofs.Exactly.{is_set, windowed}
@@ -39,14 +38,14 @@ module _ (pile answers : List ℕ) where
         none = none;
       }
 
-  pub clear-exactly : (r : Report) → Reports pile answers r → (report_number r ≡ 18) ↔ Clear pile answers
-  clear-exactly r s = (from r s, λ c. ap report_number (report-once pile answers r (Refused (refusal 18) 0) s (right c)))
+  pub clear-exactly : (r : Result (ℕ × ℕ) (Refusal × ℕ)) → Reports pile answers r → (report_number r ≡ 18) ↔ Clear pile answers
+  clear-exactly r s = (from r s, λ c. ap report_number (report-once pile answers r (Err ((refusal 18), 0)) s (right c)))
     where
-      from : (r : Report) → Reports pile answers r → report_number r ≡ 18 → Clear pile answers
-      from (Pair i j) s n = absurd (omega (arith, n))
-      from (Refused why k) s n = told-clear why k s n
+      from : (r : Result (ℕ × ℕ) (Refusal × ℕ)) → Reports pile answers r → report_number r ≡ 18 → Clear pile answers
+      from (Ok (i, j)) s n = absurd (omega (arith, n))
+      from (Err (why, k)) s n = told-clear why k s n
 
-      right : Clear pile answers → Reports pile answers (Refused (refusal 18) 0)
+      right : Clear pile answers → Reports pile answers (Err ((refusal 18), 0))
       right c =
           let d = c.sound in
           of-records d.good (code-18 (none-refused pile answers d) (none-loose pile answers d) c.none)

@@ -1,6 +1,7 @@
 -- What the cutter looks for is what document 01 calls a report: a run of a good pile convicts by itself exactly where
 -- its records, cut out, are a report with their own answers. So the cutter takes the shortest part that is a report,
 -- and where it finds none, no part of the pile is one.
+use Rattle.std.specs.Prelude.{Err, Ok}
 use mathlib.Core.Path.{◌≡◌, refl, sym, ap, ◌∙◌}
 use mathlib.Core.List.{List}
 use mathlib.Core.Logic.{◌↔◌}
@@ -11,7 +12,6 @@ use Rattle.laws.specs.Bytes.{Bytes}
 use Rattle.laws.specs.Pairs.{IsLeast}
 use Rattle.refusal.specs.Refusal.{refusal}
 use Rattle.refusal.specs.declared.Refusal.{Refusal}
-use Rattle.check_response.specs.declared.Verdict.TheVariants.{Valid}
 use Rattle.pile.specs.Pile.{records_in}
 use Rattle.pile.specs.Meaning.{GoodPile, ValidRecord}
 use Rattle.pile.proofs.Exactly.{valid-judged}
@@ -19,7 +19,6 @@ use Rattle.pile_runs.proofs.SamePile.{same-least}
 use Rattle.pile_report.specs.Report.{judged}
 use Rattle.pile_report.specs.Taking.{ConvictsIn, CutRefused, code-15, code-19, code-18, Takes, run_bytes, run_answers}
 use Rattle.pile_report.specs.Meaning.{IsReport, ReportIn}
-use Rattle.pile_report.specs.declared.Taken.TheVariants.{Run, Refused}
 use Rattle.pile_report.proofs.Exactly.{valid-yes, yes-valid, linked-tested, clash-tested}
 use Rattle.pile_report.proofs.CutBytes.{RunIn, count-run}
 use Rattle.pile_report.proofs.CutRecords.{first-rand-run, same-window, same-valid, same-linked}
@@ -34,7 +33,7 @@ module _ {pile answers : List ℕ} {i j : ℕ} (run : RunIn pile answers i j) wh
       → judged (run_bytes i j pile) (run_answers i j answers) k ≡ judged pile answers m
   same-verdict k m e u v =
       valid-judged (run_bytes i j pile) (run_answers i j answers) k ((same-valid run k m e u).1 v)
-      ∙ ap Valid (same-window run k m e u)
+      ∙ ap Ok (same-window run k m e u)
       ∙ sym (valid-judged pile answers m v)
 
   module _ (bytes : Bytes pile) (c : ConvictsIn pile answers i j) where
@@ -132,14 +131,14 @@ module _ (pile answers : List ℕ) (good : GoodPile pile answers) (bytes : Bytes
   -- So, with a buffer that has room for the pile, the cutter
   module _ (room : ℕ) (fits : length pile ≤ room) where
     -- takes a run exactly where it is the shortest part of the pile that is a report, and the first of those as short,
-    pub taken-exactly : (i j : ℕ) → Takes pile answers room (Run i j) ↔ IsLeast (ReportIn pile answers) i j
+    pub taken-exactly : (i j : ℕ) → Takes pile answers room (Ok (i, j)) ↔ IsLeast (ReportIn pile answers) i j
     taken-exactly i j = (
       λ t. same-least part-exactly t.2,
       λ m. (good, fits, same-least (λ a b. ((part-exactly a b).1, (part-exactly a b).0)) m),
     )
 
     -- and answers that there is no run exactly where no part of the pile is a report
-    pub none-exactly : Takes pile answers room (Refused (refusal 18)) ↔ ((i j : ℕ) → ReportIn pile answers i j → ⊥)
+    pub none-exactly : Takes pile answers room (Err (refusal 18)) ↔ ((i j : ℕ) → ReportIn pile answers i j → ⊥)
     none-exactly = (
       λ t i j p. (cut-18 (refusal 18) refl t).1 i j ((part-exactly i j).1 p),
       λ none. code-18 good fits (λ i j c. none i j ((part-exactly i j).0 c)),

@@ -1,6 +1,8 @@
 -- Cut evidence stands by itself: the bytes that the cutter takes out of a pile, with their records' own answers, are a
 -- report by document 01, and the pair that the check of it names is its first and its last record, which are the
 -- records i and j of the pile.
+use Rattle.refusal.specs.declared.Refusal.{Refusal}
+use Rattle.std.specs.Prelude.{Ok, Result}
 use mathlib.Core.Path.{◌≡◌, refl, subst}
 use mathlib.Core.List.{List}
 use Prim.Native.Nat.{ℕ, ◌+◌, ◌-◌, ◌*◌, ◌≤◌, ◌<◌}
@@ -18,16 +20,13 @@ use Rattle.pile_runs.proofs.ByEnds.{clean-part, least-ends}
 use Rattle.pile_report.specs.Report.{judged, Reports}
 use Rattle.pile_report.specs.Taking.{Takes, run_bytes, run_answers}
 use Rattle.pile_report.specs.Meaning.{IsReport}
-use Rattle.pile_report.specs.declared.Report.{Report}
-use Rattle.pile_report.specs.declared.Report.TheVariants.{Pair}
-use Rattle.pile_report.specs.declared.Taken.TheVariants.{Run}
 use Rattle.pile_report.proofs.Says.{report-once}
 use Rattle.pile_report.proofs.Exactly.{names}
 use Rattle.pile_report.proofs.CutBytes.{RunIn, length_run, count-run}
 use Rattle.pile_report.proofs.CutReports.{place_in, valid-in, same-verdict, taken-exactly}
 
 -- Where the cutter takes a run out of a pile, which is bytes:
-module _ (pile answers : List ℕ) (bytes : Bytes pile) (room i j : ℕ) (t : Takes pile answers room (Run i j)) where
+module _ (pile answers : List ℕ) (bytes : Bytes pile) (room i j : ℕ) (t : Takes pile answers room (Ok (i, j))) where
   -- the two ends of the run contradict
   ends : IsLeast (Hits (Exposes (judged pile answers) (linked_of pile)) (records_in pile)) i j
   ends = least-ends t.2
@@ -80,12 +79,12 @@ module _ (pile answers : List ℕ) (bytes : Bytes pile) (room i j : ℕ) (t : Ta
   cut-is-report = ((taken-exactly pile answers t.0 bytes room t.1 i j).0 t).holds.report
 
   -- which names its first and its last record,
-  pub cut-names : Reports (run_bytes i j pile) (run_answers i j answers) (Pair 0 (j - i))
+  pub cut-names : Reports (run_bytes i j pile) (run_answers i j answers) (Ok (0, (j - i)))
   cut-names = names (run_bytes i j pile) (run_answers i j answers) cut-is-report 0 (j - i) least-in
 
   -- so that the check of it answers nothing else;
-  pub cut_stands : (r : Report) → Reports (run_bytes i j pile) (run_answers i j answers) r → r ≡ Pair 0 (j - i)
-  cut_stands r s = report-once (run_bytes i j pile) (run_answers i j answers) r (Pair 0 (j - i)) s cut-names
+  pub cut_stands : (r : Result (ℕ × ℕ) (Refusal × ℕ)) → Reports (run_bytes i j pile) (run_answers i j answers) r → r ≡ Ok (0, (j - i))
+  cut_stands r s = report-once (run_bytes i j pile) (run_answers i j answers) r (Ok (0, (j - i))) s cut-names
 
   -- it stands in the first j - i + 1 records of the buffer,
   pub cut-front : (out : List ℕ) → take (4096 * (j - i + 1)) (written 0 (run_bytes i j pile) out) ≡ run_bytes i j pile
@@ -93,7 +92,7 @@ module _ (pile answers : List ℕ) (bytes : Bytes pile) (room i j : ℕ) (t : Ta
       take_at (run_bytes i j pile) (drop (length (run_bytes i j pile)) out) (4096 * (j - i + 1)) (length_run taken-run)
 
   -- so that the check of these answers the same
-  pub front-stands : (out : List ℕ) (r : Report)
+  pub front-stands : (out : List ℕ) (r : Result (ℕ × ℕ) (Refusal × ℕ))
       → Reports (take (4096 * (j - i + 1)) (written 0 (run_bytes i j pile) out)) (run_answers i j answers) r
-      → r ≡ Pair 0 (j - i)
+      → r ≡ Ok (0, (j - i))
   front-stands out r s = cut_stands r (subst (λ (l : List ℕ). Reports l (run_answers i j answers) r) (cut-front out) s)

@@ -1,4 +1,7 @@
 -- The check accepts exactly the piles that document 01 calls reports.
+use Rattle.check_response.specs.declared.Window.{Window}
+use Rattle.refusal.specs.declared.Refusal.{Refusal}
+use Rattle.std.specs.Prelude.{Err, Ok, Result}
 use mathlib.Core.Path.{◌≡◌, refl, sym, subst, ap, ◌∙◌}
 use mathlib.Core.Bool.{Bool, true, false, true≢false}
 use mathlib.Core.List.{List}
@@ -8,9 +11,6 @@ use native.Mathlib.Omega.{arith}
 use lib.Dec.{T}
 use mir.Facts.{T_not}
 use Rattle.laws.specs.Pairs.{IsLeast}
-use Rattle.check_response.specs.declared.Verdict.{Verdict}
-use Rattle.check_response.specs.declared.Verdict.TheVariants.{Valid}
-use Rattle.check_response.specs.declared.Verdict.TheVariants as verdict
 use Rattle.pile.specs.Pile.{records_in, record_at}
 use Rattle.pile.specs.Links.{linked_of, first_rand_zero}
 use Rattle.pile.specs.Valid.{window_at}
@@ -22,8 +22,6 @@ use Rattle.pile_runs.specs.Convict.{Contradiction}
 use Rattle.pile_report.specs.Report.{judged, joined, refused, loose, Reports}
 use Rattle.pile_report.specs.Report.{of-record, code-17, code-18, code-15, of-records}
 use Rattle.pile_report.specs.Meaning.{IsReport, Accepts}
-use Rattle.pile_report.specs.declared.Report.{Report}
-use Rattle.pile_report.specs.declared.Report.TheVariants.{Pair, Refused}
 use Rattle.pile_report.proofs.Says.{not-not}
 use Rattle.pile_report.proofs.Runs.{joined-later}
 
@@ -35,12 +33,12 @@ is_set false = (λ t. absurd t, λ e. absurd (true≢false (sym e)))
 
 module _ (pile answers : List ℕ) where
   -- a record that is not refused has its response's window
-  pub windowed : (k : ℕ) → T (valid (judged pile answers k)) → judged pile answers k ≡ Valid (window_at pile k)
+  pub windowed : (k : ℕ) → T (valid (judged pile answers k)) → judged pile answers k ≡ Ok (window_at pile k)
   windowed k t = go (judged pile answers k) refl
     where
-      go : (x : Verdict) → judged pile answers k ≡ x → judged pile answers k ≡ Valid (window_at pile k)
-      go (Valid w) e = e ∙ ap Valid (window-of-its-own pile answers k w e)
-      go (verdict.Refused why) e = absurd (subst (λ (y : Verdict). T (valid y)) e t)
+      go : (x : Result Window Refusal) → judged pile answers k ≡ x → judged pile answers k ≡ Ok (window_at pile k)
+      go (Ok w) e = e ∙ ap Ok (window-of-its-own pile answers k w e)
+      go (Err why) e = absurd (subst (λ (y : Result Window Refusal). T (valid y)) e t)
 
   -- a valid record is judged valid, and one of a pile of bytes that is judged valid is valid,
   pub valid-yes : (k : ℕ) → ValidRecord pile answers k → T (valid (judged pile answers k))
@@ -75,7 +73,7 @@ joined-first pile = refl
 -- ---- and so is the answer on a pile
 
 module _ (pile answers : List ℕ) where
-  accepted : Bytes pile → (i j : ℕ) → Reports pile answers (Pair i j) → IsReport pile answers
+  accepted : Bytes pile → (i j : ℕ) → Reports pile answers (Ok (i, j)) → IsReport pile answers
   accepted bytes i j r =
       let s = r.1 in
       let c = s.2.holds in
@@ -122,22 +120,22 @@ module _ (pile answers : List ℕ) where
           d.contradict;
     }
 
-    accepts : (r : Report) → Reports pile answers r → Accepts r
-    accepts (Pair i j) s = tt
-    accepts (Refused why k) (code-15 bad) = bad (d.all_valid d.j d.inside).pile-good
-    accepts (Refused why k) (of-records g (of-record f e)) = none-refused k f.inside f.holds
-    accepts (Refused why k) (of-records g (code-17 f h)) = none-loose k h.inside h.holds
-    accepts (Refused why k) (of-records g (code-18 f h none)) = none d.i d.j pair-in
+    accepts : (r : Result (ℕ × ℕ) (Refusal × ℕ)) → Reports pile answers r → Accepts r
+    accepts (Ok (i, j)) s = tt
+    accepts (Err (why, k)) (code-15 bad) = bad (d.all_valid d.j d.inside).pile-good
+    accepts (Err (why, k)) (of-records g (of-record f e)) = none-refused k f.inside f.holds
+    accepts (Err (why, k)) (of-records g (code-17 f h)) = none-loose k h.inside h.holds
+    accepts (Err (why, k)) (of-records g (code-18 f h none)) = none d.i d.j pair-in
 
     -- a report names the least of its pairs
     pub names : (i j : ℕ) → IsLeast (Contradiction (judged pile answers) (records_in pile)) i j
-        → Reports pile answers (Pair i j)
+        → Reports pile answers (Ok (i, j))
     names i j m = ((d.all_valid d.j d.inside).pile-good, (none-refused, none-loose, m))
 
-  named : Bytes pile → (r : Report) → Reports pile answers r → Accepts r → IsReport pile answers
-  named bytes (Pair i j) s t = accepted bytes i j s
-  named bytes (Refused why k) s t = absurd t
+  named : Bytes pile → (r : Result (ℕ × ℕ) (Refusal × ℕ)) → Reports pile answers r → Accepts r → IsReport pile answers
+  named bytes (Ok (i, j)) s t = accepted bytes i j s
+  named bytes (Err (why, k)) s t = absurd t
 
   -- the answer names a pair exactly where the pile is a report
-  pub report-exactly : Bytes pile → (r : Report) → Reports pile answers r → Accepts r ↔ IsReport pile answers
+  pub report-exactly : Bytes pile → (r : Result (ℕ × ℕ) (Refusal × ℕ)) → Reports pile answers r → Accepts r ↔ IsReport pile answers
   report-exactly bytes r s = (named bytes r s, λ d. accepts d r s)

@@ -2,7 +2,6 @@
 -- Stands, Agree, Unread and Once.
 pub mod SameArrays
 pub mod Verdicts
-pub mod Stopping
 pub mod Says
 pub mod Runs
 pub mod Exactly

@@ -1,5 +1,7 @@
 -- The cutter's run: the run of the arrays is the run of the pile that they are of, and any two answers are the same.
-use mathlib.Core.Path.{◌≡◌, refl, subst, ap, ◌∙◌}
+use Rattle.check_response.specs.declared.Window.{Window}
+use Rattle.std.specs.Prelude.{Err, Ok, Option, Result, Some}
+use mathlib.Core.Path.{◌≡◌, refl, sym, subst, ap, ◌∙◌}
 use mathlib.Core.Bool.{Bool, true, false, ◌&&◌}
 use mathlib.Core.List.{List, []}
 use Prim.Native.Nat.{ℕ, ◌-◌, ◌<◌, min}
@@ -11,20 +13,17 @@ use Rattle.laws.proofs.Written.{written-refused}
 use Rattle.refusal.specs.declared.Refusal.{Refusal}
 use Rattle.pile.specs.Pile.{records_in, pile_code}
 use Rattle.pile.specs.Links.{linked_of}
-use Rattle.pile.specs.Meaning.{WholePile}
-use Rattle.check_response.specs.declared.Verdict.{Verdict}
+use Rattle.pile.specs.Meaning.{GoodPile, WholePile}
+use Rattle.pile.specs.Valid.{judged_at}
+use Rattle.pile.proofs.Exactly.{judged-at}
 use Rattle.pile_runs.specs.Clash.{valid}
 use Rattle.pile_runs.specs.Spans.{Answers}
 use Rattle.pile_runs.specs.Convict.{flag_in, Convicts}
-use Rattle.pile_runs.specs.declared.Span.{Span}
-use Rattle.pile_runs.specs.declared.Span.TheVariants.{Places}
 use Rattle.pile_runs.proofs.Find.{run_settled}
-use Rattle.pile_runs.proofs.SamePile.{same_answer, linked-answer}
-use Rattle.pile_report.specs.Promises.{between, Gathered}
+use Rattle.pile_runs.proofs.SamePile.{linked-answer}
+use Rattle.pile_report.specs.Promises.{between}
 use Rattle.pile_report.specs.Report.{judged, joined}
-use Rattle.pile_report.specs.Taking.{ConvictsIn, CutRefused, code-15, code-19, code-18, Takes}
-use Rattle.pile_report.specs.declared.Taken.{Taken}
-use Rattle.pile_report.specs.declared.Taken.TheVariants.{Run, Refused}
+use Rattle.pile_report.specs.Taking.{CutRefused, code-15, code-19, code-18, Takes}
 use Rattle.pile_report.proofs.Says.{pile-refused}
 
 -- the flag of a record after the first says whether it is linked
@@ -33,7 +32,7 @@ unfolding joined
 joined-later pile k l = rw (ne_eqb k 0 (λ z. omega arith)) refl
 
 -- between two valid records the link is told as it is
-between-valid : (v : ℕ → Verdict) (l : ℕ → Bool) (k : ℕ) → 0 < k → T (valid (v (k - 1))) → T (valid (v k))
+between-valid : (v : ℕ → Result Window Refusal) (l : ℕ → Bool) (k : ℕ) → 0 < k → T (valid (v (k - 1))) → T (valid (v k))
     → between v l k ≡ l k
 between-valid v l k z p q = rw (ne_eqb k 0 (λ e. omega arith)) (both (valid (v (k - 1))) (valid (v k)) p q)
   where
@@ -43,7 +42,7 @@ between-valid v l k z p q = rw (ne_eqb k 0 (λ e. omega arith)) (both (valid (v 
     both false b p q = absurd p
 
 -- the run by flags that tell the links between valid records is the run by the links of the pile
-pub run-linked : (pile : List ℕ) (v : ℕ → Verdict) (ls : List Bool) (r : Span) → WholePile pile
+pub run-linked : (pile : List ℕ) (v : ℕ → Result Window Refusal) (ls : List Bool) (r : Option (ℕ × ℕ)) → WholePile pile
     → ((k : ℕ) → k < 16 → flag_in ls k ≡ between v (linked_of pile) k)
     → Answers (Convicts v (flag_in ls) (min (records_in pile) 16)) r
     → Answers (Convicts v (linked_of pile) (records_in pile)) r
@@ -54,25 +53,22 @@ run-linked pile v ls r g f a =
     linked-answer v (flag_in ls) l n (λ i z u p q. f i (omega (arith, g.to)) ∙ between-valid v l i z p q) r
     (subst (λ (m : ℕ). Answers (Convicts v (flag_in ls) m) r) whole a)
 
--- and the run by the verdicts that were gathered is the run of the pile
-pub run-gathered : (pile answers : List ℕ) (v : ℕ → Verdict) (r : Span)
-    → Gathered true v (judged pile answers) (records_in pile)
-    → Answers (Convicts v (linked_of pile) (records_in pile)) r → Answers (ConvictsIn pile answers) r
-run-gathered pile answers v r g a =
-    same_answer v (judged pile answers) (linked_of pile) (linked_of pile) (records_in pile) (g.whole refl)
-    (λ i z u. refl) r a
+-- what the judge of a good pile says of record k is the verdict on it
+pub judged-told : (pile answers : List ℕ) → GoodPile pile answers → (k : ℕ) → k < records_in pile
+    → {r : Result Window Refusal} → r ≡ judged_at pile answers k → r ≡ judged pile answers k
+judged-told pile answers g k h e = e ∙ sym (judged-at pile answers k g h)
 
 -- the answers, of which any two are the same
 module _ (pile answers : List ℕ) (room : ℕ) where
   -- where code 15 applies, which code has as x, both clauses of the cutter
   pub cut-bad : {x : Refusal} (o : List ℕ) → x ≡ pile_code pile answers → (x.code ≡ 0 → ⊥)
-      → Takes pile answers room (Refused x) × (o ≡ written x.code [] o)
+      → Takes pile answers room (Err x) × (o ≡ written x.code [] o)
   cut-bad {x} o e h =
       let r = pile-refused pile answers e h in
       (rw r.0 (code-15 r.1), written-refused x.code [] o h)
 
   -- a refusal leaves no run,
-  no_run : (i j : ℕ) (why : Refusal) → Takes pile answers room (Run i j) → CutRefused pile answers room why → ⊥
+  no_run : (i j : ℕ) (why : Refusal) → Takes pile answers room (Ok (i, j)) → CutRefused pile answers room why → ⊥
   no_run i j why p (code-15 bad) = bad p.0
   no_run i j why p (code-19 g short) = omega (arith, p.1)
   no_run i j why p (code-18 g fits none) = none i j p.2.holds
@@ -89,11 +85,11 @@ module _ (pile answers : List ℕ) (room : ℕ) where
   cut-refused-once x y (code-18 g fits none) (code-19 h short) = absurd (omega arith)
   cut-refused-once x y (code-18 g fits none) (code-18 h l m) = refl
 
-  pub takes-once : (r s : Taken) → Takes pile answers room r → Takes pile answers room s → r ≡ s
-  takes-once (Run i j) (Run a b) p q =
+  pub takes-once : (r s : Result (ℕ × ℕ) Refusal) → Takes pile answers room r → Takes pile answers room s → r ≡ s
+  takes-once (Ok (i, j)) (Ok (a, b)) p q =
       let n = records_in pile in
-      let e = run_settled (judged pile answers) (linked_of pile) n (Places i j) (Places a b) p.2 q.2 in
+      let e = run_settled (judged pile answers) (linked_of pile) n (Some (i, j)) (Some (a, b)) p.2 q.2 in
       cc
-  takes-once (Run i j) (Refused why) p q = absurd (no_run i j why p q)
-  takes-once (Refused why) (Run i j) p q = absurd (no_run i j why q p)
-  takes-once (Refused x) (Refused y) p q = ap Refused (cut-refused-once x y p q)
+  takes-once (Ok (i, j)) (Err why) p q = absurd (no_run i j why p q)
+  takes-once (Err why) (Ok (i, j)) p q = absurd (no_run i j why q p)
+  takes-once (Err x) (Err y) p q = ap Err (cut-refused-once x y p q)

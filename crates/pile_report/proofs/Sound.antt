@@ -1,5 +1,7 @@
 -- What the check says of a sound pile: a pair where two of its windows contradict, and else 18. And that a sound pile
 -- of bytes is what document 01 asks of a report but the pair.
+use Rattle.check_response.specs.declared.Window.{Window}
+use Rattle.std.specs.Prelude.{Err, Ok, Result}
 use Prim.Native.Nat.{ℕ, ◌-◌, ◌<◌}
 use mathlib.Core.Path.{◌≡◌, refl, sym, subst, ◌∙◌}
 use mathlib.Core.Bool.{Bool, not}
@@ -8,7 +10,6 @@ use native.Mathlib.Omega.{arith}
 use lib.Dec.{T}
 use Rattle.laws.specs.Bytes.{Bytes}
 use Rattle.refusal.specs.declared.Refusal.{Refusal}
-use Rattle.check_response.specs.declared.Verdict.{Verdict}
 use Rattle.pile.specs.Pile.{records_in, record_at}
 use Rattle.pile.specs.Valid.{window_at}
 use Rattle.pile.specs.Meaning.{ValidRecord, IsLinked, ZeroRand}
@@ -18,14 +19,12 @@ use Rattle.pile_runs.specs.Clash.{windows_clash, valid}
 use Rattle.pile_report.specs.Report.{judged, joined, refused, loose, PileRefused, Reports, report_number}
 use Rattle.pile_report.specs.Report.{of-record, code-17, code-18, code-15, of-records}
 use Rattle.pile_report.specs.Meaning.{Sound, Accepts, Decides}
-use Rattle.pile_report.specs.declared.Report.{Report}
-use Rattle.pile_report.specs.declared.Report.TheVariants.{Pair, Refused}
 use Rattle.pile_report.proofs.Runs.{joined-later}
 use Rattle.pile_report.proofs.Exactly.{joined-first}
 
 module _ (pile answers : List ℕ) (d : Sound pile answers) where
   pub none-refused : (k : ℕ) → k < records_in pile → T (refused (judged pile answers) k) → ⊥
-  none-refused k l t = subst (λ (x : Verdict). T (not (valid x))) (d.all_valid k l) t
+  none-refused k l t = subst (λ (x : Result Window Refusal). T (not (valid x))) (d.all_valid k l) t
 
   pub none-loose : (k : ℕ) → k < records_in pile → T (loose (joined pile) k) → ⊥
   none-loose k l t = subst (λ (x : Bool). T (not x)) (d.all-joined k l) t
@@ -39,22 +38,22 @@ module _ (pile answers : List ℕ) (d : Sound pile answers) where
   refused-clear why k (of-records g (code-18 f h none)) = (refl, none)
 
   -- nothing else than a pair or 18 is said,
-  pub sound-decides : (r : Report) → Reports pile answers r → Decides r
-  sound-decides (Pair i j) s = tt
-  sound-decides (Refused why k) s = (refused-clear why k s).0
+  pub sound-decides : (r : Result (ℕ × ℕ) (Refusal × ℕ)) → Reports pile answers r → Decides r
+  sound-decides (Ok (i, j)) s = tt
+  sound-decides (Err (why, k)) s = (refused-clear why k s).0
 
   -- where it is 18, no two windows contradict,
-  pub sound-clear : (r : Report) → Reports pile answers r → report_number r ≡ 18
+  pub sound-clear : (r : Result (ℕ × ℕ) (Refusal × ℕ)) → Reports pile answers r → report_number r ≡ 18
       → (i j : ℕ) → Contradiction (judged pile answers) (records_in pile) i j → ⊥
-  sound-clear (Pair i j) s e = absurd (omega (arith, e))
-  sound-clear (Refused why k) s e = (refused-clear why k s).1
+  sound-clear (Ok (i, j)) s e = absurd (omega (arith, e))
+  sound-clear (Err (why, k)) s e = (refused-clear why k s).1
 
   -- and a pair is where an earlier window lies wholly after a later one, whichever two they are
   pub sound-convicts : (i j : ℕ) → i < j → j < records_in pile
       → T (windows_clash (window_at pile i) (window_at pile j))
-      → (r : Report) → Reports pile answers r → Accepts r
-  sound-convicts i j o l c (Pair a b) s = tt
-  sound-convicts i j o l c (Refused why k) s =
+      → (r : Result (ℕ × ℕ) (Refusal × ℕ)) → Reports pile answers r → Accepts r
+  sound-convicts i j o l c (Ok (a, b)) s = tt
+  sound-convicts i j o l c (Err (why, k)) s =
       (refused-clear why k s).1 i j
       (record {
         order = o;

@@ -1,69 +1,85 @@
--- Laws for the loops that gather the verdicts w on the records of a pile, one after the other: the same whoever says
--- whether signatures verify.
-use mathlib.Core.Path.{◌≡◌, refl, sym, subst, ◌∙◌}
-use mathlib.Core.Bool.{Bool, true, false, not, ◌||◌, true≢false}
+-- Laws for the loops that gather the verdicts on n records, one after the other, whoever judges.
+use Rattle.check_response.specs.declared.Window.{Window}
+use Rattle.refusal.specs.declared.Refusal.{Refusal}
+use Rattle.std.specs.Prelude.{Err, Ok, Result}
+use mathlib.Core.Path.{◌≡◌, sym, subst}
+use mathlib.Core.Bool.{not}
 use mathlib.Core.List.{List, []}
-use Prim.Native.Nat.{ℕ, ◌+◌, ◌-◌, ◌≤◌, ◌<◌}
+use Prim.Native.Nat.{ℕ, ◌+◌, ◌≤◌, ◌<◌}
 use native.Mathlib.Omega.{arith}
+use borrow.Author.Count.{below_more}
 use lib.Dec.{T}
 use lib.ListN.{length, set, length-set}
-use lib.Seq.{get_or-set_same}
+use lib.Seq.{get_or-set_same, get_or-set_other}
+use Rattle.laws.specs.Least.{IsFirst, Never}
 use Rattle.laws.proofs.Fill.{fill-next}
 use Rattle.pile_runs.specs.Clash.{valid}
 use Rattle.pile_runs.specs.Convict.{verdict_in}
-use Rattle.check_response.specs.declared.Verdict.{Verdict}
-use Rattle.pile_report.specs.Promises.{UpToRefused, Gathered}
+use Rattle.pile_report.specs.Promises.{Judges}
+use Rattle.pile_report.specs.Report.{refused}
 
--- the verdicts on the first k of n records are known
-pub record Gathering (w : ℕ → Verdict) (n k : ℕ) (vs : List Verdict) : Type 0 where
+-- the verdicts on the first k of n records are known, and are what a judge whose results are as in `post` says
+pub record Gathering (post : ℕ → Result Window Refusal → Type 0) (n k : ℕ) (vs : List (Result Window Refusal)) : Type 0 where
   pub most : k ≤ n
   pub long : length vs ≡ 16
-  pub known : (i : ℕ) → i < k → verdict_in vs i ≡ w i
+  pub known : (v : ℕ → Result Window Refusal) → Judges post v n → (i : ℕ) → i < k → verdict_in vs i ≡ v i
 
-pub gathering-none : (w : ℕ → Verdict) (n : ℕ) {vs : List Verdict} → length vs ≡ 16 → Gathering w n 0 vs
-gathering-none w n l = record { most = omega arith; long = l; known = λ i h. absurd (omega arith) }
+-- and so far all are valid
+pub record Passing (post : ℕ → Result Window Refusal → Type 0) (n k : ℕ) (vs : List (Result Window Refusal)) : Type 0 where
+  pub gathered : Gathering post n k vs
+  pub all_valid : (i : ℕ) → i < k → T (valid (verdict_in vs i))
 
-module _ {w : ℕ → Verdict} {n k : ℕ} {vs : List Verdict} (g : Gathering w n k vs) where
+opposite : (y : Result Window Refusal) → T (valid y) → T (not (valid y)) → ⊥
+opposite (Ok w) p q = q
+opposite (Err why) p q = p
+
+module _ {post : ℕ → Result Window Refusal → Type 0} {n : ℕ} where
+  pub gathering-none : {vs : List (Result Window Refusal)} → length vs ≡ 16 → Gathering post n 0 vs
+  gathering-none l = record { most = omega arith; long = l; known = λ v j i h. absurd (omega arith) }
+
+  pub passing-none : {vs : List (Result Window Refusal)} → length vs ≡ 16 → Passing post n 0 vs
+  passing-none l = record { gathered = gathering-none l; all_valid = λ i h. absurd (omega arith) }
+
   -- with the verdict on record k at its place, one more is
-  pub gathering-next : {x : Verdict} → k < n → n ≤ 16 → x ≡ w k → Gathering w n (k + 1) (set vs k x)
-  gathering-next {x} h m e =
+  pub gathering-next : {k : ℕ} {vs : List (Result Window Refusal)} {x : Result Window Refusal}
+      → Gathering post n k vs → k < n → n ≤ 16 → post k x → Gathering post n (k + 1) (set vs k x)
+  gathering-next {k} {vs} {x} g h m p =
       record {
         most = omega arith;
         long = simp length-set g.long;
-        known = fill-next w (verdict_in [] 0) vs k x (omega (arith, g.long)) g.known e;
+        known = λ v j.
+            fill-next v (verdict_in [] 0) vs k x (omega (arith, g.long)) (g.known v j) (j k h x p);
       }
 
-  -- where not all are asked for, and that record is refused, they are gathered,
-  pub gathered-stop : {x : Verdict} {all b : Bool} → k < n → n ≤ 16 → x ≡ w k → b ≡ valid x → not (all || b) ≡ true
-      → Gathered all (verdict_in (set vs k x)) w n
-  gathered-stop {x} {all} {b} h m e v t = by all b v t
-    where
-      one : k + 1 - 1 ≡ k
-      one = omega arith
+  module _ {k : ℕ} {vs : List (Result Window Refusal)} (s : Passing post n k vs) (h : k < n) where
+    pub passing-next : {w : Window} → n ≤ 16 → post k (Ok w) → Passing post n (k + 1) (set vs k (Ok w))
+    passing-next {w} m p = record {
+      gathered = gathering-next s.gathered h m p;
+      all_valid =
+          below_more (λ (i : ℕ). T (valid (verdict_in (set vs k (Ok w)) i))) k
+          (λ i l.
+          subst (λ (y : Result Window Refusal). T (valid y))
+          (sym (get_or-set_other vs k i (Ok w) (verdict_in [] 0) (λ e. omega (arith, e)))) (s.all_valid i l))
+          (subst (λ (y : Result Window Refusal). T (valid y))
+          (sym (get_or-set_same vs k (Ok w) (verdict_in [] 0) (omega (arith, m, s.gathered.long)))) tt);
+    }
 
-      by : (a y : Bool) → y ≡ valid x → not (a || y) ≡ true → Gathered a (verdict_in (set vs k x)) w n
-      by true y u z = absurd (true≢false (sym z))
-      by false true u z = absurd (true≢false (sym z))
-      by false false u z =
+    -- where record k is refused, it is the first that is
+    pub stopped : {why : Refusal} (v : ℕ → Result Window Refusal) → Judges post v n → post k (Err why)
+        → IsFirst (refused v) n k × (v k ≡ Err why)
+    stopped {why} v j p =
+        let e = j k h (Err why) p in (
           record {
-            early = record {
-              known = k + 1;
-              most = omega arith;
-              same = (gathering-next h m e).known;
-              stopped = λ l. (
-                omega arith,
-                rw (one, get_or-set_same vs k x (verdict_in [] 0) (omega (arith, g.long)))
-                    (subst (λ (q : Bool). T (not q)) u tt),
-              );
-            };
-            whole = λ l. absurd (true≢false (sym l));
-          }
+            inside = h;
+            holds = subst (λ (y : Result Window Refusal). T (not (valid y))) e tt;
+            earlier = λ i l t.
+                opposite (verdict_in vs i) (s.all_valid i l)
+                (subst (λ (y : Result Window Refusal). T (not (valid y))) (sym (s.gathered.known v j i l)) t);
+          },
+          sym e,
+        )
 
-  -- and at the end
-  pub gathered-all : {all : Bool} → n ≤ k → Gathered all (verdict_in vs) w n
-  gathered-all h =
-      let same : (i : ℕ) → i < n → verdict_in vs i ≡ w i = λ i l. g.known i (omega arith) in
-      record {
-        early = record { known = n; most = omega arith; same = same; stopped = λ z. absurd (omega arith) };
-        whole = λ z. same;
-      }
+-- in the end no record is refused
+pub passed-all : {post : ℕ → Result Window Refusal → Type 0} {n k : ℕ} {vs : List (Result Window Refusal)}
+    → Passing post n k vs → n ≤ k → Never (refused (verdict_in vs)) n
+passed-all {vs = vs} s h i l t = opposite (verdict_in vs i) (s.all_valid i (omega arith)) t

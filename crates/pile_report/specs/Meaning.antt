@@ -1,16 +1,14 @@
 -- Document 01's sentence on reports, one field a fact.
 -- Linked is document 01's own sentence, `IsLinked`: of valid records the check asks no more (`valid-link-exactly`).
-use Rattle.std.specs.Prelude.{◌≡◌, true, List, ℕ, ◌-◌, ◌≤◌, ◌<◌, T}
+use Rattle.refusal.specs.declared.Refusal.{Refusal}
+use Rattle.std.specs.Prelude.{◌≡◌, true, List, ℕ, ◌-◌, ◌≤◌, ◌<◌, T, Err, Ok, Result}
 use Rattle.pile.specs.Pile.{records_in, record_at}
 use Rattle.pile.specs.Valid.{window_at}
 use Rattle.pile.specs.Meaning.{GoodPile, ValidRecord, IsLinked, ZeroRand}
 use Rattle.pile_runs.specs.Clash.{windows_clash}
 use Rattle.pile_runs.specs.Convict.{Contradiction}
-use Rattle.check_response.specs.declared.Verdict.TheVariants.{Valid}
 use Rattle.pile_report.specs.Report.{judged, joined}
 use Rattle.pile_report.specs.Taking.{run_bytes, run_answers}
-use Rattle.pile_report.specs.declared.Report.{Report}
-use Rattle.pile_report.specs.declared.Report.TheVariants.{Pair, Refused}
 
 -- each record is valid and each after the first is linked, the first rand is all zero, and for some i < j the windows
 -- contradict
@@ -29,7 +27,7 @@ pub record IsReport (pile answers : List ℕ) : Type 0 where
 -- document 01's sentence without its last part (`sound-valid`, `sound-linked`, `sound-rand`).
 pub record Sound (pile answers : List ℕ) : Type 0 where
   pub good : GoodPile pile answers
-  pub all_valid : (k : ℕ) → k < records_in pile → judged pile answers k ≡ Valid (window_at pile k)
+  pub all_valid : (k : ℕ) → k < records_in pile → judged pile answers k ≡ Ok (window_at pile k)
   pub all-joined : (k : ℕ) → k < records_in pile → joined pile k ≡ true
 
 -- and no pair contradicts
@@ -38,9 +36,9 @@ pub record Clear (pile answers : List ℕ) : Type 0 where
   pub none : (i j : ℕ) → Contradiction (judged pile answers) (records_in pile) i j → ⊥
 
 -- the answer on a sound pile: it names a pair, or it is 18
-abbrev pub Decides : Report → Type 0
-Decides (Pair i j) = Unit {0}
-Decides (Refused why k) = why.code ≡ 18
+abbrev pub Decides : Result (ℕ × ℕ) (Refusal × ℕ) → Type 0
+Decides (Ok (i, j)) = Unit {0}
+Decides (Err (why, k)) = why.code ≡ 18
 
 -- the run from record i to record j of a pile, cut out, is a report with its own answers
 pub record ReportIn (pile answers : List ℕ) (i j : ℕ) : Type 0 where
@@ -49,6 +47,6 @@ pub record ReportIn (pile answers : List ℕ) (i j : ℕ) : Type 0 where
   pub report : IsReport (run_bytes i j pile) (run_answers i j answers)
 
 -- the answer names a pair
-abbrev pub Accepts : Report → Type 0
-Accepts (Pair i j) = Unit {0}
-Accepts (Refused why k) = ⊥
+abbrev pub Accepts : Result (ℕ × ℕ) (Refusal × ℕ) → Type 0
+Accepts (Ok (i, j)) = Unit {0}
+Accepts (Err (why, k)) = ⊥

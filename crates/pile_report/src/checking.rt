@@ -1,45 +1,47 @@
 // The check of a report: 15; then the first record that is refused; then the first that is not linked; then the pair
 // that contradicts.
-ghost use Rattle.std.specs.Prelude.{◌≤◌};
-ghost use Rattle.pile_runs.specs.Convict.{verdict_in};
+ghost use Rattle.std.specs.Prelude.{◌≤◌, ◌<◌, ℕ, Result};
+ghost use Rattle.check_response.specs.declared.Window.{Window};
+ghost use Rattle.pile_report.specs.Promises.{Judges};
 ghost use Rattle.pile_report.specs.Report.{joined, Says, Reports};
+ghost use Rattle.refusal.specs.declared.Refusal.{Refusal};
 
-use super::gathering::verdicts_of;
+use super::Report;
+use super::gathering::valid_by;
 use super::linking::first_loose;
-use super::scanning::first_refused;
-use super::{Found, Report, Stopped};
 use check_response::Verdict;
-use pile::{RECORD, pile_code};
-use pile_runs::{Span, shortest_run};
+use pile::{RECORD, pile_code, verdict_at};
+use pile_runs::Known;
 use refusal::{codes, refuse};
 
 // Whether the pile is a report, and the pair that it names. Behind a record that is refused nothing is looked at.
 pub fn check_report<'a>(pile: &'a [u8], answers: &'a [u8]) -> Report
     ensures { Reports pile.now answers.now result }
 {
-    let bad = pile_code(pile, answers);
-    if bad.code != 0 {
-        return Report::Refused(bad, 0);
+    match pile_code(pile, answers) {
+        Err(why) => Err((why, 0)),
+        Ok(()) => said_by(pile, pile.len() / RECORD, |k| verdict_at(pile, answers, k)),
     }
-    let n = pile.len() / RECORD;
-    let verdicts = verdicts_of(pile, answers, false);
-    said_of(pile, verdicts, n)
 }
 
-// The same of the first n records, of which the verdicts are known. Links are hashed only where no record is refused.
-// Where all are linked, too, the two ends of the shortest run are the pair.
-pub fn said_of(pile: &[u8], verdicts: [Verdict; 16], n: usize) -> Report
-    requires { n ≤ 16 }
-    ensures { Says (verdict_in verdicts) (joined pile.now) n result }
+// The same of the first n records, by whoever judges them. Links are hashed only where no record is refused. Where all
+// are linked, too, the two ends of the shortest run are the pair.
+pub fn said_by<J: Fn(usize) -> Verdict>(pile: &[u8], n: usize, judge: J) -> Report
+    requires most { n ≤ 16 }
+    requires callable { (k : ℕ) → k < n → J.pre judge k }
+    ensures { (v : ℕ → Result Window Refusal) → Judges (J.post judge) v n
+        → Says v (joined pile.now) n result }
 {
-    match first_refused(verdicts, n) {
-        Stopped::At(why, k) => Report::Refused(why, k),
-        Stopped::Nowhere => match first_loose(pile, n) {
-            Found::At(k) => Report::Refused(refuse(codes::LINK), k),
-            Found::Nothing => match shortest_run(verdicts, [true; 16], n) {
-                Span::Places(i, j) => Report::Pair(i, j),
-                Span::Nothing => Report::Refused(refuse(codes::NO_CONTRADICTION), 0),
-            },
-        },
+    let verdicts = valid_by(n, judge)?;
+    if let Some(k) = first_loose(pile, n) {
+        return Err((refuse(codes::LINK), k));
     }
+    let known = Known {
+        verdicts,
+        linked: [true; 16],
+        n,
+    };
+    known
+        .shortest_run()
+        .ok_or((refuse(codes::NO_CONTRADICTION), 0))
 }

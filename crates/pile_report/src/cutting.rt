@@ -1,64 +1,72 @@
 // The cutter: 15, 19, 18, or a run at the front of the buffer.
-ghost use Rattle.std.specs.Prelude.{◌≡◌, ◌+◌, ◌*◌, ◌-◌, ◌≤◌, length};
+ghost use Rattle.std.specs.Prelude.{◌≡◌, ◌+◌, ◌*◌, ◌-◌, ◌≤◌, ◌<◌, length, ℕ, Result};
+ghost use Rattle.check_response.specs.declared.Window.{Window};
 ghost use Rattle.pile.specs.Layout.{RECORD};
 ghost use Rattle.pile.specs.Links.{linked_of};
 ghost use Rattle.pile.specs.Meaning.{GoodPile, WholePile};
 ghost use Rattle.pile.specs.Pile.{records_in};
-ghost use Rattle.pile_runs.specs.Convict.{verdict_in, Convicts};
+ghost use Rattle.pile_runs.specs.Convict.{Convicts};
 ghost use Rattle.pile_runs.specs.Spans.{Answers};
 ghost use Rattle.laws.specs.Written.{written, Puts};
+ghost use Rattle.pile_report.specs.Promises.{Judges};
+ghost use Rattle.refusal.specs.declared.Refusal.{Refusal};
 ghost use Rattle.pile_report.specs.Taking.{ConvictsIn, Takes, run_bytes, taken_number, taken_bytes};
 
-use super::Taken;
-use super::gathering::verdicts_of;
+use super::gathering::verdicts_by;
 use super::linking::links_of;
 use check_response::Verdict;
 use octets::{put, zero};
 use pile::layout::{RAND, REQUEST_LENGTH};
-use pile::{RECORD, pile_code};
-use pile_runs::{Span, shortest_run};
-use refusal::{codes, refuse};
+use pile::{RECORD, pile_code, verdict_at};
+use pile_runs::Known;
+use refusal::{Refusal, codes, refuse};
 
 // Takes the shortest run that convicts by itself out of the pile, the first among equals. The buffer must be as long as
 // the pile at least, whatever the length of the run.
-pub fn cut_run<'a>(pile: &'a [u8], answers: &'a [u8], out: &mut [u8]) -> Taken
+pub fn cut_run<'a>(
+    pile: &'a [u8],
+    answers: &'a [u8],
+    out: &mut [u8],
+) -> Result<(usize, usize), Refusal>
     ensures takes { Takes pile.now answers.now (length out.old) result }
     ensures out_after { out.new ≡ written (taken_number result) (taken_bytes result pile.now) out.old }
 {
-    // Both are known before either is told, so that the order of 15 and 19 stands in the two tests alone.
-    let bad = pile_code(pile, answers);
-    let short = out.len() < pile.len();
-    if bad.code != 0 {
-        return Taken::Refused(bad);
-    }
-    if short {
-        return Taken::Refused(refuse(codes::ROOM));
+    pile_code(pile, answers)?;
+    if out.len() < pile.len() {
+        return Err(refuse(codes::ROOM));
     }
     match run_in(pile, answers) {
-        Span::Nothing => Taken::Refused(refuse(codes::NO_CONTRADICTION)),
-        Span::Places(i, j) => {
+        None => Err(refuse(codes::NO_CONTRADICTION)),
+        Some((i, j)) => {
             put_run(pile, i, j, out);
-            Taken::Run(i, j)
+            Ok((i, j))
         }
     }
 }
 
 // The shortest run. That the pile is good was asked by the caller.
-pub fn run_in<'a>(pile: &'a [u8], answers: &'a [u8]) -> Span
+pub fn run_in<'a>(pile: &'a [u8], answers: &'a [u8]) -> Option<(usize, usize)>
     requires { GoodPile pile.now answers.now }
     ensures { Answers (ConvictsIn pile.now answers.now) result }
 {
-    run_by(pile, verdicts_of(pile, answers, true))
+    run_by(pile, |k| verdict_at(pile, answers, k))
 }
 
-// The shortest run, by the verdicts on all records.
-pub fn run_by(pile: &[u8], verdicts: [Verdict; 16]) -> Span
-    requires { WholePile pile.now }
-    ensures { Answers
-        (Convicts (verdict_in verdicts) (linked_of pile.now) (records_in pile.now)) result }
+// The shortest run, by whoever judges the records.
+pub fn run_by<J: Fn(usize) -> Verdict>(pile: &[u8], judge: J) -> Option<(usize, usize)>
+    requires whole { WholePile pile.now }
+    requires callable { (k : ℕ) → k < records_in pile.now → J.pre judge k }
+    ensures { (v : ℕ → Result Window Refusal) → Judges (J.post judge) v (records_in pile.now)
+        → Answers (Convicts v (linked_of pile.now) (records_in pile.now)) result }
 {
-    let links = links_of(pile, verdicts);
-    shortest_run(verdicts, links, pile.len() / RECORD)
+    let n = pile.len() / RECORD;
+    let verdicts = verdicts_by(n, judge);
+    let known = Known {
+        verdicts,
+        linked: links_of(pile, verdicts),
+        n,
+    };
+    known.shortest_run()
 }
 
 // Records i to j at the front of out, the first one's rand set to zero.

@@ -1,32 +1,56 @@
-// The verdicts on the records of a pile, each judged once. That the pile is good was asked by the caller.
-ghost use Rattle.pile.specs.Meaning.{GoodPile};
-ghost use Rattle.pile.specs.Pile.{records_in};
+// The verdicts on records, each judged once. Who judges is handed in: the judge with lent answers, or the one that
+// verifies signatures itself.
+ghost use Rattle.std.specs.Prelude.{◌≡◌, ◌≤◌, ◌<◌, ℕ, Result};
+ghost use Rattle.check_response.specs.declared.Window.{Window};
+ghost use Rattle.pile_report.specs.Promises.{Judges, Passes};
 ghost use Rattle.pile_runs.specs.Convict.{verdict_in};
-ghost use Rattle.pile_report.specs.Promises.{Gathered};
-ghost use Rattle.pile_report.specs.Report.{judged};
+ghost use Rattle.refusal.specs.declared.Refusal.{Refusal};
 
 use check_response::Verdict;
-use pile::{RECORD, verdict_at};
-use pile_runs::is_valid;
-use refusal::PASSED;
+use refusal::{PASSED, Refusal};
 
-// The verdicts on all records, or on those up to the first that is refused: then those behind it are not looked at.
-pub fn verdicts_of<'a>(pile: &'a [u8], answers: &'a [u8], all: bool) -> [Verdict; 16]
-    requires { GoodPile pile.now answers.now }
-    ensures { Gathered all (verdict_in result) (judged pile.now answers.now)
-        (records_in pile.now) }
+// In both functions, and in `said_by`, n is a number, whose clause `most` says that the array has room: a type of its own
+// for it would be made by each caller, and unpacked in each clause.
+
+// The verdicts on n records.
+pub fn verdicts_by<J: Fn(usize) -> Verdict>(n: usize, judge: J) -> [Verdict; 16]
+    requires most { n ≤ 16 }
+    requires callable { (k : ℕ) → k < n → J.pre judge k }
+    ensures { (v : ℕ → Result Window Refusal) → Judges (J.post judge) v n
+        → (k : ℕ) → k < n → verdict_in result k ≡ v k }
 {
-    let blank = Verdict::Refused(PASSED);
+    let blank = Err(PASSED);
     let mut verdicts = [blank; 16];
-    let n = pile.len() / RECORD;
-    let mut k: usize = 0;
-    while k < n {
-        let v = verdict_at(pile, answers, k);
+    // A range: the judge is asked by number, and the array may be longer than n.
+    for k in 0..n {
+        let v = judge(k);
         verdicts[k] = v;
-        if !(all | is_valid(v)) {
-            return verdicts;
-        }
-        k += 1;
     }
     verdicts
+}
+
+// The verdicts on n records where all are valid, or the refusal and the place of the first that is not: none behind it
+// is looked at.
+pub fn valid_by<J: Fn(usize) -> Verdict>(
+    n: usize,
+    judge: J,
+) -> Result<[Verdict; 16], (Refusal, usize)>
+    requires most { n ≤ 16 }
+    requires callable { (k : ℕ) → k < n → J.pre judge k }
+    ensures { (v : ℕ → Result Window Refusal) → Judges (J.post judge) v n → Passes v n result }
+{
+    let blank = Err(PASSED);
+    let mut verdicts = [blank; 16];
+    // A range, as above.
+    for k in 0..n {
+        match judge(k) {
+            Err(why) => {
+                return Err((why, k));
+            }
+            Ok(window) => {
+                verdicts[k] = Ok(window);
+            }
+        }
+    }
+    Ok(verdicts)
 }

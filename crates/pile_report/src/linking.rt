@@ -6,21 +6,14 @@ ghost use Rattle.pile_runs.specs.Convict.{verdict_in, flag_in};
 ghost use Rattle.pile_report.specs.Promises.{FirstAt, between};
 ghost use Rattle.pile_report.specs.Report.{joined, loose};
 
-use super::Found;
 use check_response::Verdict;
 use pile::{first_rand_zero, linked};
-use pile_runs::is_valid;
 
 // The first of n records that 17 is about. No link behind it is hashed.
-pub fn first_loose(pile: &[u8], n: usize) -> Found
+pub fn first_loose(pile: &[u8], n: usize) -> Option<usize>
     ensures { FirstAt (loose (joined pile.now)) n result }
 {
-    for k in 0..n {
-        if !joined_at(pile, k) {
-            return Found::At(k);
-        }
-    }
-    Found::Nothing
+    (0..n).find(|k| !joined_at(pile, *k))
 }
 
 // Record k is linked, and of the first its rand is zero.
@@ -39,12 +32,11 @@ pub fn links_of(pile: &[u8], verdicts: [Verdict; 16]) -> [bool; 16]
     ensures { (k : ℕ) → k < 16 → flag_in result k ≡ between (verdict_in verdicts) (linked_of pile.now) k }
 {
     let mut links = [false; 16];
-    let mut k: usize = 1;
-    while k < 16 {
+    // A range: each turn reads two places of one array, and writes one of the other.
+    for k in 1..16 {
         let before = verdicts[k - 1];
         let v = verdicts[k];
         links[k] = link_at(pile, before, v, k);
-        k += 1;
     }
     links
 }
@@ -54,11 +46,5 @@ pub fn links_of(pile: &[u8], verdicts: [Verdict; 16]) -> [bool; 16]
 fn link_at(pile: &[u8], before: Verdict, v: Verdict, k: usize) -> bool
     ensures { result ≡ (valid before && (valid v && linked_of pile.now k)) }
 {
-    if !is_valid(before) {
-        return false;
-    }
-    if !is_valid(v) {
-        return false;
-    }
-    linked(pile, k)
+    before.is_ok() && v.is_ok() && linked(pile, k)
 }

@@ -1,20 +1,22 @@
 -- How a clean run grows, and why it is enough to compare the two ends of a run: the least run that convicts is the
 -- least clean run whose ends contradict.
+use Rattle.check_response.specs.declared.Window.{Window}
+use Rattle.refusal.specs.declared.Refusal.{Refusal}
+use Rattle.std.specs.Prelude.{Result}
 use mathlib.Core.Path.{◌≡◌, sym, subst}
 use mathlib.Core.Bool.{Bool}
 use mathlib.Core.Logic.{⊎_elim}
-use Prim.Native.Nat.{ℕ, ◌+◌, ◌-◌, ◌≤◌}
+use Prim.Native.Nat.{ℕ, ◌<◌, ◌+◌, ◌-◌, ◌≤◌}
 use native.Mathlib.Nat.{eq-or-lt_of_le}
 use native.Mathlib.Omega.{arith}
 use lib.Dec.{T}
 use Rattle.laws.specs.Pairs.{IsLeast, Hits}
 use Rattle.pile_runs.proofs.Passed.{Passed}
-use Rattle.check_response.specs.declared.Verdict.{Verdict}
 use Rattle.pile_runs.specs.Clash.{valid}
 use Rattle.pile_runs.specs.Convict.{Clean, Convicts}
-use Rattle.pile_runs.specs.Searched.{Exposes, FirstStart}
+use Rattle.pile_runs.specs.Searched.{Exposes}
 
-module _ (v : ℕ → Verdict) (linked : ℕ → Bool) where
+module _ (v : ℕ → Result Window Refusal) (linked : ℕ → Bool) where
   -- a run of one record
   pub clean-one : (a : ℕ) → T (valid (v a)) → Clean v linked a a
   clean-one a h = record {
@@ -61,7 +63,7 @@ module _ (v : ℕ → Verdict) (linked : ℕ → Bool) where
   }
 
 -- so the least clean run whose ends contradict is the least that convicts,
-pub least-run : {v : ℕ → Verdict} {linked : ℕ → Bool} {n a b : ℕ}
+pub least-run : {v : ℕ → Result Window Refusal} {linked : ℕ → Bool} {n a b : ℕ}
     → IsLeast (Hits (Exposes v linked) n) a b → IsLeast (Convicts v linked n) a b
 least-run {v} {linked} {n} {a} {b} m = record {
   holds = exposed v linked n a b m.holds;
@@ -73,7 +75,7 @@ least-run {v} {linked} {n} {a} {b} m = record {
 }
 
 -- the other way round too,
-pub least-ends : {v : ℕ → Verdict} {linked : ℕ → Bool} {n a b : ℕ}
+pub least-ends : {v : ℕ → Result Window Refusal} {linked : ℕ → Bool} {n a b : ℕ}
     → IsLeast (Convicts v linked n) a b → IsLeast (Hits (Exposes v linked) n) a b
 least-ends {v} {linked} {n} {a} {b} m =
     let c = m.holds in
@@ -88,10 +90,10 @@ least-ends {v} {linked} {n} {a} {b} m =
     }
 
 -- and where no clean run has ends that contradict, no run convicts
-pub no_run : {v : ℕ → Verdict} {linked : ℕ → Bool} {n : ℕ} → ((a b : ℕ) → Hits (Exposes v linked) n a b → ⊥)
+pub no_run : {v : ℕ → Result Window Refusal} {linked : ℕ → Bool} {n : ℕ} → ((a b : ℕ) → Hits (Exposes v linked) n a b → ⊥)
     → (a b : ℕ) → Convicts v linked n a b → ⊥
 no_run {v} {linked} {n} none a b c = none c.i c.j (exposing v linked n a b c)
 
 -- the search, once it knows the first start of a run that is d long
-pub along : {Q : ℕ → ℕ → Type 0} {n d i : ℕ} → Passed Q n d 0 → FirstStart Q n d i → Passed Q n d i
-along p f = record { some = p.some; apart = p.apart; row = f.passed }
+pub along : {Q : ℕ → ℕ → Type 0} {n d i : ℕ} → Passed Q n d 0 → ((k : ℕ) → k < i → Q k (k + d) → ⊥) → Passed Q n d i
+along p f = record { some = p.some; apart = p.apart; row = f }

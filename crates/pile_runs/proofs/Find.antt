@@ -1,4 +1,7 @@
 -- There is one answer and no other. A search that antt can compute shows that there is one.
+use Rattle.check_response.specs.declared.Window.{Window}
+use Rattle.refusal.specs.declared.Refusal.{Refusal}
+use Rattle.std.specs.Prelude.{None, Option, Result, Some}
 use mathlib.Core.Path.{◌≡◌, refl, sym, subst, ap₂}
 use mathlib.Core.Bool.{Bool, true, false, ◌&&◌}
 use Prim.Native.Nat.{ℕ, zero, suc, ◌+◌, ◌-◌, ◌≤◌, ◌<◌}
@@ -8,73 +11,70 @@ use lib.Dec.{T, eqb}
 use mir.Facts.{and_yes, yes_and}
 use Rattle.laws.specs.Pairs.{IsLeast, Hits}
 use Rattle.pile_runs.proofs.Passed.{Passed, begin, step, next, found, nothing}
-use Rattle.check_response.specs.declared.Verdict.{Verdict}
 use Rattle.pile_runs.specs.Clash.{valid, contradicting}
-use Rattle.pile_runs.specs.Spans.{Answers, Some, span_number}
+use Rattle.pile_runs.specs.Spans.{Answers, SomePair, span_number}
 use Rattle.pile_runs.specs.Told.{Tells}
 use Rattle.pile_runs.specs.Convict.{Clean, Convicts}
 use Rattle.pile_runs.specs.Searched.{Exposes}
-use Rattle.pile_runs.specs.declared.Span.{Span}
-use Rattle.pile_runs.specs.declared.Span.TheVariants.{Places, Nothing}
 use Rattle.pile_runs.proofs.ByEnds.{clean-one, clean-more, clean-part, least-run, no_run}
 
 -- One answer at most, for any relation that holds only of pairs in order.
-pub once : (P : ℕ → ℕ → Type 0) → ((i j : ℕ) → P i j → i ≤ j) → (r s : Span) → Answers P r → Answers P s → r ≡ s
-once P ordered (Places a b) (Places c d) m n =
+pub once : (P : ℕ → ℕ → Type 0) → ((i j : ℕ) → P i j → i ≤ j) → (r s : Option (ℕ × ℕ)) → Answers P r → Answers P s → r ≡ s
+once P ordered (Some (a, b)) (Some (c, d)) m n =
     let p = ordered a b m.holds in
     let q = ordered c d n.holds in
     let u = m.shortest c d n.holds in
     let v = n.shortest a b m.holds in
     let x = m.first c d n.holds (omega arith) in
     let y = n.first a b m.holds (omega arith) in
-    ap₂ Places (omega arith) (omega arith)
-once P ordered (Places a b) Nothing m n = absurd (n a b m.holds)
-once P ordered Nothing (Places c d) m n = absurd (m c d n.holds)
-once P ordered Nothing Nothing m n = refl
+    ap₂ (λ (x y : ℕ). Some (x, y)) (omega arith) (omega arith)
+once P ordered (Some (a, b)) None m n = absurd (n a b m.holds)
+once P ordered None (Some (c, d)) m n = absurd (m c d n.holds)
+once P ordered None None m n = refl
 
 -- An answer has document 01's number 0 exactly where P holds of some two places: both clauses of the search.
-pub both-clauses : (P : ℕ → ℕ → Type 0) (r : Span) → Answers P r → Tells (eqb (span_number r) 0) (Some P) × Answers P r
-both-clauses P (Places a b) m = (record { a = a; b = b; holds = m.holds }, m)
-both-clauses P Nothing m = (λ h. m h.a h.b h.holds, m)
+pub both-clauses : (P : ℕ → ℕ → Type 0) (r : Option (ℕ × ℕ)) → Answers P r → Tells (eqb (span_number r) 0) (SomePair P) × Answers P r
+both-clauses P (Some (a, b)) m = (record { a = a; b = b; holds = m.holds }, m)
+both-clauses P None m = (λ h. m h.a h.b h.holds, m)
 
 -- one of two answers, by a flag
-abbrev pub pick : Bool → Span → Span → Span
+abbrev pub pick : Bool → Option (ℕ × ℕ) → Option (ℕ × ℕ) → Option (ℕ × ℕ)
 pick true a b = a
 pick false a b = b
 
 -- an answer, and where it is nothing, another
-abbrev pub or_else : Span → Span → Span
-or_else (Places a b) s = Places a b
-or_else Nothing s = s
+abbrev pub or_else : Option (ℕ × ℕ) → Option (ℕ × ℕ) → Option (ℕ × ℕ)
+or_else (Some (a, b)) s = Some (a, b)
+or_else None s = s
 
 -- The first pair that passes a test h, by distance and then by start: among the f pairs that are d apart and start at
 -- i, i + 1 and so on,
-abbrev pub row : (ℕ → ℕ → Bool) → ℕ → ℕ → ℕ → Span
-row h d zero i = Nothing
-row h d (suc f) i = pick (h i (i + d)) (Places i (i + d)) (row h d f (i + 1))
+abbrev pub row : (ℕ → ℕ → Bool) → ℕ → ℕ → ℕ → Option (ℕ × ℕ)
+row h d zero i = None
+row h d (suc f) i = pick (h i (i + d)) (Some (i, (i + d))) (row h d f (i + 1))
 
 -- among the pairs below n that lie d apart, d + 1 and so on, f distances in all,
-abbrev pub rows : (ℕ → ℕ → Bool) → ℕ → ℕ → ℕ → Span
-rows h n zero d = Nothing
+abbrev pub rows : (ℕ → ℕ → Bool) → ℕ → ℕ → ℕ → Option (ℕ × ℕ)
+rows h n zero d = None
 rows h n (suc f) d = or_else (row h d (n - d) 0) (rows h n f (d + 1))
 
 -- and among all pairs below n
-abbrev pub least_of : (ℕ → ℕ → Bool) → ℕ → Span
+abbrev pub least_of : (ℕ → ℕ → Bool) → ℕ → Option (ℕ × ℕ)
 least_of h n = rows h n n 1
 
 -- What the search finds, where h tests Q.
 module _ (Q : ℕ → ℕ → Type 0) (h : ℕ → ℕ → Bool) (n : ℕ)
     (sound : (i j : ℕ) → i < j → T (h i j) → Q i j) (whole : (i j : ℕ) → i < j → Q i j → T (h i j)) where
-  abbrev RowSays : ℕ → Span → Type 0
-  RowSays d (Places a b) = IsLeast (Hits Q n) a b
-  RowSays d Nothing = Passed Q n d (n - d)
+  abbrev RowSays : ℕ → Option (ℕ × ℕ) → Type 0
+  RowSays d (Some (a, b)) = IsLeast (Hits Q n) a b
+  RowSays d None = Passed Q n d (n - d)
 
   row-says : (d f i : ℕ) → Passed Q n d i → i + f ≡ n - d → RowSays d (row h d f i)
   row-says d zero i p e = subst (λ (k : ℕ). Passed Q n d k) (omega arith) p
   row-says d (suc f) i p e = go (λ q. row-says d f (i + 1) q (omega arith)) (h i (i + d)) refl
     where
       go : (Passed Q n d (i + 1) → RowSays d (row h d f (i + 1))) → (b : Bool) → h i (i + d) ≡ b
-          → RowSays d (pick b (Places i (i + d)) (row h d f (i + 1)))
+          → RowSays d (pick b (Some (i, (i + d))) (row h d f (i + 1)))
       go more true t = found p (omega arith) (sound i (i + d) (omega (arith, p.some)) (subst T (sym t) tt))
       go more false t = more (step p (λ q. subst T t (whole i (i + d) (omega (arith, p.some)) q)))
 
@@ -83,28 +83,28 @@ module _ (Q : ℕ → ℕ → Type 0) (h : ℕ → ℕ → Bool) (n : ℕ)
   rows-say (suc f) d p l =
       go (λ q. rows-say f (d + 1) q (omega arith)) (row h d (n - d) 0) (row-says d (n - d) 0 p (omega arith))
     where
-      go : (Passed Q n (d + 1) 0 → Answers (Hits Q n) (rows h n f (d + 1))) → (s : Span) → RowSays d s
+      go : (Passed Q n (d + 1) 0 → Answers (Hits Q n) (rows h n f (d + 1))) → (s : Option (ℕ × ℕ)) → RowSays d s
           → Answers (Hits Q n) (or_else s (rows h n f (d + 1)))
-      go more (Places x y) m = m
-      go more Nothing p' = more (next p' (omega arith))
+      go more (Some (x, y)) m = m
+      go more None p' = more (next p' (omega arith))
 
   pub least-says : Answers (Hits Q n) (least_of h n)
   least-says = rows-say n 1 begin (omega arith)
 
 -- The run that the cutter finds, computed. The run of record a and the d records after it is clean:
-abbrev pub clean_test : (ℕ → Verdict) → (ℕ → Bool) → ℕ → ℕ → Bool
+abbrev pub clean_test : (ℕ → Result Window Refusal) → (ℕ → Bool) → ℕ → ℕ → Bool
 clean_test v l a zero = valid (v a)
 clean_test v l a (suc d) = clean_test v l a d && (valid (v (a + d + 1)) && l (a + d + 1))
 
 -- the run from i to j is clean and its ends contradict:
-abbrev pub exposes_test : (ℕ → Verdict) → (ℕ → Bool) → ℕ → ℕ → Bool
+abbrev pub exposes_test : (ℕ → Result Window Refusal) → (ℕ → Bool) → ℕ → ℕ → Bool
 exposes_test v l i j = clean_test v l i (j - i) && contradicting (v i) (v j)
 
 -- so this is the run
-abbrev pub run_of : (ℕ → Verdict) → (ℕ → Bool) → ℕ → Span
+abbrev pub run_of : (ℕ → Result Window Refusal) → (ℕ → Bool) → ℕ → Option (ℕ × ℕ)
 run_of v l n = least_of (exposes_test v l) n
 
-module _ (v : ℕ → Verdict) (l : ℕ → Bool) where
+module _ (v : ℕ → Result Window Refusal) (l : ℕ → Bool) where
   clean-sound : (a d : ℕ) → T (clean_test v l a d) → Clean v l a (a + d)
   clean-sound a zero t = subst (λ (k : ℕ). Clean v l a k) (sym (add-zero a)) (clean-one v l a t)
   clean-sound a (suc d) t =
@@ -133,14 +133,14 @@ module _ (v : ℕ → Verdict) (l : ℕ → Bool) where
       yes_and (clean_test v l i (j - i)) (contradicting (v i) (v j))
       (clean-whole i (j - i) (subst (λ (k : ℕ). Clean v l i k) e x.clean)) x.clash
 
-  run-says : (n : ℕ) (s : Span) → Answers (Hits (Exposes v l) n) s → Answers (Convicts v l n) s
-  run-says n (Places a b) m = least-run m
-  run-says n Nothing m = no_run m
+  run-says : (n : ℕ) (s : Option (ℕ × ℕ)) → Answers (Hits (Exposes v l) n) s → Answers (Convicts v l n) s
+  run-says n (Some (a, b)) m = least-run m
+  run-says n None m = no_run m
 
   -- there is an answer, and `run_of` computes it
   pub run-exists : (n : ℕ) → Answers (Convicts v l n) (run_of v l n)
   run-exists n = run-says n (run_of v l n) (least-says (Exposes v l) (exposes_test v l) n exposes-sound exposes-whole)
 
   -- any two are the same
-  pub run_settled : (n : ℕ) (r s : Span) → Answers (Convicts v l n) r → Answers (Convicts v l n) s → r ≡ s
+  pub run_settled : (n : ℕ) (r s : Option (ℕ × ℕ)) → Answers (Convicts v l n) r → Answers (Convicts v l n) s → r ≡ s
   run_settled n = once (Convicts v l n) (λ a b c. omega (arith, c.from, c.order, c.to))

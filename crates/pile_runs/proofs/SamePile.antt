@@ -1,5 +1,6 @@
 -- An answer moved to another relation that holds of the same pairs, and so from the arrays that hold verdicts and flags
 -- to the pile that they are of.
+use Rattle.std.specs.Prelude.{Err, None, Ok, Option, Result, Some}
 use mathlib.Core.Path.{◌≡◌, refl, sym, subst, ap, ◌∙◌}
 use mathlib.Core.Bool.{Bool}
 use mathlib.Core.Logic.{◌↔◌}
@@ -8,15 +9,11 @@ use native.Mathlib.Omega.{arith}
 use lib.Dec.{T}
 use Rattle.laws.specs.Pairs.{IsLeast}
 use Rattle.refusal.specs.declared.Refusal.{Refusal}
-use Rattle.check_response.specs.declared.Verdict.{Verdict}
-use Rattle.check_response.specs.declared.Verdict.TheVariants.{Valid, Refused}
 use Rattle.check_response.specs.declared.Window.{Window}
 use Rattle.pile_runs.specs.Alike.{Alike}
 use Rattle.pile_runs.specs.Clash.{valid, contradicting}
 use Rattle.pile_runs.specs.Spans.{Answers}
 use Rattle.pile_runs.specs.Convict.{Convicts}
-use Rattle.pile_runs.specs.declared.Span.{Span}
-use Rattle.pile_runs.specs.declared.Span.TheVariants.{Places, Nothing}
 use Rattle.pile_runs.proofs.Find.{run_settled}
 
 -- relations that hold of the same pairs have the same least pair,
@@ -28,55 +25,55 @@ same-least {P} {Q} {a} {b} f m = record {
 }
 
 -- and the same answer
-pub same_span : (P Q : ℕ → ℕ → Type 0) → ((i j : ℕ) → P i j ↔ Q i j) → (r : Span) → Answers P r → Answers Q r
-same_span P Q f (Places a b) m = same-least f m
-same_span P Q f Nothing m = λ i j q. m i j ((f i j).1 q)
+pub same_span : (P Q : ℕ → ℕ → Type 0) → ((i j : ℕ) → P i j ↔ Q i j) → (r : Option (ℕ × ℕ)) → Answers P r → Answers Q r
+same_span P Q f (Some (a, b)) m = same-least f m
+same_span P Q f None m = λ i j q. m i j ((f i j).1 q)
 
 -- ---- verdicts that differ in MINT and MAXT at the most
 
-pub alike_refl : (v : Verdict) → Alike v v
-alike_refl (Valid a) = (refl, refl)
-alike_refl (Refused x) = refl
+pub alike_refl : (v : Result Window Refusal) → Alike v v
+alike_refl (Ok a) = (refl, refl)
+alike_refl (Err x) = refl
 
-pub alike_same : {v w : Verdict} → v ≡ w → Alike v w
-alike_same {v} {w} e = subst (λ (x : Verdict). Alike v x) e (alike_refl v)
+pub alike_same : {v w : Result Window Refusal} → v ≡ w → Alike v w
+alike_same {v} {w} e = subst (λ (x : Result Window Refusal). Alike v x) e (alike_refl v)
 
-pub alike-sym : (v w : Verdict) → Alike v w → Alike w v
-alike-sym (Valid a) (Valid b) e = (sym e.0, sym e.1)
-alike-sym (Refused x) (Refused y) e = sym e
-alike-sym (Valid a) (Refused y) e = e
-alike-sym (Refused x) (Valid b) e = e
+pub alike-sym : (v w : Result Window Refusal) → Alike v w → Alike w v
+alike-sym (Ok a) (Ok b) e = (sym e.0, sym e.1)
+alike-sym (Err x) (Err y) e = sym e
+alike-sym (Ok a) (Err y) e = e
+alike-sym (Err x) (Ok b) e = e
 
 -- a window is no refusal
-valid-no-refusal : {a : Window} {x : Refusal} → Valid a ≡ Refused x → ⊥
-valid-no-refusal {a} {x} e = subst (λ (v : Verdict). T (valid v)) e tt
+valid-no-refusal : {a : Window} {x : Refusal} → Ok a ≡ Err x → ⊥
+valid-no-refusal {a} {x} e = subst (λ (v : Result Window Refusal). T (valid v)) e tt
 
 -- both are valid, or none is; a refusal is the same one;
-pub alike-valid : (v w : Verdict) → Alike v w → valid v ≡ valid w
-alike-valid (Valid a) (Valid b) e = refl
-alike-valid (Refused x) (Refused y) e = refl
-alike-valid (Valid a) (Refused y) e = absurd e
-alike-valid (Refused x) (Valid b) e = absurd e
+pub alike-valid : (v w : Result Window Refusal) → Alike v w → valid v ≡ valid w
+alike-valid (Ok a) (Ok b) e = refl
+alike-valid (Err x) (Err y) e = refl
+alike-valid (Ok a) (Err y) e = absurd e
+alike-valid (Err x) (Ok b) e = absurd e
 
-pub alike-refused : (v w : Verdict) (x : Refusal) → Alike v w → v ≡ Refused x → w ≡ Refused x
-alike-refused (Valid a) (Valid b) x e f = absurd (valid-no-refusal f)
-alike-refused (Refused y) (Refused z) x e f = sym (ap Refused e) ∙ f
-alike-refused (Valid a) (Refused z) x e f = absurd e
-alike-refused (Refused y) (Valid b) x e f = absurd e
+pub alike-refused : (v w : Result Window Refusal) (x : Refusal) → Alike v w → v ≡ Err x → w ≡ Err x
+alike-refused (Ok a) (Ok b) x e f = absurd (valid-no-refusal f)
+alike-refused (Err y) (Err z) x e f = sym (ap Err e) ∙ f
+alike-refused (Ok a) (Err z) x e f = absurd e
+alike-refused (Err y) (Ok b) x e f = absurd e
 
 -- and they contradict the same ones
-pub alike-contradicting : (v w x y : Verdict) → Alike v w → Alike x y → contradicting v x ≡ contradicting w y
-alike-contradicting (Valid a) (Valid b) (Valid c) (Valid d) e f = rw (e.0, e.1, f.0, f.1)
-alike-contradicting (Valid a) (Valid b) (Refused c) (Refused d) e f = refl
-alike-contradicting (Refused a) (Refused b) x y e f = refl
-alike-contradicting (Valid a) (Valid b) (Valid c) (Refused d) e f = absurd f
-alike-contradicting (Valid a) (Valid b) (Refused c) (Valid d) e f = absurd f
-alike-contradicting (Valid a) (Refused b) x y e f = absurd e
-alike-contradicting (Refused a) (Valid b) x y e f = absurd e
+pub alike-contradicting : (v w x y : Result Window Refusal) → Alike v w → Alike x y → contradicting v x ≡ contradicting w y
+alike-contradicting (Ok a) (Ok b) (Ok c) (Ok d) e f = rw (e.0, e.1, f.0, f.1)
+alike-contradicting (Ok a) (Ok b) (Err c) (Err d) e f = refl
+alike-contradicting (Err a) (Err b) x y e f = refl
+alike-contradicting (Ok a) (Ok b) (Ok c) (Err d) e f = absurd f
+alike-contradicting (Ok a) (Ok b) (Err c) (Ok d) e f = absurd f
+alike-contradicting (Ok a) (Err b) x y e f = absurd e
+alike-contradicting (Err a) (Ok b) x y e f = absurd e
 
 -- Two piles of n records with such verdicts. The flag of record 0 plays no part: no run asks whether its first record
 -- is linked.
-module _ (v w : ℕ → Verdict) (l k : ℕ → Bool) (n : ℕ) where
+module _ (v w : ℕ → Result Window Refusal) (l k : ℕ → Bool) (n : ℕ) where
   -- a run that convicts in the one convicts in the other,
   pub still : ((i : ℕ) → i < n → Alike (v i) (w i)) → ((i : ℕ) → 0 < i → i < n → l i ≡ k i) → (a b : ℕ)
       → Convicts v l n a b → Convicts w k n a b
@@ -100,8 +97,8 @@ module _ (v w : ℕ → Verdict) (l k : ℕ → Bool) (n : ℕ) where
   }
 
 -- and so both have the same answer,
-pub alike-answer : (v w : ℕ → Verdict) (l k : ℕ → Bool) (n : ℕ) → ((i : ℕ) → i < n → Alike (v i) (w i))
-    → ((i : ℕ) → 0 < i → i < n → l i ≡ k i) → (r : Span) → Answers (Convicts v l n) r → Answers (Convicts w k n) r
+pub alike-answer : (v w : ℕ → Result Window Refusal) (l k : ℕ → Bool) (n : ℕ) → ((i : ℕ) → i < n → Alike (v i) (w i))
+    → ((i : ℕ) → 0 < i → i < n → l i ≡ k i) → (r : Option (ℕ × ℕ)) → Answers (Convicts v l n) r → Answers (Convicts w k n) r
 alike-answer v w l k n e f =
     same_span (Convicts v l n) (Convicts w k n)
     (λ a b. (
@@ -110,13 +107,13 @@ alike-answer v w l k n e f =
     ))
 
 -- as they have where the verdicts are the same
-pub same_answer : (v w : ℕ → Verdict) (l k : ℕ → Bool) (n : ℕ) → ((i : ℕ) → i < n → v i ≡ w i)
-    → ((i : ℕ) → 0 < i → i < n → l i ≡ k i) → (r : Span) → Answers (Convicts v l n) r → Answers (Convicts w k n) r
+pub same_answer : (v w : ℕ → Result Window Refusal) (l k : ℕ → Bool) (n : ℕ) → ((i : ℕ) → i < n → v i ≡ w i)
+    → ((i : ℕ) → 0 < i → i < n → l i ≡ k i) → (r : Option (ℕ × ℕ)) → Answers (Convicts v l n) r → Answers (Convicts w k n) r
 same_answer v w l k n e f = alike-answer v w l k n (λ i u. alike_same (e i u)) f
 
 -- No run asks whether a record is linked where that record or the one before it is refused: flags that agree on the
 -- others give the same runs,
-still-linked : (v : ℕ → Verdict) (l k : ℕ → Bool) (n : ℕ)
+still-linked : (v : ℕ → Result Window Refusal) (l k : ℕ → Bool) (n : ℕ)
     → ((i : ℕ) → 0 < i → i < n → T (valid (v (i - 1))) → T (valid (v i)) → l i ≡ k i) → (a b : ℕ)
     → Convicts v l n a b → Convicts v k n a b
 still-linked v l k n f a b c =
@@ -140,8 +137,8 @@ still-linked v l k n f a b c =
     }
 
 -- and the same answer
-pub linked-answer : (v : ℕ → Verdict) (l k : ℕ → Bool) (n : ℕ)
-    → ((i : ℕ) → 0 < i → i < n → T (valid (v (i - 1))) → T (valid (v i)) → l i ≡ k i) → (r : Span)
+pub linked-answer : (v : ℕ → Result Window Refusal) (l k : ℕ → Bool) (n : ℕ)
+    → ((i : ℕ) → 0 < i → i < n → T (valid (v (i - 1))) → T (valid (v i)) → l i ≡ k i) → (r : Option (ℕ × ℕ))
     → Answers (Convicts v l n) r → Answers (Convicts v k n) r
 linked-answer v l k n f =
     same_span (Convicts v l n) (Convicts v k n)
@@ -149,7 +146,7 @@ linked-answer v l k n f =
 
 -- Demand 3 does not read MINT and MAXT (request P9): of two piles of which the verdicts differ in these at the most,
 -- and the links in nothing, the run is the same. The key stands in no verdict.
-pub same-run : (v w : ℕ → Verdict) (l k : ℕ → Bool) (n : ℕ) → ((i : ℕ) → i < n → Alike (v i) (w i))
+pub same-run : (v w : ℕ → Result Window Refusal) (l k : ℕ → Bool) (n : ℕ) → ((i : ℕ) → i < n → Alike (v i) (w i))
     → ((i : ℕ) → 0 < i → i < n → l i ≡ k i)
-    → (r s : Span) → Answers (Convicts v l n) r → Answers (Convicts w k n) s → r ≡ s
+    → (r s : Option (ℕ × ℕ)) → Answers (Convicts v l n) r → Answers (Convicts w k n) s → r ≡ s
 same-run v w l k n e f r s p q = run_settled w k n r s (alike-answer v w l k n e f r p) q

@@ -1,6 +1,6 @@
 // What was said of the time twice, and two verdicts, compared.
 ghost use Rattle.std.specs.Prelude.{◌≡◌};
-ghost use Rattle.pile_runs.specs.Clash.{clash, valid, contradicting};
+ghost use Rattle.pile_runs.specs.Clash.{clash, contradicting};
 
 use check_response::Verdict;
 
@@ -22,21 +22,8 @@ pub fn contradicts(midp: u64, radi: u32, later_midp: u64, later_radi: u32) -> bo
 pub fn both_contradict(v: Verdict, w: Verdict) -> bool
     ensures { result ≡ contradicting v w }
 {
-    match v {
-        Verdict::Valid(a) => match w {
-            Verdict::Valid(b) => contradicts(a.midp, a.radi, b.midp, b.radi),
-            Verdict::Refused(_) => false,
-        },
-        Verdict::Refused(_) => false,
-    }
-}
-
-// Whether the record is valid.
-pub fn is_valid(v: Verdict) -> bool
-    ensures { result ≡ valid v }
-{
-    match v {
-        Verdict::Valid(_) => true,
-        Verdict::Refused(_) => false,
+    match (v, w) {
+        (Ok(a), Ok(b)) => contradicts(a.midp, a.radi, b.midp, b.radi),
+        _ => false,
     }
 }

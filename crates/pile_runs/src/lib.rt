@@ -6,12 +6,14 @@ mod compare;
 mod inspect;
 mod search;
 
-pub use compare::{contradicts, is_valid};
-pub use search::{capped, shortest_run};
+use check_response::Verdict;
+pub use compare::contradicts;
 
-// The places of the first and the last record of what is sought, or that there is none.
+// What is known of the first n records of a pile, and of no more than 16. It is two arrays and no array of pairs, since
+// the links are sought only when all verdicts are there, and the definitions read each by itself.
 #[derive(Clone, Copy)]
-pub enum Span {
-    Places(usize, usize),
-    Nothing,
+pub struct Known {
+    pub verdicts: [Verdict; 16],
+    pub linked: [bool; 16],
+    pub n: usize,
 }

@@ -1,5 +1,7 @@
 -- With the answers of our own Ed25519 a record is valid, and a pile a report, exactly where document 01's sentence
 -- holds with "verifies under the key" for a yes.
+use Rattle.refusal.specs.declared.Refusal.{Refusal}
+use Rattle.std.specs.Prelude.{Ok, Result}
 use mathlib.Core.Path.{◌≡◌, sym, ◌∙◌}
 use mathlib.Core.List.{List}
 use mathlib.Core.Logic.{◌↔◌}
@@ -11,9 +13,7 @@ use Rattle.pile.specs.Valid.{window_at, judgement_of}
 use Rattle.pile.proofs.Exactly.{valid-exactly}
 use Rattle.pile_report.specs.Meaning.{IsReport, Accepts}
 use Rattle.pile_report.specs.Report.{Reports}
-use Rattle.pile_report.specs.declared.Report.{Report}
 use Rattle.pile_report.proofs.Exactly.{report-exactly}
-use Rattle.check_response.specs.declared.Verdict.TheVariants.{Valid}
 use Rattle.pile_signed.specs.OwnAnswers.{own_answers}
 use Rattle.pile_signed.specs.Meaning.{SignedRecord, IsSignedReport}
 use Rattle.pile_signed.proofs.Own.{said-delegated, said-responded, own-good}
@@ -51,7 +51,7 @@ module _ (pile : List ℕ) where
 
     -- and so it is judged valid, of a pile of bytes, exactly where that sentence holds
     pub judged-alone : Bytes pile
-        → (judgement_of pile (own_answers pile) k).verdict ≡ Valid (window_at pile k) ↔ SignedRecord pile k
+        → (judgement_of pile (own_answers pile) k).verdict ≡ Ok (window_at pile k) ↔ SignedRecord pile k
     judged-alone bytes =
         let e = valid-exactly pile (own_answers pile) k bytes in
         (λ v. valid-alone.0 (e.0 v), λ s. e.1 (valid-alone.1 s))
@@ -84,7 +84,7 @@ module _ (pile : List ℕ) where
   )
 
   -- so the check of a pile of bytes names a pair exactly where it is a report with nothing beside it
-  pub named-alone : Bytes pile → (r : Report) → Reports pile (own_answers pile) r → Accepts r ↔ IsSignedReport pile
+  pub named-alone : Bytes pile → (r : Result (ℕ × ℕ) (Refusal × ℕ)) → Reports pile (own_answers pile) r → Accepts r ↔ IsSignedReport pile
   named-alone bytes r s =
       let e = report-exactly pile (own_answers pile) bytes r s in
       (λ a. report-alone.0 (e.0 a), λ d. e.1 (report-alone.1 d))

@@ -1,5 +1,7 @@
 -- The answers of a run that is cut out are those of its records in the pile, since the rand, which alone is changed,
 -- plays no part in them. So what is cut out stands by itself, with no answers beside it.
+use Rattle.refusal.specs.declared.Refusal.{Refusal}
+use Rattle.std.specs.Prelude.{Err, Ok, Result}
 use mathlib.Core.Path.{◌≡◌, sym, subst, ap, ap₂, ◌∙◌}
 use mathlib.Core.List.{List}
 use mathlib.Core.Logic.{◌↔◌}
@@ -19,9 +21,6 @@ use Rattle.refusal.specs.Refusal.{refusal}
 use Rattle.pile_report.specs.Meaning.{IsReport, ReportIn}
 use Rattle.pile_report.specs.Report.{Reports}
 use Rattle.pile_report.specs.Taking.{Takes, run_bytes, run_answers}
-use Rattle.pile_report.specs.declared.Report.{Report}
-use Rattle.pile_report.specs.declared.Report.TheVariants.{Pair}
-use Rattle.pile_report.specs.declared.Taken.TheVariants.{Run, Refused}
 use Rattle.pile_report.proofs.Behind.{same-response}
 use Rattle.pile_report.proofs.CutBytes.{RunIn, count-run, record-first, record-later, record-alike}
 use Rattle.pile_report.proofs.CutReports.{taken-exactly, none-exactly}
@@ -112,7 +111,7 @@ module _ (pile : List ℕ) (whole : WholePile pile) (bytes : Bytes pile) where
   -- With a buffer that has room for the pile, the cutter
   module _ (room : ℕ) (fits : length pile ≤ room) where
     -- takes a run exactly where it is the shortest part of the pile that is a report by itself, the first among equals,
-    pub taken-alone : (i j : ℕ) → Takes pile (own_answers pile) room (Run i j) ↔ IsLeast (SignedReportIn pile) i j
+    pub taken-alone : (i j : ℕ) → Takes pile (own_answers pile) room (Ok (i, j)) ↔ IsLeast (SignedReportIn pile) i j
     taken-alone i j =
         let t = taken-exactly pile (own_answers pile) (own-good pile whole) bytes room fits i j in (
           λ a. same-least part-alone (t.0 a),
@@ -120,7 +119,7 @@ module _ (pile : List ℕ) (whole : WholePile pile) (bytes : Bytes pile) where
         )
 
     -- and none exactly where no part of the pile is one
-    pub none-alone : Takes pile (own_answers pile) room (Refused (refusal 18)) ↔ ((i j : ℕ) → SignedReportIn pile i j → ⊥)
+    pub none-alone : Takes pile (own_answers pile) room (Err (refusal 18)) ↔ ((i j : ℕ) → SignedReportIn pile i j → ⊥)
     none-alone =
         let t = none-exactly pile (own_answers pile) (own-good pile whole) bytes room fits in (
           λ a i j p. t.0 a i j ((part-alone i j).1 p),
@@ -129,7 +128,7 @@ module _ (pile : List ℕ) (whole : WholePile pile) (bytes : Bytes pile) where
 
 -- Where the cutter takes a run out of a pile, which is bytes:
 module _
-    (pile : List ℕ) (bytes : Bytes pile) (room i j : ℕ) (t : Takes pile (own_answers pile) room (Run i j)) where
+    (pile : List ℕ) (bytes : Bytes pile) (room i j : ℕ) (t : Takes pile (own_answers pile) room (Ok (i, j))) where
   its_own : own_answers (run_bytes i j pile) ≡ run_answers i j (own_answers pile)
   its_own = own-run (taken-run pile (own_answers pile) bytes room i j t)
 
@@ -141,7 +140,7 @@ module _
       (cut-is-report pile (own_answers pile) bytes room i j t))
 
   -- and the check of it names its first and its last record;
-  pub stands-alone : (r : Report) → Reports (run_bytes i j pile) (own_answers (run_bytes i j pile)) r → r ≡ Pair 0 (j - i)
+  pub stands-alone : (r : Result (ℕ × ℕ) (Refusal × ℕ)) → Reports (run_bytes i j pile) (own_answers (run_bytes i j pile)) r → r ≡ Ok (0, (j - i))
   stands-alone r s =
       cut_stands pile (own_answers pile) bytes room i j t r
       (subst (λ (a : List ℕ). Reports (run_bytes i j pile) a r) its_own s)
@@ -151,10 +150,10 @@ module _
   front-alone out = subst IsSignedReport (sym (cut-front pile (own_answers pile) bytes room i j t out)) cut-alone
 
   -- and the check of these answers the same
-  pub front-stands-alone : (out : List ℕ) (r : Report)
+  pub front-stands-alone : (out : List ℕ) (r : Result (ℕ × ℕ) (Refusal × ℕ))
       → Reports (take (4096 * (j - i + 1)) (written 0 (run_bytes i j pile) out))
       (own_answers (take (4096 * (j - i + 1)) (written 0 (run_bytes i j pile) out))) r
-      → r ≡ Pair 0 (j - i)
+      → r ≡ Ok (0, (j - i))
   front-stands-alone out r s =
       stands-alone r
       (subst (λ (l : List ℕ). Reports l (own_answers l) r) (cut-front pile (own_answers pile) bytes room i j t out) s)

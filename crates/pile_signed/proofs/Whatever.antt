@@ -1,5 +1,7 @@
 -- A refusal of a record that is not 12 or 13 is told whatever the signatures are, with 16 before what is told of the
 -- response.
+use Rattle.check_response.specs.declared.Window.{Window}
+use Rattle.std.specs.Prelude.{Result}
 use Prim.Native.Nat.{ℕ}
 use mathlib.Core.Path.{◌≡◌, refl, sym, ap, ap₂, ◌∙◌}
 use mathlib.Core.Bool.{Bool, true, false}
@@ -10,7 +12,6 @@ use Rattle.refusal.specs.declared.Refusal.{Refusal}
 use Rattle.pile.specs.Pile.{request_packet, response_packet}
 use Rattle.pile.specs.Valid.{record_bad, record_code, record_verdict, record_checked}
 use Rattle.check_response.specs.Check.{check_code, window_in, pubk_in, verdict_by, key_by}
-use Rattle.check_response.specs.declared.Verdict.{Verdict}
 use Rattle.wire_packet.specs.Packet.{body}
 use Rattle.check_signatures.proofs.Passing.{code-whatever}
 
@@ -19,7 +20,7 @@ same-record : (r : List ℕ) (d s e t : Bool) → record_code r e t ≡ record_c
 unfolding record_verdict
 same-record r d s e t m =
     let p = response_packet r in
-    ap₂ (λ (v : Verdict) (key : List ℕ). record { verdict = v; pubk = key })
+    ap₂ (λ (v : Result Window Refusal) (key : List ℕ). record { verdict = v; pubk = key })
     (ap (λ (w : Refusal). verdict_by w (window_in (body p))) m) (ap (λ (w : Refusal). key_by w (pubk_in (body p))) m)
 
 pub record-whatever : (r : List ℕ) (d s e t : Bool) → ((record_code r d s).code ≡ 0 → ⊥)

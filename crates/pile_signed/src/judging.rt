@@ -11,9 +11,7 @@ use check_response::Checked;
 use check_signatures::check_signed;
 use octets::copy32;
 use pile::layout::KEY;
-use pile::{
-    Judgement, RECORD, judged, length_bad, record_at, record_bad, refused, request_of, response_of,
-};
+use pile::{Judgement, RECORD, RecordBytes, judged, length_bad, record_at, refused};
 use refusal::codes;
 
 // Judges record k. Where there is none, or the pile is bad, the refusal is 15.
@@ -43,18 +41,18 @@ pub fn checked_at(pile: &[u8], k: usize) -> Checked
     requires { RECORD * k + RECORD ≤ length pile.now }
     ensures { result ≡ checked_at pile.now (own_answers pile.now) k }
 {
-    checked_on(record_at(pile, k))
+    let r = record_at(pile, k);
+    checked_on(&r)
 }
 
 // What is said of a record: 16 before the response is looked at.
-fn checked_on(r: &[u8]) -> Checked
-    requires { length r.now ≡ RECORD }
+fn checked_on(r: &RecordBytes<'_>) -> Checked
     ensures { result
-        ≡ record_checked r.now (delegated (key_in r.now) (response_packet r.now))
-        (responded (response_packet r.now)) }
+        ≡ record_checked r.now.bytes.now (delegated (key_in r.now.bytes.now) (response_packet r.now.bytes.now))
+        (responded (response_packet r.now.bytes.now)) }
 {
-    if record_bad(r) {
+    if r.is_bad() {
         return refused(codes::RECORD);
     }
-    check_signed(copy32(r, KEY), request_of(r), response_of(r))
+    check_signed(copy32(r.bytes, KEY), r.request(), r.response())
 }

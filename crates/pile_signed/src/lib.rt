@@ -5,7 +5,6 @@
 #![tactic(auto)]
 
 mod cutting;
-mod gathering;
 mod judging;
 mod listing;
 mod reporting;

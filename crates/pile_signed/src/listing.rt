@@ -12,28 +12,27 @@ ghost use Rattle.pile_signed.specs.OwnAnswers.{answer_byte, own_answers};
 use check_signatures::{Verified, answers};
 use octets::{copy32, put};
 use pile::layout::{AREA, KEY};
-use pile::{RECORD, length_bad, record_at, response_area, response_length, response_of};
-use refusal::{codes, refuse};
-use wire_request::Wrote;
+use pile::{RECORD, RecordBytes, length_bad, record_at};
+use refusal::{Refusal, codes, refuse};
 
 // Two bytes a record at the front of out, 1 for yes and 0 for no. It is refused with 15 where the pile is not 1 to 16
 // whole records, and then with 19 where out is too short.
-pub fn pile_answers(pile: &[u8], out: &mut [u8]) -> Wrote
+pub fn pile_answers(pile: &[u8], out: &mut [u8]) -> Result<usize, Refusal>
     ensures value { result
         ≡ answered (when (length_bad pile.now) 15) (own_answers pile.now) out.old }
     ensures out_after { out.new
         ≡ written (wrote_number result) (own_answers pile.now) out.old }
 {
     if length_bad(pile) {
-        return Wrote::Refused(refuse(codes::PILE));
+        return Err(refuse(codes::PILE));
     }
     let n = 2 * (pile.len() / RECORD);
     if out.len() < n {
-        return Wrote::Refused(refuse(codes::ROOM));
+        return Err(refuse(codes::ROOM));
     }
     let bytes = answer_bytes(pile);
     put(out, 0, &bytes[..n]);
-    Wrote::Done(n)
+    Ok(n)
 }
 
 // The answers of all records, and zeros behind them.
@@ -44,30 +43,29 @@ fn answer_bytes(pile: &[u8]) -> [u8; 32]
 {
     let mut bytes = [0u8; 32];
     let n = pile.len() / RECORD;
-    let mut k: usize = 0;
-    while k < n {
-        let a = answers_in(record_at(pile, k));
+    // A range: each turn takes one record, and writes two places.
+    for k in 0..n {
+        let r = record_at(pile, k);
+        let a = answers_in(&r);
         bytes[2 * k] = answer_byte(a.delegation);
         bytes[2 * k + 1] = answer_byte(a.signature);
-        k += 1;
     }
     bytes
 }
 
-// An answer as a byte: 1 for yes, 0 for no.
+// An answer as a byte: 1 for yes, 0 for no. It is what is told, and picks no step.
 pub fn answer_byte(answer: bool) -> u8
     ensures { result ≡ answer_byte answer }
 {
-    if answer { 1 } else { 0 }
+    u8::from(answer)
 }
 
 // The answers of a record, by its own key and its response. A length above 2,000 leaves the whole area as the response.
-fn answers_in(r: &[u8]) -> Verified
-    requires { length r.now ≡ RECORD }
-    ensures { result ≡ answers_of (key_in r.now) (response_packet r.now) }
+fn answers_in(r: &RecordBytes<'_>) -> Verified
+    ensures { result ≡ answers_of (key_in r.now.bytes.now) (response_packet r.now.bytes.now) }
 {
-    if AREA < response_length(r) {
-        return answers(copy32(r, KEY), response_area(r));
+    if AREA < r.response_length() {
+        return answers(copy32(r.bytes, KEY), r.response_area());
     }
-    answers(copy32(r, KEY), response_of(r))
+    answers(copy32(r.bytes, KEY), r.response())
 }

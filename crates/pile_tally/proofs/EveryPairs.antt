@@ -1,4 +1,7 @@
 -- The every-pair check says exactly whether there is a pair such as the report check names: `Contradiction`.
+use Rattle.check_response.specs.declared.Window.{Window}
+use Rattle.refusal.specs.declared.Refusal.{Refusal}
+use Rattle.std.specs.Prelude.{Result}
 use mathlib.Core.Path.{◌≡◌, ap₂}
 use mathlib.Core.Bool.{Bool, true}
 use mathlib.Core.Logic.{◌↔◌}
@@ -7,24 +10,23 @@ use native.Mathlib.Omega.{arith}
 use Rattle.laws.specs.Least.{least}
 use Rattle.laws.proofs.Holds.{holds-exactly}
 use Rattle.laws.proofs.Least.{somewhere-at, somewhere-here, somewhere-same}
-use Rattle.check_response.specs.declared.Verdict.{Verdict}
 use Rattle.pile_runs.specs.Clash.{contradicting}
 use Rattle.pile_runs.specs.Convict.{Contradiction}
-use Rattle.pile_runs.specs.Spans.{Some}
+use Rattle.pile_runs.specs.Spans.{SomePair}
 use Rattle.pile_tally.specs.EveryPair.{some_before, every_pair}
 
 -- it reads the first n records alone
-pub every-pair-same : (v w : ℕ → Verdict) (n : ℕ) → ((k : ℕ) → k < n → v k ≡ w k) → every_pair v n ≡ every_pair w n
+pub every-pair-same : (v w : ℕ → Result Window Refusal) (n : ℕ) → ((k : ℕ) → k < n → v k ≡ w k) → every_pair v n ≡ every_pair w n
 every-pair-same v w n h =
     somewhere-same (λ j. some_before v j (v j)) (λ j. some_before w j (w j)) n
     (λ j l. somewhere-same (λ i. contradicting (v i) (v j)) (λ i. contradicting (w i) (w j)) j
     (λ i m. ap₂ contradicting (h i (omega arith)) (h j l)))
 
-module _ (v : ℕ → Verdict) (n : ℕ) where
+module _ (v : ℕ → Result Window Refusal) (n : ℕ) where
   later : ℕ → Bool
   later j = some_before v j (v j)
 
-  to-pair : every_pair v n ≡ true → Some (Contradiction v n)
+  to-pair : every_pair v n ≡ true → SomePair (Contradiction v n)
   unfolding later
   to-pair e =
       let far = somewhere-at later n e in
@@ -37,7 +39,7 @@ module _ (v : ℕ → Verdict) (n : ℕ) where
       }
 
   -- yes, exactly where records i < j of the first n contradict
-  pub every-pair-exactly : every_pair v n ≡ true ↔ Some (Contradiction v n)
+  pub every-pair-exactly : every_pair v n ≡ true ↔ SomePair (Contradiction v n)
   every-pair-exactly = (
     to-pair,
     λ s.

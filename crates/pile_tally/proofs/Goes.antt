@@ -1,5 +1,6 @@
 -- The state after windows that were taken one by one: each is judged as it comes as the every-pair check judges it, and
 -- every state there can be is that of some windows.
+use Rattle.std.specs.Prelude.{Ok}
 use mathlib.Core.Path.{◌≡◌, sym, ap, ap₂, subst, ◌∙◌}
 use mathlib.Core.List.{List, [], ◌∷◌, ◌++◌}
 use Prim.Native.Nat.{ℕ, ◌+◌, ◌-◌, max}
@@ -9,7 +10,6 @@ use lib.Dec.{ltb}
 use lib.ListN.{length, length-append, get_or-append}
 use lib.Seq.{get_or-append_seam}
 use Rattle.check_response.specs.Window.{window_of}
-use Rattle.check_response.specs.declared.Verdict.TheVariants.{Valid}
 use Rattle.check_response.specs.declared.Window.{Window}
 use Rattle.pile_runs.proofs.Told.{ltb-same}
 use Rattle.pile_tally.specs.EveryPair.{said_in}
@@ -20,18 +20,18 @@ use Rattle.pile_tally.proofs.Most.{hit-most, most-same}
 
 -- the largest of a list with one window more
 most-more : (ws : List Window) (w : Window)
-    → most_of (said_in (ws ++ w ∷ [])) (length (ws ++ w ∷ [])) ≡ max (most_of (said_in ws) (length ws)) (low_end (Valid w))
+    → most_of (said_in (ws ++ w ∷ [])) (length (ws ++ w ∷ [])) ≡ max (most_of (said_in ws) (length ws)) (low_end (Ok w))
 unfolding most_of
 most-more ws w =
     ap (most_of (said_in (ws ++ w ∷ []))) (length-append ws (w ∷ []) ∙ add-one (length ws))
     ∙ ap₂ max
     (most-same (said_in (ws ++ w ∷ [])) (said_in ws) (length ws)
-    (λ k l. ap Valid (get_or-append ws (w ∷ []) (window_of 0 0 0 0) k l)))
-    (ap (λ (x : Window). low_end (Valid x)) (get_or-append_seam ws w [] (window_of 0 0 0 0)))
+    (λ k l. ap Ok (get_or-append ws (w ∷ []) (window_of 0 0 0 0) k l)))
+    (ap (λ (x : Window). low_end (Ok x)) (get_or-append_seam ws w [] (window_of 0 0 0 0)))
 
 pub as-it-goes : (t : Tally) (midp radi : ℕ) → AsItGoes t midp radi (tallied_of t midp radi)
 as-it-goes t midp radi ws w e m r = (
-  rw (← m, ← r, e) (hit-most (said_in ws) (length ws) (Valid w)),
+  rw (← m, ← r, e) (hit-most (said_in ws) (length ws) (Ok w)),
   ap (λ (x : ℕ). record { most = x }) (rw (← m, ← r, e) (sym (most-more ws w))),
 )
 

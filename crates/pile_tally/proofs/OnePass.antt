@@ -1,5 +1,6 @@
 -- The pass that keeps only the largest MIDP - RADI, in whole numbers, says what the every-pair check says, for any
 -- windows and any number of them. And to start from 0, and to let a difference below 0 stop there, loses nothing.
+use Rattle.std.specs.Prelude.{Ok}
 use mathlib.Core.Path.{◌≡◌, refl, sym, ap, ap₂, ◌∙◌}
 use mathlib.Core.Bool.{Bool, true, false, cond, ◌||◌}
 use mathlib.Core.List.{List}
@@ -13,8 +14,6 @@ use borrow.Author.Tests.{ltb-true, ltb-false, le-ltb}
 use Rattle.laws.specs.Least.{least, somewhere}
 use Rattle.laws.proofs.Least.{somewhere-more}
 use Rattle.check_response.specs.Window.{window_of}
-use Rattle.check_response.specs.declared.Verdict.{Verdict}
-use Rattle.check_response.specs.declared.Verdict.TheVariants.{Valid}
 use Rattle.check_response.specs.declared.Window.{Window}
 use Rattle.pile_tally.specs.EveryPair.{some_before, every_pair, every_pair_in}
 use Rattle.pile_tally.specs.Kept.{most_of}
@@ -59,7 +58,7 @@ stopped-less m (suc r) = go (ltb m (suc r)) refl
 
 module _ (w : ℕ → Window) where
   -- the largest of the windows 0 to k is what is kept after them, but for what is below 0
-  stopped-largest : (k : ℕ) → stopped (largest w k) ≡ most_of (λ i. Valid (w i)) (suc k)
+  stopped-largest : (k : ℕ) → stopped (largest w k) ≡ most_of (λ i. Ok (w i)) (suc k)
   unfolding largest most_of
   stopped-largest zero = stopped-less (w 0).midp (w 0).radi ∙ omega arith
   stopped-largest (suc k) =
@@ -68,17 +67,17 @@ module _ (w : ℕ → Window) where
 
   -- starting from 0 is starting from nothing, and stopping at 0 is not stopping: a window is judged the same
   pub from_zero : (k : ℕ) → lt_z (whole.latest (w (suc k))) (largest w k)
-      ≡ ltb ((w (suc k)).midp + (w (suc k)).radi) (most_of (λ i. Valid (w i)) (suc k))
+      ≡ ltb ((w (suc k)).midp + (w (suc k)).radi) (most_of (λ i. Ok (w i)) (suc k))
   from_zero k = above _ (largest w k) ∙ ap (ltb ((w (suc k)).midp + (w (suc k)).radi)) (stopped-largest k)
 
   -- the one pass says what the every-pair check says
-  pub one-pass : (n : ℕ) → one_pass w n ≡ every_pair (λ i. Valid (w i)) n
+  pub one-pass : (n : ℕ) → one_pass w n ≡ every_pair (λ i. Ok (w i)) n
   unfolding one_pass somewhere least
   one-pass zero = refl
   one-pass (suc zero) = refl
   one-pass (suc (suc k)) =
-      ap₂ ◌||◌ (one-pass (suc k)) (from_zero k ∙ hit-most (λ i. Valid (w i)) (suc k) (Valid (w (suc k))))
-      ∙ sym (somewhere-more (λ j. some_before (λ i. Valid (w i)) j (Valid (w j))) (suc k))
+      ap₂ ◌||◌ (one-pass (suc k)) (from_zero k ∙ hit-most (λ i. Ok (w i)) (suc k) (Ok (w (suc k))))
+      ∙ sym (somewhere-more (λ j. some_before (λ i. Ok (w i)) j (Ok (w j))) (suc k))
 
 -- of any list of windows
 pub one-pass-in : (ws : List Window) → one_pass_in ws ≡ every_pair_in ws

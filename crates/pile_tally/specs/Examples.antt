@@ -1,10 +1,8 @@
 -- Document 01's examples 1 to 7, as far as they are about windows, through both checks: every pair, and the one pass,
 -- in whole numbers and as the state goes.
-use Rattle.std.specs.Prelude.{◌≡◌, Bool, true, false, List, [], ◌∷◌, ℕ, ◌-◌, ◌^◌, length}
+use Rattle.std.specs.Prelude.{◌≡◌, Bool, true, false, List, [], ◌∷◌, ℕ, ◌-◌, ◌^◌, length, Err, Ok, Result}
 use Rattle.refusal.specs.declared.Refusal.{Refusal}
 use Rattle.check_response.specs.Window.{window_of}
-use Rattle.check_response.specs.declared.Verdict.{Verdict}
-use Rattle.check_response.specs.declared.Verdict.TheVariants.{Valid, Refused}
 use Rattle.check_response.specs.declared.Window.{Window}
 use Rattle.pile_runs.specs.Convict.{verdict_in}
 use Rattle.pile_tally.specs.EveryPair.{said_in, every_pair, every_pair_in}
@@ -14,7 +12,7 @@ use Rattle.pile_tally.specs.Whole.{one_pass_in}
 -- two of these windows contradict, the earlier the later: yes or no; and the same of records, some of them refused
 pub data Row : Type 0 where
   windows : List Window → Bool → Row
-  records : List Verdict → Bool → Row
+  records : List (Result Window Refusal) → Bool → Row
 
 abbrev pub Claim : Row → Type 0
 Claim (windows ws answer) =
@@ -51,5 +49,5 @@ module _ (mint maxt : ℕ) (why : Refusal) where
       -- 7. no neighbours contradict, but the first and the last do; with record 1 refused they do as well, though no
       -- run convicts by itself then
       ∷ windows (100 ± 1 ∷ 95 ± 20 ∷ 80 ± 1 ∷ []) true
-      ∷ records (Valid (100 ± 1) ∷ Refused why ∷ Valid (80 ± 1) ∷ []) true
+      ∷ records (Ok (100 ± 1) ∷ Err why ∷ Ok (80 ± 1) ∷ []) true
       ∷ []

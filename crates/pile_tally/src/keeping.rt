@@ -22,7 +22,7 @@ pub fn take_window(tally: Tally, midp: u64, radi: u32) -> Tallied
     let most = tally.most;
     let earlier = ends_below(midp, radius, most);
     let low = low_end(midp, radius);
-    let kept = larger(most, low);
+    let kept = most.max(low);
     Tallied {
         tally: Tally { most: kept },
         contradicts: earlier,
@@ -38,10 +38,4 @@ fn ends_below(midp: u64, radi: u64, most: u64) -> bool
         return false;
     }
     radi < most - midp
-}
-
-fn larger(a: u64, b: u64) -> u64
-    ensures { result ≡ max a b }
-{
-    if a < b { b } else { a }
 }

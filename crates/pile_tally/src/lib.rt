@@ -15,7 +15,8 @@ pub struct Tally {
     pub most: u64,
 }
 
-// What one window more makes of it, and whether that window contradicts an earlier one.
+// What one window more makes of it, and whether that window contradicts an earlier one. Neither stands in for the other:
+// the state goes on after a contradiction, and `AsItGoes` speaks of both as one answer.
 #[derive(Clone, Copy)]
 pub struct Tallied {
     pub tally: Tally,

@@ -1,5 +1,7 @@
 -- What `read_report` answers, exactly: 24 where the text is no report, 25 where it is one of a wrong amount, 19 where
 -- the buffer is too short for its records, and else how many there are.
+use Rattle.refusal.specs.declared.Refusal.{Refusal}
+use Rattle.std.specs.Prelude.{Err, Ok, Result}
 use Prim.Native.Nat.{ℕ, ◌*◌, ◌≤◌, ◌<◌}
 use mathlib.Core.Path.{◌≡◌, refl, sym, ◌∙◌, ap}
 use mathlib.Core.Bool.{Bool, true, false}
@@ -13,8 +15,6 @@ use Rattle.laws.specs.Pick.{pick, either}
 use Rattle.refusal.specs.Refusal.{refusal}
 use Rattle.report_read.specs.Entry.{Entry, Entries, these, unread, entries_of}
 use Rattle.report_read.specs.Read.{read_number, is_big, any_big, read_of}
-use Rattle.report_read.specs.declared.Read.{Read}
-use Rattle.report_read.specs.declared.Read.TheVariants.{Records, Refused}
 use Rattle.report_read.proofs.Elements.{neither_left, neither_right}
 use Rattle.report_laws.specs.Reported.{ReportText, Small, all_small_lem, small-then, RightAmount}
 use Rattle.report_laws.specs.Reported.{Big, big-request, big-response, big-later}
@@ -55,10 +55,10 @@ right-wrong r (too_many h) = omega (arith, r.few, h)
 right-wrong r (too_long b) = not-both r.small b
 
 -- ---- what is answered of entries
-data Case (es : List Entry) (room : ℕ) : Read → Type 0 where
-  amiss : WrongAmount es → Case es room (Refused (refusal 25))
-  crowded : RightAmount es → room < length es * 4096 → Case es room (Refused (refusal 19))
-  fine : RightAmount es → length es * 4096 ≤ room → Case es room (Records (length es))
+data Case (es : List Entry) (room : ℕ) : Result ℕ Refusal → Type 0 where
+  amiss : WrongAmount es → Case es room (Err (refusal 25))
+  crowded : RightAmount es → room < length es * 4096 → Case es room (Err (refusal 19))
+  fine : RightAmount es → length es * 4096 ≤ room → Case es room (Ok (length es))
 
 more-than : (n : ℕ) → (n ≡ 0 → ⊥) → 0 < n
 more-than n h = omega (arith, h)
@@ -78,36 +78,36 @@ case es room =
     by : (a : Bool) → eqb (length es) 0 ≡ a → (b : Bool) → ltb 16 (length es) ≡ b → (c : Bool) → any_big es ≡ c
         → (d : Bool) → ltb room (length es * 4096) ≡ d
         → Case es room
-        (pick a (Refused (refusal 25))
-        (pick b (Refused (refusal 25))
-        (pick c (Refused (refusal 25)) (pick d (Refused (refusal 19)) (Records (length es))))))
+        (pick a (Err (refusal 25))
+        (pick b (Err (refusal 25))
+        (pick c (Err (refusal 25)) (pick d (Err (refusal 19)) (Ok (length es))))))
     by true e b f c g d h = amiss (no-entry (eqb-true _ 0 e))
     by false e true f c g d h = amiss (too_many (ltb-true 16 _ f))
     by false e false f true g d h = amiss (too_long (one-big es g))
     by false e false f false g true h = crowded (right e f g) (ltb-true room _ h)
     by false e false f false g false h = fine (right e f g) (ltb-false room _ h)
 
-wrong-then : {es : List Entry} {room : ℕ} (x : Read) → Case es room x → WrongAmount es → x ≡ Refused (refusal 25)
+wrong-then : {es : List Entry} {room : ℕ} (x : Result ℕ Refusal) → Case es room x → WrongAmount es → x ≡ Err (refusal 25)
 wrong-then x (amiss v) w = refl
 wrong-then x (crowded r h) w = absurd (right-wrong r w)
 wrong-then x (fine r h) w = absurd (right-wrong r w)
 
-short-then : {es : List Entry} {room : ℕ} (x : Read) → Case es room x → RightAmount es → room < length es * 4096
-    → x ≡ Refused (refusal 19)
+short-then : {es : List Entry} {room : ℕ} (x : Result ℕ Refusal) → Case es room x → RightAmount es → room < length es * 4096
+    → x ≡ Err (refusal 19)
 short-then x (amiss w) r h = absurd (right-wrong r w)
 short-then x (crowded q g) r h = refl
 short-then x (fine q g) r h = absurd (omega (arith, g, h))
 
-right-then : {es : List Entry} {room : ℕ} (x : Read) → Case es room x → RightAmount es → length es * 4096 ≤ room
-    → x ≡ Records (length es)
+right-then : {es : List Entry} {room : ℕ} (x : Result ℕ Refusal) → Case es room x → RightAmount es → length es * 4096 ≤ room
+    → x ≡ Ok (length es)
 right-then x (amiss w) r h = absurd (right-wrong r w)
 right-then x (crowded q g) r h = absurd (omega (arith, g, h))
 right-then x (fine q g) r h = refl
 
 -- ---- what is answered of a text
-data Told (s : List ℕ) (room : ℕ) : Read → Type 0 where
-  no-report : ((es : List Entry) → ReportText s es → ⊥) → Told s room (Refused (refusal 24))
-  report-of : {x : Read} (es : List Entry) → ReportText s es → Case es room x → Told s room x
+data Told (s : List ℕ) (room : ℕ) : Result ℕ Refusal → Type 0 where
+  no-report : ((es : List Entry) → ReportText s es → ⊥) → Told s room (Err (refusal 24))
+  report-of : {x : Result ℕ Refusal} (es : List Entry) → ReportText s es → Case es room x → Told s room x
 
 told : (s : List ℕ) (room : ℕ) → Told s room (read_of (entries_of s) room)
 unfolding read_of
@@ -126,13 +126,13 @@ module _ (s : List ℕ) (room : ℕ) where
   pub no-report-exactly : (read_number (read_of (entries_of s) room) ≡ 24) ↔ ((es : List Entry) → ReportText s es → ⊥)
   no-report-exactly = (λ e. from _ (told s room) e, λ f. to _ (told s room) f)
     where
-      from : (x : Read) → Told s room x → read_number x ≡ 24 → (es : List Entry) → ReportText s es → ⊥
+      from : (x : Result ℕ Refusal) → Told s room x → read_number x ≡ 24 → (es : List Entry) → ReportText s es → ⊥
       from x (no-report f) e = f
       from x (report-of es r (amiss w)) e = absurd (omega (arith, e))
       from x (report-of es r (crowded a h)) e = absurd (omega (arith, e))
       from x (report-of es r (fine a h)) e = absurd (omega (arith, e))
 
-      to : (x : Read) → Told s room x → ((es : List Entry) → ReportText s es → ⊥) → read_number x ≡ 24
+      to : (x : Result ℕ Refusal) → Told s room x → ((es : List Entry) → ReportText s es → ⊥) → read_number x ≡ 24
       to x (no-report g) f = refl
       to x (report-of es r c) f = absurd (f es r)
 
@@ -140,7 +140,7 @@ module _ (s : List ℕ) (room : ℕ) where
   pub amount-exactly : (read_number (read_of (entries_of s) room) ≡ 25) ↔ Amiss s
   amount-exactly = (λ e. from _ (told s room) e, to)
     where
-      from : (x : Read) → Told s room x → read_number x ≡ 25 → Amiss s
+      from : (x : Result ℕ Refusal) → Told s room x → read_number x ≡ 25 → Amiss s
       from x (no-report f) e = absurd (omega (arith, e))
       from x (report-of es r (amiss w)) e = record { entries = es; report = r; wrong = w }
       from x (report-of es r (crowded a h)) e = absurd (omega (arith, e))
@@ -153,7 +153,7 @@ module _ (s : List ℕ) (room : ℕ) where
   pub short-exactly : (read_number (read_of (entries_of s) room) ≡ 19) ↔ Crowded s room
   short-exactly = (λ e. from _ (told s room) e, to)
     where
-      from : (x : Read) → Told s room x → read_number x ≡ 19 → Crowded s room
+      from : (x : Result ℕ Refusal) → Told s room x → read_number x ≡ 19 → Crowded s room
       from x (no-report f) e = absurd (omega (arith, e))
       from x (report-of es r (amiss w)) e = absurd (omega (arith, e))
       from x (report-of es r (crowded a h)) e = record { entries = es; report = r; right = a; short = h }
@@ -164,17 +164,17 @@ module _ (s : List ℕ) (room : ℕ) where
 
   -- and n records are read exactly where it is a report of n entries, 1 to 16, no packet is above 2,000 bytes, and the
   -- buffer has room for them
-  pub read-exactly : (n : ℕ) → (read_of (entries_of s) room ≡ Records n) ↔ Readable s room n
+  pub read-exactly : (n : ℕ) → (read_of (entries_of s) room ≡ Ok n) ↔ Readable s room n
   read-exactly n = (λ e. from _ (told s room) e, to)
     where
-      from : (x : Read) → Told s room x → x ≡ Records n → Readable s room n
+      from : (x : Result ℕ Refusal) → Told s room x → x ≡ Ok n → Readable s room n
       from x (no-report f) e = let z : ◌≡◌ {A = ℕ} 0 1 = cc in absurd (omega arith)
       from x (report-of es r (amiss w)) e = let z : ◌≡◌ {A = ℕ} 0 1 = cc in absurd (omega arith)
       from x (report-of es r (crowded a h)) e = let z : ◌≡◌ {A = ℕ} 0 1 = cc in absurd (omega arith)
       from x (report-of es r (fine a h)) e =
           record { entries = es; report = r; right = a; enough = h; count = cc }
 
-      to : Readable s room n → read_of (entries_of s) room ≡ Records n
+      to : Readable s room n → read_of (entries_of s) room ≡ Ok n
       to a =
           read-of room a.report ∙ right-then _ (case a.entries room) a.right a.enough
-          ∙ ap Records (sym a.count)
+          ∙ ap Ok (sym a.count)

@@ -1,5 +1,7 @@
 -- `cut_text` is read, cut and write: the text that it writes is the one that `write_report` writes of the run that
 -- `cut_run` cuts out of the text's records, and the two answer alike.
+use Rattle.refusal.specs.declared.Refusal.{Refusal}
+use Rattle.std.specs.Prelude.{Err, Ok, Result}
 use Prim.Native.Nat.{ℕ, zero, suc, ◌+◌, ◌*◌, ◌-◌, ◌/◌, ◌≤◌, ◌<◌}
 use mathlib.Core.Path.{◌≡◌, refl, sym, subst, ◌∙◌, ap, ap₂}
 use mathlib.Core.Bool.{Bool, true, false, cond}
@@ -19,28 +21,18 @@ use Rattle.pile.specs.Pile.{records_in, record_at, key_in, request_packet}
 use Rattle.report_read.specs.Entry.{Entry}
 use Rattle.report_read.specs.Entry.{entries_of}
 use Rattle.report_read.specs.Read.{read_of}
-use Rattle.report_read.specs.declared.Read.{Read}
-use Rattle.report_read.specs.declared.Read.TheVariants as read
 use Rattle.report_write.specs.Entries.{entry_of, entries_in, text_of}
 use Rattle.report_write.specs.Text.{entries_text, json_of}
 use Rattle.report_write.specs.Published.{Publishes, published_bytes}
 use Rattle.report_write.specs.Published.{roomed as publishRoomed}
-use Rattle.report_write.specs.declared.Published.{Published}
-use Rattle.report_write.specs.declared.Published.TheVariants as published
 use Rattle.report_write.proofs.Piles.{publishes-once}
 use Rattle.pile_report.specs.Taking.{Takes, run_bytes, run_answers}
-use Rattle.pile_report.specs.declared.Report.TheVariants.{Pair}
-use Rattle.pile_report.specs.declared.Taken.{Taken}
-use Rattle.pile_report.specs.declared.Taken.TheVariants.{Run}
-use Rattle.pile_report.specs.declared.Taken.TheVariants as taken
 use Rattle.pile_report.proofs.Behind.{Alike, same-response}
 use Rattle.pile_report.proofs.Runs.{takes-once}
 use Rattle.pile_report.proofs.CutStands.{taken-run, cut-names}
 use Rattle.pile_signed.specs.OwnAnswers.{own_answers}
 use Rattle.pile_signed.proofs.OwnRuns.{own-run}
 use Rattle.report_text.specs.Forwarded.{ForwardsBy, cut_of, CutsText, Forwards, pile_of, forwarded_bytes}
-use Rattle.report_text.specs.declared.Forwarded.{Forwarded}
-use Rattle.report_text.specs.declared.Forwarded.TheVariants.{Text, Refused}
 use Rattle.report_text.proofs.Cuts.{forward_of}
 use Rattle.report_laws.specs.Reported.{Readable}
 use Rattle.report_laws.proofs.Bytes.{text-bytes}
@@ -116,7 +108,7 @@ module _ (st : List ℕ) (long : 4096 ≤ length st) where
 
 -- ---- where the cutter takes a run out of a pile, which is bytes:
 module _ (pile answers : List ℕ) (bytes : Bytes pile) (i j : ℕ)
-    (t : Takes pile answers (length pile) (Run i j)) where
+    (t : Takes pile answers (length pile) (Ok (i, j))) where
   -- the text of the run that is cut out is the text of its records as they stand,
   pub run-text : text_of (run_bytes i j pile) ≡ text_of (part (4096 * i) (4096 * j + 4096) pile)
   unfolding run_bytes
@@ -129,22 +121,22 @@ module _ (pile answers : List ℕ) (bytes : Bytes pile) (i j : ℕ)
   pub run-published : (room : ℕ) → Publishes (run_bytes i j pile) (run_answers i j answers) room
       (publishRoomed (text_of (part (4096 * i) (4096 * j + 4096) pile)) room)
   run-published room = record {
-    report = Pair 0 (j - i);
+    report = Ok (0, (j - i));
     checked = cut-names pile answers bytes (length pile) i j t;
     answer = ap (λ (x : List ℕ). publishRoomed x room) (sym run-text);
   }
 
   -- So the answer on the text of the pile and the writer's on the run are the same,
   room-same : (n : ℕ) (b : Bool)
-      → cond b (Refused (refusal 19)) (Text i j n)
-      ≡ forward_of i j (cond b (published.Refused (refusal 19) 0) (published.Text n))
+      → cond b (Err (refusal 19)) (Ok (i, j, n))
+      ≡ forward_of i j (cond b (Err ((refusal 19), 0)) (Ok n))
   room-same n true = refl
   room-same n false = refl
 
-  pub cut-answer : (room : ℕ) (r : Forwarded) (p : Published) → CutsText pile answers room r
+  pub cut-answer : (room : ℕ) (r : Result (ℕ × ℕ × ℕ) Refusal) (p : Result ℕ (Refusal × ℕ)) → CutsText pile answers room r
       → Publishes (run_bytes i j pile) (run_answers i j answers) room p → r ≡ forward_of i j p
   cut-answer room r p c w =
-      let same = takes-once pile answers (length pile) c.cut (Run i j) c.right t in
+      let same = takes-once pile answers (length pile) c.cut (Ok (i, j)) c.right t in
       let once = publishes-once (run_bytes i j pile) (run_answers i j answers) room p _ w (run-published room) in
       c.answer ∙ ap (cut_of pile room) same
       ∙ room-same (length (text_of (part (4096 * i) (4096 * j + 4096) pile)))
@@ -152,30 +144,30 @@ module _ (pile answers : List ℕ) (bytes : Bytes pile) (i j : ℕ)
       ∙ ap (forward_of i j) (sym once)
 
   -- and so is what they write
-  pub cut-bytes : (p : Published) → forwarded_bytes (forward_of i j p) pile ≡ published_bytes p (run_bytes i j pile)
-  cut-bytes (published.Text n) = sym run-text
-  cut-bytes (published.Refused why k) = refl
+  pub cut-bytes : (p : Result ℕ (Refusal × ℕ)) → forwarded_bytes (forward_of i j p) pile ≡ published_bytes p (run_bytes i j pile)
+  cut-bytes (Ok n) = sym run-text
+  cut-bytes (Err (why, k)) = refl
 
 -- ---- where a text is read, and the cutter takes a run out of its records:
 module _ (text answers : List ℕ) (n i j : ℕ) (read : Readable text 65536 n)
-    (t : Takes (pile_of text) answers (length (pile_of text)) (Run i j)) where
+    (t : Takes (pile_of text) answers (length (pile_of text)) (Ok (i, j))) where
   -- `cut_text` answers, and writes, what `write_report` does of that run with the answers of its records
-  pub text-is-cut-and-written : (room : ℕ) (r : Forwarded) (p : Published) → Forwards text answers room r
+  pub text-is-cut-and-written : (room : ℕ) (r : Result (ℕ × ℕ × ℕ) Refusal) (p : Result ℕ (Refusal × ℕ)) → Forwards text answers room r
       → Publishes (run_bytes i j (pile_of text)) (run_answers i j answers) room p
       → (r ≡ forward_of i j p) × (forwarded_bytes r (pile_of text) ≡ published_bytes p (run_bytes i j (pile_of text)))
   text-is-cut-and-written room r p f w =
       let c : CutsText (pile_of text) answers room r = rw ((read-exactly text 65536 n).1 read) at f in
       let e = cut-answer (pile_of text) answers (text-bytes text) i j t room r p c w in (
         e,
-        ap (λ (x : Forwarded). forwarded_bytes x (pile_of text)) e
+        ap (λ (x : Result (ℕ × ℕ × ℕ) Refusal). forwarded_bytes x (pile_of text)) e
             ∙ cut-bytes (pile_of text) answers (text-bytes text) i j t p,
       )
 
 -- the same with no answers lent: `cut_signed_text` answers, and writes, what `write_signed_report` does of the run that
 -- `cut_signed_run` takes
 pub signed-text-is-cut-and-written : (text : List ℕ) (n i j : ℕ) → Readable text 65536 n
-    → Takes (pile_of text) (own_answers (pile_of text)) (length (pile_of text)) (Run i j)
-    → (room : ℕ) (r : Forwarded) (p : Published) → Forwards text (own_answers (pile_of text)) room r
+    → Takes (pile_of text) (own_answers (pile_of text)) (length (pile_of text)) (Ok (i, j))
+    → (room : ℕ) (r : Result (ℕ × ℕ × ℕ) Refusal) (p : Result ℕ (Refusal × ℕ)) → Forwards text (own_answers (pile_of text)) room r
     → Publishes (run_bytes i j (pile_of text)) (own_answers (run_bytes i j (pile_of text))) room p
     → (r ≡ forward_of i j p) × (forwarded_bytes r (pile_of text) ≡ published_bytes p (run_bytes i j (pile_of text)))
 signed-text-is-cut-and-written text n i j read t room r p f w =
@@ -185,25 +177,35 @@ signed-text-is-cut-and-written text n i j read t room r p f w =
 
 -- ---- And where `cut_text` answers a run, the cutter takes that run out of the text's records, and `write_report`
 -- answers as many bytes of it.
-told-run : {i j n : ℕ} (a b m : ℕ) (x : Bool) → Text i j n ≡ cond x (Refused (refusal 19)) (Text a b m)
-    → (x ≡ false) × (Run a b ≡ Run i j) × (n ≡ m)
-told-run a b m true e = let z : ◌≡◌ {A = ℕ} 0 1 = cc in absurd (omega arith)
+-- what an answer says
+abbrev said : Result (ℕ × ℕ × ℕ) Refusal → ℕ × ℕ × ℕ
+said (Ok x) = x
+said (Err why) = (0, 0, 0)
+
+told-run : {i j n : ℕ} (a b m : ℕ) (x : Bool)
+    → ◌≡◌ {A = Result (ℕ × ℕ × ℕ) Refusal} (Ok (i, j, n)) (cond x (Err (refusal 19)) (Ok (a, b, m)))
+    → (x ≡ false) × ◌≡◌ {A = Result (ℕ × ℕ) Refusal} (Ok (a, b)) (Ok (i, j)) × (n ≡ m)
+told-run a b m true e = cc
 told-run {i} {j} {n} a b m false e =
-    let p : i ≡ a = cc in let q : j ≡ b = cc in let l : n ≡ m = cc in (refl, ap₂ Run (sym p) (sym q), l)
+    let q : ◌≡◌ {A = ℕ × ℕ × ℕ} (i, j, n) (a, b, m) = ap said e in
+    let r : ◌≡◌ {A = ℕ × ℕ} (i, j) (a, b) = ap (λ (x : ℕ × ℕ × ℕ). (x.0, x.1)) q in
+    (refl, ap Ok (sym r), ap (λ (x : ℕ × ℕ × ℕ). x.2) q)
 
 module _ (pile answers : List ℕ) (bytes : Bytes pile) (room i j n : ℕ) where
-  taken-so : (x : Taken) → Takes pile answers (length pile) x → Text i j n ≡ cut_of pile room x
-      → Takes pile answers (length pile) (Run i j) × (Text i j n ≡ cut_of pile room (Run i j))
-  taken-so (Run a b) t e =
+  taken-so : (x : Result (ℕ × ℕ) Refusal) → Takes pile answers (length pile) x
+      → ◌≡◌ {A = Result (ℕ × ℕ × ℕ) Refusal} (Ok (i, j, n)) (cut_of pile room x)
+      → Takes pile answers (length pile) (Ok (i, j))
+      × ◌≡◌ {A = Result (ℕ × ℕ × ℕ) Refusal} (Ok (i, j, n)) (cut_of pile room (Ok (i, j)))
+  taken-so (Ok (a, b)) t e =
       let q =
       told-run a b (length (text_of (part (4096 * a) (4096 * b + 4096) pile)))
       (ltb room (length (text_of (part (4096 * a) (4096 * b + 4096) pile)))) e in
       (subst (Takes pile answers (length pile)) q.1 t, e ∙ ap (cut_of pile room) q.1)
-  taken-so (taken.Refused why) t e = let z : ◌≡◌ {A = ℕ} 0 1 = cc in absurd (omega arith)
+  taken-so (Err why) t e = let z : ◌≡◌ {A = ℕ} 0 1 = cc in absurd (omega arith)
 
-  pub run-was-cut : CutsText pile answers room (Text i j n)
-      → Takes pile answers (length pile) (Run i j)
-      × Publishes (run_bytes i j pile) (run_answers i j answers) room (published.Text n)
+  pub run-was-cut : CutsText pile answers room (Ok (i, j, n))
+      → Takes pile answers (length pile) (Ok (i, j))
+      × Publishes (run_bytes i j pile) (run_answers i j answers) room (Ok n)
   run-was-cut c =
       let t = taken-so c.cut c.right c.answer in
       let q =
@@ -214,16 +216,16 @@ module _ (pile answers : List ℕ) (bytes : Bytes pile) (room i j n : ℕ) where
     where
       so : ltb room (length (text_of (part (4096 * i) (4096 * j + 4096) pile))) ≡ false
           → n ≡ length (text_of (part (4096 * i) (4096 * j + 4096) pile))
-          → published.Text n ≡ publishRoomed (text_of (part (4096 * i) (4096 * j + 4096) pile)) room
-      so f l = rw f (ap published.Text l)
+          → Ok n ≡ publishRoomed (text_of (part (4096 * i) (4096 * j + 4096) pile)) room
+      so f l = rw f (ap Ok l)
 
-pub text-was-cut : (text answers : List ℕ) (room i j n : ℕ) → Forwards text answers room (Text i j n)
-    → Takes (pile_of text) answers (length (pile_of text)) (Run i j)
-    × Publishes (run_bytes i j (pile_of text)) (run_answers i j answers) room (published.Text n)
+pub text-was-cut : (text answers : List ℕ) (room i j n : ℕ) → Forwards text answers room (Ok (i, j, n))
+    → Takes (pile_of text) answers (length (pile_of text)) (Ok (i, j))
+    × Publishes (run_bytes i j (pile_of text)) (run_answers i j answers) room (Ok n)
 text-was-cut text answers room i j n f =
     run-was-cut (pile_of text) answers (text-bytes text) room i j n (by (read_of (entries_of text) 65536) f)
   where
-    by : (x : Read) → ForwardsBy x (pile_of text) answers room (Text i j n)
-        → CutsText (pile_of text) answers room (Text i j n)
-    by (read.Records m) f = f
-    by (read.Refused why) f = let z : ◌≡◌ {A = ℕ} 0 1 = cc in absurd (omega arith)
+    by : (x : Result ℕ Refusal) → ForwardsBy x (pile_of text) answers room (Ok (i, j, n))
+        → CutsText (pile_of text) answers room (Ok (i, j, n))
+    by (Ok m) f = f
+    by (Err why) f = let z : ◌≡◌ {A = ℕ} 0 1 = cc in absurd (omega arith)

@@ -1,4 +1,5 @@
 -- The reader's definition finds entries in a text exactly where the text is a report of these entries.
+use Rattle.std.specs.Prelude.{None, Some}
 use Prim.Native.Nat.{ℕ, ◌+◌}
 use mathlib.Core.Path.{◌≡◌, refl, sym, ◌∙◌, ap, ap₂, subst}
 use mathlib.Core.Bool.{Bool, true, false}
@@ -9,7 +10,6 @@ use borrow.Author.Tests.{eq-eqb, eqb-true}
 use lib.Dec.{eqb}
 use lib.ListN.{length, get_or}
 use Rattle.laws.specs.Pick.{pick, either, both}
-use Rattle.json_tokens.specs.declared.Skip.TheVariants.{Past, Bad}
 use Rattle.json_tokens.specs.Scan.{past_while, blank}
 use Rattle.json_strings.specs.Text.{content_at}
 use Rattle.json_values.specs.declared.Found.{Found}
@@ -53,7 +53,7 @@ module _ (s x : List ℕ) where
       rw (eq-eqb _ 34 p.0) (sym (decode-paired (content_at s (v + 1))) ∙ ap decode64 p.1 ∙ b)
 
   a-string : {d v : ℕ} {t : Json} (b : Bool) → At s d v t → eqb (get_or s v 0) 34 ≡ b
-      → decoded_at s (pick b (Past (v + 1)) Bad) ≡ bytes x
+      → decoded_at s (pick b (Some (v + 1)) None) ≡ bytes x
       → (t ≡ Json.string (paired (content_at s (v + 1)))) × (decode64 (paired (content_at s (v + 1))) ≡ bytes x)
   unfolding pick
   a-string {v = v} true a q h = (string-is a (eqb-true _ 34 q), decode-paired (content_at s (v + 1)) ∙ h)
@@ -198,7 +198,7 @@ module _ (s : List ℕ) (es : List Entry) where
   all_found v false ts g a h = absurd (not-these h)
 
   list-found : (v : ℕ) (t : Json) (b : Bool) → At s 15 v t → eqb (get_or s v 0) 91 ≡ b
-      → entries_from s (pick b (Past v) Bad) ≡ these es → AList t
+      → entries_from s (pick b (Some v) None) ≡ these es → AList t
   unfolding entries_from pick
   list-found v t true a q h =
       let l = array-is {d = 14} a (eqb-true _ 91 q) in
@@ -225,7 +225,7 @@ module _ (s : List ℕ) (es : List Entry) where
   value_found t list o n finds-more h = absurd (not-these h)
 
   object-found : (t : Json) (b : Bool) → At s 16 (outermost s) t → eqb (get_or s (outermost s) 0) 123 ≡ b
-      → entries_from s (pick b (list_of s (found_of s responses_name 15 (outermost s))) Bad) ≡ these es → ReportTree t es
+      → entries_from s (pick b (list_of s (found_of s responses_name 15 (outermost s))) None) ≡ these es → ReportTree t es
   unfolding entries_from pick
   object-found t true a q h =
       let o = object-is {d = 15} a (eqb-true _ 123 q) in
@@ -236,7 +236,7 @@ module _ (s : List ℕ) (es : List Entry) where
 
   text-found : (b : Bool) → is_text s ≡ b
       → entries_from s (pick b (pick (eqb (get_or s (outermost s) 0) 123)
-      (list_of s (found_of s responses_name 15 (outermost s))) Bad) Bad) ≡ these es
+      (list_of s (found_of s responses_name 15 (outermost s))) None) None) ≡ these es
       → ReportText s es
   unfolding entries_from pick
   text-found true t h =

@@ -1,4 +1,5 @@
 -- Laws about the elements of the list: `from s k` are the places of those from the one at k on.
+use Rattle.std.specs.Prelude.{Some}
 use Prim.Native.Nat.{ℕ, ◌+◌}
 use mathlib.Core.Path.{◌≡◌, refl, sym}
 use mathlib.Core.Bool.{Bool, true, false}
@@ -9,7 +10,6 @@ use Rattle.laws.specs.Pick.{pick, either, both}
 use Rattle.json_tokens.specs.declared.Step.{Step}
 use Rattle.json_tokens.specs.declared.Step.TheVariants.{More, End}
 use Rattle.json_tokens.specs.Scan.{past_while, blank}
-use Rattle.json_tokens.specs.declared.Skip.TheVariants.{Past}
 use Rattle.json_tokens.specs.Walk.{starts, walked}
 use Rattle.json_values.specs.Value.{value_at, item_step, array_of}
 use Rattle.json_tokens.proofs.Turns.{starts_more, starts-end}
@@ -53,7 +53,7 @@ module _ (s : List ℕ) (v : ℕ) {start b : ℕ} (e : start ≡ past_while blan
   unfolding array_of pick
   array-some g = rw (sym e) (rw (sym h, ne_eqb b 93 g) refl)
 
-  pub array-empty : b ≡ 93 → array_of s (value_at s in_list) v ≡ Past (start + 1)
+  pub array-empty : b ≡ 93 → array_of s (value_at s in_list) v ≡ Some (start + 1)
   unfolding array_of pick
   array-empty g = rw (sym e) (rw (sym h, g) refl)
 

@@ -1,4 +1,5 @@
 -- Laws for the reader of an entry.
+use Rattle.std.specs.Prelude.{None, Option, Some}
 use Prim.Native.Nat.{ℕ}
 use mathlib.Core.Path.{◌≡◌, refl, sym, ◌∙◌}
 use mathlib.Core.Bool.{Bool, true, false, true≢false}
@@ -7,8 +8,6 @@ use native.Mathlib.Omega.{arith}
 use lib.ListN.{get_or}
 use borrow.Author.Tests.{eqb-true, eq-eqb}
 use Rattle.laws.specs.Pick.{pick, both}
-use Rattle.json_tokens.specs.declared.Skip.{Skip}
-use Rattle.json_tokens.specs.declared.Skip.TheVariants.{Past, Bad}
 use Rattle.json_values.specs.declared.Found.{Found}
 use Rattle.json_values.specs.Value.{value_at, object_of}
 use Rattle.json_values.specs.Members.{found_of}
@@ -23,14 +22,14 @@ use Rattle.report_read.proofs.Small.{measured-64, measured-length}
 module _ (s : List ℕ) (first : Bool) (k : ℕ) where
   -- what has a part that fails is no response object
   unfit : {b : Bool} → b ≡ false → (has_all s first k ≡ true → b ≡ true) → has_all s first k ≡ true
-      → value_at s in_list k ≡ Bad
+      → value_at s in_list k ≡ None
   unfit e f h = absurd (true≢false (sym (f h) ∙ e))
 
   member_is : (w : List ℕ) {f : Found} → f ≡ found_of s w in_entry k → decoded_at s (string_of s f) ≡ member_of s k w
   unfolding member_of text_place
   member_is w e = rw e refl
 
-  pub entry_other : {b : ℕ} → b ≡ get_or s k 0 → (b ≡ 123 → ⊥) → has_all s first k ≡ true → value_at s in_list k ≡ Bad
+  pub entry_other : {b : ℕ} → b ≡ get_or s k 0 → (b ≡ 123 → ⊥) → has_all s first k ≡ true → value_at s in_list k ≡ None
   unfolding has_all
   entry_other e h a = absurd (h (e ∙ eqb-true _ _ (both_left _ _ a)))
 
@@ -39,30 +38,30 @@ module _ (s : List ℕ) (first : Bool) (k : ℕ) where
     unfolding pick
     entry-end = value-is s in_list k ∙ rw (eq-eqb (get_or s k 0) 123 o) (object-is s in_list k (λ q. omega arith))
 
-    pub entry-open : {x : Skip} → x ≡ object_of s (value_at s in_entry) k → x ≡ Bad → has_all s first k ≡ true
-        → value_at s in_list k ≡ Bad
+    pub entry-open : {x : Option ℕ} → x ≡ object_of s (value_at s in_entry) k → x ≡ None → has_all s first k ≡ true
+        → value_at s in_list k ≡ None
     entry-open e h a = entry-end ∙ sym e ∙ h
 
   module _ {f : Found} where
-    pub entry-rand : f ≡ found_of s rand_name in_entry k → Randed s f first Bad → has_all s first k ≡ true
-        → value_at s in_list k ≡ Bad
+    pub entry-rand : f ≡ found_of s rand_name in_entry k → Randed s f first None → has_all s first k ≡ true
+        → value_at s in_list k ≡ None
     unfolding has_all rand_good
     entry-rand e r = unfit (rw (member_is rand_name e) at r) (λ a. both_left _ _ (both_right _ _ a))
 
-    pub entry_key : f ≡ found_of s key_name in_entry k → Exact s f Bad → has_all s first k ≡ true → value_at s in_list k ≡ Bad
+    pub entry_key : f ≡ found_of s key_name in_entry k → Exact s f None → has_all s first k ≡ true → value_at s in_list k ≡ None
     unfolding has_all
     entry_key e r =
         unfit (rw (member_is key_name e) at r) (λ a. both_left _ _ (both_right _ _ (both_right _ _ a)))
 
     pub entry-request : f ≡ found_of s request_name in_entry k → is64 (decoded_at s (string_of s f)) ≡ false
-        → has_all s first k ≡ true → value_at s in_list k ≡ Bad
+        → has_all s first k ≡ true → value_at s in_list k ≡ None
     unfolding has_all
     entry-request e r =
         unfit (rw (member_is request_name e) at r)
         (λ a. both_left _ _ (both_right _ _ (both_right _ _ (both_right _ _ a))))
 
     pub entry-response : f ≡ found_of s response_name in_entry k → is64 (decoded_at s (string_of s f)) ≡ false
-        → has_all s first k ≡ true → value_at s in_list k ≡ Bad
+        → has_all s first k ≡ true → value_at s in_list k ≡ None
     unfolding has_all
     entry-response e r =
         unfit (rw (member_is response_name e) at r)
@@ -71,7 +70,7 @@ module _ (s : List ℕ) (first : Bool) (k : ℕ) where
   module _ {fa fb fc fd : Found} (e : Spot) (h : e.at ≡ k) (o : get_or s k 0 ≡ 123)
       (ea : fa ≡ found_of s rand_name in_entry k) (eb : fb ≡ found_of s key_name in_entry k)
       (ec : fc ≡ found_of s request_name in_entry k) (ed : fd ≡ found_of s response_name in_entry k)
-      (a : Randed s fa first (Past e.rand)) (b : Exact s fb (Past e.key))
+      (a : Randed s fa first (Some e.rand)) (b : Exact s fb (Some e.key))
       (c : Measured s fc e.request e.asked) (d : Measured s fd e.response e.said) where
     all-good : has_all s first k ≡ true
     unfolding has_all rand_good both
@@ -83,7 +82,7 @@ module _ (s : List ℕ) (first : Bool) (k : ℕ) where
           rw (member_is request_name ec) at (measured-64 c),
         ) (rw (member_is response_name ed) at (measured-64 d))
 
-    pub entry-fine : {x : Skip} {j : ℕ} → x ≡ object_of s (value_at s in_entry) k → x ≡ Past j → Fine s first k e j
+    pub entry-fine : {x : Option ℕ} {j : ℕ} → x ≡ object_of s (value_at s in_entry) k → x ≡ Some j → Fine s first k e j
     entry-fine g q = record {
       here = h;
       all = all-good;

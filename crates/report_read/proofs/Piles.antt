@@ -1,4 +1,5 @@
 -- Laws for the loop that writes the records, and for the reader's returns.
+use Rattle.std.specs.Prelude.{Err, Ok}
 use Prim.Native.Nat.{ℕ, zero, suc, ◌+◌, ◌*◌, ◌≤◌, ◌<◌}
 use mathlib.Core.Path.{◌≡◌, refl, sym, ◌∙◌, ap}
 use mathlib.Core.Bool.{Bool, true, false}
@@ -17,7 +18,6 @@ use Rattle.laws.proofs.Filled.{Filled, filled-first, filled_next, filled-fit, fi
 use Rattle.json_tokens.proofs.Picks.{inside}
 use Rattle.base64_strict.specs.Decode.{Decoded, bytes, none}
 use Rattle.refusal.specs.Refusal.{refusal}
-use Rattle.report_read.specs.declared.Read.TheVariants.{Records, Refused}
 use Rattle.report_read.specs.declared.Spot.{Spot}
 use Rattle.pile.specs.Layout.{RECORD}
 use Rattle.report_read.specs.Entry.{member_of, held, is32, rand_good, has_all, entry_at, all_of}
@@ -157,7 +157,7 @@ entries-length s first (k ∷ ks) = ap suc (entries-length s false ks)
 
 -- ---- The reader's returns.
 pub read_none : (s out : List ℕ) → entries_of s ≡ unread
-    → (Refused (refusal 24) ≡ read_of (entries_of s) (length out)) × (out ≡ written 24 (pile_bytes (entries_of s)) out)
+    → (Err (refusal 24) ≡ read_of (entries_of s) (length out)) × (out ≡ written 24 (pile_bytes (entries_of s)) out)
 unfolding read_of pile_bytes
 read_none s out e = rw e (refl, refl)
 
@@ -166,13 +166,13 @@ module _ {s : List ℕ} {n : ℕ} {b : Bool} {es : List Spot} (out : List ℕ) (
   many = t.keeps.count ∙ sym (entries-length s true t.places)
 
   pub read-few : n ≡ 0
-      → (Refused (refusal 25) ≡ read_of (entries_of s) (length out)) × (out ≡ written 25 (pile_bytes (entries_of s)) out)
+      → (Err (refusal 25) ≡ read_of (entries_of s) (length out)) × (out ≡ written 25 (pile_bytes (entries_of s)) out)
   unfolding read_of pile_bytes
   read-few z = rw t.entries (hit-eq _ many z refl, refl)
 
   module _ (z : n ≡ 0 → ⊥) where
     pub read-many : 16 < n
-        → (Refused (refusal 25) ≡ read_of (entries_of s) (length out)) × (out ≡ written 25 (pile_bytes (entries_of s)) out)
+        → (Err (refusal 25) ≡ read_of (entries_of s) (length out)) × (out ≡ written 25 (pile_bytes (entries_of s)) out)
     unfolding read_of pile_bytes
     read-many m =
         rw t.entries (
@@ -182,7 +182,7 @@ module _ {s : List ℕ} {n : ℕ} {b : Bool} {es : List Spot} (out : List ℕ) (
 
     module _ (m : n ≤ 16) where
       pub read-big : b ≡ true
-          → (Refused (refusal 25) ≡ read_of (entries_of s) (length out)) × (out ≡ written 25 (pile_bytes (entries_of s)) out)
+          → (Err (refusal 25) ≡ read_of (entries_of s) (length out)) × (out ≡ written 25 (pile_bytes (entries_of s)) out)
       unfolding read_of pile_bytes
       read-big i =
           rw t.entries (
@@ -193,7 +193,7 @@ module _ {s : List ℕ} {n : ℕ} {b : Bool} {es : List Spot} (out : List ℕ) (
           )
 
       pub read_short : b ≡ false → length out < n * RECORD
-          → (Refused (refusal 19) ≡ read_of (entries_of s) (length out)) × (out ≡ written 19 (pile_bytes (entries_of s)) out)
+          → (Err (refusal 19) ≡ read_of (entries_of s) (length out)) × (out ≡ written 19 (pile_bytes (entries_of s)) out)
       unfolding read_of pile_bytes
       read_short i l =
           rw t.entries (
@@ -206,14 +206,14 @@ module _ {s : List ℕ} {n : ℕ} {b : Bool} {es : List Spot} (out : List ℕ) (
           )
 
       pub read_done : {to : List ℕ} → b ≡ false → n * RECORD ≤ length out → to ≡ fronted (pile_bytes (entries_of s)) out
-          → (Records n ≡ read_of (entries_of s) (length out)) × (to ≡ written 0 (pile_bytes (entries_of s)) out)
+          → (Ok n ≡ read_of (entries_of s) (length out)) × (to ≡ written 0 (pile_bytes (entries_of s)) out)
       unfolding read_of
       read_done i l q = (
         rw t.entries (miss-eq _ many z
             (miss _ refl (le-ltb 16 (length (entries_at s true t.places)) (omega (arith, many)))
             (miss _ t.keeps.weighed i
             (miss _ refl (le-ltb (length out) (length (entries_at s true t.places) * RECORD) (omega (arith, many)))
-            (ap Records many))))),
+            (ap Ok many))))),
         q,
       )
 

@@ -1,4 +1,5 @@
 -- Laws for the loop over the list of entries: before the element at k there are n, of which the spots are kept.
+use Rattle.std.specs.Prelude.{None}
 use Prim.Native.Nat.{ℕ, zero, suc, ◌+◌, ◌-◌, ◌≤◌, ◌<◌}
 use mathlib.Core.Path.{◌≡◌, refl, sym, ◌∙◌, ap}
 use mathlib.Core.Bool.{Bool, true, false, ◌||◌}
@@ -10,7 +11,6 @@ use lib.ListN.{length, get_or, drop, set, length-set, length-drop}
 use lib.Seq.{get_or-set_same, get_or-set_other}
 use borrow.Author.Tests.{ne_eqb, eqb-true, eqb-false, lt-ltb, le-ltb}
 use Rattle.laws.specs.Pick.{pick, either, both}
-use Rattle.json_tokens.specs.declared.Skip.TheVariants.{Bad}
 use Rattle.json_tokens.specs.declared.Step.{Step}
 use Rattle.json_tokens.specs.declared.Step.TheVariants.{More, End, Wrong}
 use Rattle.json_tokens.specs.Scan.{past_while, blank, after, then_step}
@@ -123,8 +123,8 @@ module _ (s : List ℕ) (v : ℕ) {start b : ℕ} (e : start ≡ past_while blan
 
 module _ {s : List ℕ} {v k n : ℕ} {big : Bool} {es : List Spot} (l : Listing s v k n big es) where
   -- the element at k is none, or the list goes wrong behind it
-  pub listing-unfit : (has_all s (eqb n 0) k ≡ true → value_at s in_list k ≡ Bad)
-      → all_of s true (elements_of s in_list v) ≡ true → array_of s (value_at s in_list) v ≡ Bad
+  pub listing-unfit : (has_all s (eqb n 0) k ≡ true → value_at s in_list k ≡ None)
+      → all_of s true (elements_of s in_list v) ≡ true → array_of s (value_at s in_list) v ≡ None
   unfolding all_of item_step then_step
   listing-unfit f a =
       let h : has_all s (eqb n 0) k ≡ true = both_left _ _ (rw (from-head s k) at (l.all ∙ a)) in
@@ -141,7 +141,7 @@ module _ {s : List ℕ} {v k n : ℕ} {big : Bool} {es : List Spot} (l : Listing
       unfolding item_step then_step
       turn = rw f.end y
 
-      pub listing-wrong : x ≡ Wrong → all_of s true (elements_of s in_list v) ≡ true → array_of s (value_at s in_list) v ≡ Bad
+      pub listing-wrong : x ≡ Wrong → all_of s true (elements_of s in_list v) ≡ true → array_of s (value_at s in_list) v ≡ None
       listing-wrong h a = sym l.ends ∙ sym (walked-wrong (length s) (item_step s (value_at s in_list)) k turn h)
 
       pub listing-less : {i : ℕ} → x ≡ More i → length s - i < length s - k

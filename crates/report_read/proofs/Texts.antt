@@ -1,4 +1,5 @@
 -- Laws for the walk over the outermost object.
+use Rattle.std.specs.Prelude.{None, Option, Some}
 use Prim.Native.Nat.{ℕ, ◌+◌, ◌-◌, ◌<◌}
 use mathlib.Core.Path.{◌≡◌, refl, sym, ◌∙◌, ap}
 use mathlib.Core.Bool.{Bool, true, false}
@@ -8,8 +9,6 @@ use lib.Dec.{eqb}
 use lib.ListN.{length, get_or}
 use borrow.Author.Tests.{eq-eqb, ne_eqb}
 use Rattle.laws.specs.Pick.{pick}
-use Rattle.json_tokens.specs.declared.Skip.{Skip}
-use Rattle.json_tokens.specs.declared.Skip.TheVariants.{Past, Bad}
 use Rattle.json_tokens.specs.declared.Step.{Step}
 use Rattle.json_tokens.specs.declared.Step.TheVariants.{More, End, Wrong}
 use Rattle.json_tokens.specs.Scan.{past_while, blank, past_colon, after, then, then_step}
@@ -38,11 +37,11 @@ module _ (s : List ℕ) (k : ℕ) {x : Step} (e : x ≡ member_step s (value_at 
   unfolding end_from
   end_more h = walked_more (length s) (member_step s (value_at s in_report)) (forth-members s in_report) k e h
 
-  pub end-here : {j : ℕ} → x ≡ End j → end_from s k ≡ Past j
+  pub end-here : {j : ℕ} → x ≡ End j → end_from s k ≡ Some j
   unfolding end_from
   end-here h = sym (walked_end (length s) (member_step s (value_at s in_report)) k e h)
 
-  pub end-wrong : x ≡ Wrong → end_from s k ≡ Bad
+  pub end-wrong : x ≡ Wrong → end_from s k ≡ None
   unfolding end_from
   end-wrong h = sym (walked-wrong (length s) (member_step s (value_at s in_report)) k e h)
 
@@ -67,7 +66,7 @@ module _ (s : List ℕ) (k : ℕ) {x : Step} (e : x ≡ member_step s (value_at 
     unfolding tally
     skip-end n v h = sym (tally-skip s responses_name n v k (sym q ∙ f) (members-end h))
 
-pub never : {A : Type 0} {x : Skip} {e : ℕ} → x ≡ Bad → x ≡ Past e → A
+pub never : {A : Type 0} {x : Option ℕ} {e : ℕ} → x ≡ None → x ≡ Some e → A
 never {x = x} {e} p q = let z : ◌≡◌ {A = ℕ} 0 1 = cc in absurd (omega arith)
 
 -- the members from k on begin with that at k
@@ -102,27 +101,27 @@ members-by s k (End j) e = members-end s k e refl
 members-by s k Wrong e = starts-wrong (length s) (member_step s (value_at s in_report)) k e refl
 
 -- ---- Behind the list.
-pub behind_more : (s : List ℕ) {t : Step} {j : ℕ} (r : Skip) → t ≡ More j → Rests s j r → Behind s t r
+pub behind_more : (s : List ℕ) {t : Step} {j : ℕ} (r : Option ℕ) → t ≡ More j → Rests s j r → Behind s t r
 unfolding onward more_of
-behind_more s (Past e) h g = rw h g
-behind_more s Bad h g = rw h g
+behind_more s (Some e) h g = rw h g
+behind_more s None h g = rw h g
 
-pub behind-end : (s : List ℕ) {t : Step} {e : ℕ} → t ≡ End e → Behind s t (Past e)
+pub behind-end : (s : List ℕ) {t : Step} {e : ℕ} → t ≡ End e → Behind s t (Some e)
 unfolding onward more_of tally answer_of pick
 behind-end s h = rw h (refl, λ v. refl)
 
-pub behind-wrong : (s : List ℕ) {t : Step} → t ≡ Wrong → Behind s t Bad
+pub behind-wrong : (s : List ℕ) {t : Step} → t ≡ Wrong → Behind s t None
 unfolding onward
 behind-wrong s h = rw h (λ e g. never refl g)
 
 -- ---- The text.
-by_end : (s : List ℕ) (l x y : Skip) → x ≡ y → ((e : ℕ) → x ≡ Past e → entries_from s l ≡ unread)
-    → entries_from s (pick (ends_at s y) l Bad) ≡ unread
+by_end : (s : List ℕ) (l x y : Option ℕ) → x ≡ y → ((e : ℕ) → x ≡ Some e → entries_from s l ≡ unread)
+    → entries_from s (pick (ends_at s y) l None) ≡ unread
 unfolding entries_from ends_at pick
-by_end s l x Bad q h = refl
-by_end s l x (Past e) q h = either_way (eqb (past_while blank s e) (length s))
+by_end s l x None q h = refl
+by_end s l x (Some e) q h = either_way (eqb (past_while blank s e) (length s))
   where
-    either_way : (b : Bool) → entries_from s (pick b l Bad) ≡ unread
+    either_way : (b : Bool) → entries_from s (pick b l None) ≡ unread
     either_way true = h e q
     either_way false = refl
 
@@ -141,16 +140,16 @@ found-or s v [] h = h
 found-or s v (k ∷ ks) h =
     or-twice s (value_place s k) v ks (named s responses_name k) (found-or s v ks h) (tally-many s responses_name ks (value_place s k))
 
-wrong-value : (s : List ℕ) {x : Skip} → x ≡ Bad → then_step x (after s 125) ≡ Wrong
+wrong-value : (s : List ℕ) {x : Option ℕ} → x ≡ None → then_step x (after s 125) ≡ Wrong
 unfolding then_step
 wrong-value s h = rw h refl
 
-entries-not : (s : List ℕ) (v : ℕ) → all_of s true (elements_of s in_list v) ≡ false → entries_from s (Past v) ≡ unread
+entries-not : (s : List ℕ) (v : ℕ) → all_of s true (elements_of s in_list v) ≡ false → entries_from s (Some v) ≡ unread
 unfolding entries_from pick
 entries-not s v h = rw h refl
 
 entries-are : (s : List ℕ) (v : ℕ) → all_of s true (elements_of s in_list v) ≡ true
-    → entries_from s (Past v) ≡ these (entries_at s true (elements_of s in_list v))
+    → entries_from s (Some v) ≡ these (entries_at s true (elements_of s in_list v))
 unfolding entries_from pick
 entries-are s v h = rw h refl
 
@@ -163,7 +162,7 @@ module _ {s : List ℕ} {k : ℕ} (o : Opened s k) where
       (object-is s deepest (past_while blank s 0) (λ q. omega arith) ∙ sym o.ends)
 
   -- where the object ends, what is found is no list of entries
-  unread-unless : ((e : ℕ) → end_from s k ≡ Past e
+  unread-unless : ((e : ℕ) → end_from s k ≡ Some e
       → entries_from s (list_of s (found_of s responses_name in_report (past_while blank s 0))) ≡ unread) → entries_of s ≡ unread
   unfolding entries_of list_place is_text pick
   unread-unless h =
@@ -185,17 +184,17 @@ module _ {s : List ℕ} {k : ℕ} (o : Opened s k) where
   pub unread-turn : member_step s (value_at s in_report) k ≡ Wrong → entries_of s ≡ unread
   unread-turn h = unread-unless (λ e g. never (end-wrong s k refl h) g)
 
-  module _ {x : Skip} (a : x ≡ string_at s k) where
-    pub unread-string : x ≡ Bad → entries_of s ≡ unread
+  module _ {x : Option ℕ} (a : x ≡ string_at s k) where
+    pub unread-string : x ≡ None → entries_of s ≡ unread
     unfolding member_step then_step
     unread-string h = unread-turn (rw (sym a ∙ h) refl)
 
-    module _ {e : ℕ} (h : x ≡ Past e) {y : Skip} (b : y ≡ past_colon s e) where
-      pub unread-colon : y ≡ Bad → entries_of s ≡ unread
+    module _ {e : ℕ} (h : x ≡ Some e) {y : Option ℕ} (b : y ≡ past_colon s e) where
+      pub unread-colon : y ≡ None → entries_of s ≡ unread
       unfolding member_step then_step
       unread-colon g = unread-turn (rw (sym a ∙ h) (rw (sym b ∙ g) refl))
 
-      module _ {v : ℕ} (g : y ≡ Past v) where
+      module _ {v : ℕ} (g : y ≡ Some v) where
         place : v ≡ value_place s k
         unfolding value_place place_of then
         place = sym (rw (sym a ∙ h) (rw (sym b ∙ g) refl))
@@ -216,11 +215,11 @@ module _ {s : List ℕ} {k : ℕ} (o : Opened s k) where
                 value-is s in_report v
                 ∙ rw (sym d, u) (array-is s in_report v (λ q. omega arith))
 
-            list-found : list_of s (At v) ≡ Past v
+            list-found : list_of s (At v) ≡ Some v
             unfolding list_of pick
             list-found = rw (sym d, u) refl
 
-            pub unread-list : (all_of s true (elements_of s in_list v) ≡ true → array_of s (value_at s in_list) v ≡ Bad)
+            pub unread-list : (all_of s true (elements_of s in_list v) ≡ true → array_of s (value_at s in_list) v ≡ None)
                 → entries_of s ≡ unread
             unread-list z = by (all_of s true (elements_of s in_list v)) refl
               where
@@ -240,13 +239,13 @@ module _ {s : List ℕ} {k : ℕ} (o : Opened s k) where
                   ≡ found_of s responses_name in_report (past_while blank s 0)
               found_at = found-is (members-by s k (after s 125 f) (sym turn_at))
 
-              pub unread-behind : Behind s (after s 125 f) Bad → entries_of s ≡ unread
+              pub unread-behind : Behind s (after s 125 f) None → entries_of s ≡ unread
               unfolding entries_from list_of
               unread-behind z =
                   unread-unless (λ e g. rw (sym found_at ∙ z e (ends-at ∙ g) (value_place s k)) refl)
 
-              module _ {j : ℕ} (w : Behind s (after s 125 f) (Past j)) {n : ℕ} (q : n ≡ past_while blank s j) where
-                whole : value_at s deepest (past_while blank s 0) ≡ Past j
+              module _ {j : ℕ} (w : Behind s (after s 125 f) (Some j)) {n : ℕ} (q : n ≡ past_while blank s j) where
+                whole : value_at s deepest (past_while blank s 0) ≡ Some j
                 whole = root-value ∙ sym ends-at ∙ w.0
 
                 pub unread-more : (n ≡ length s → ⊥) → entries_of s ≡ unread
@@ -275,11 +274,11 @@ pub unread-brace : (s : List ℕ) {r b : ℕ} → r ≡ past_while blank s 0 →
 unfolding entries_of list_place pick entries_from
 unread-brace s {r} {b} e g h = rw (sym e, sym g, ne_eqb b 123 h) (bad (is_text s))
   where
-    bad : (q : Bool) → entries_from s (pick q Bad Bad) ≡ unread
+    bad : (q : Bool) → entries_from s (pick q None None) ≡ unread
     bad true = refl
     bad false = refl
 
-no-members : (s : List ℕ) (q p : Bool) (f : Found) → f ≡ Nothing → entries_from s (pick q (pick p (list_of s f) Bad) Bad) ≡ unread
+no-members : (s : List ℕ) (q p : Bool) (f : Found) → f ≡ Nothing → entries_from s (pick q (pick p (list_of s f) None) None) ≡ unread
 unfolding pick entries_from list_of
 no-members s true true f h = rw h refl
 no-members s true false f h = refl
@@ -320,7 +319,7 @@ module _ (s : List ℕ) {root : ℕ} (e : root ≡ past_while blank s 0) where
         ∙ rw (eq-eqb (get_or s (past_while blank s 0) 0) 123 brace-is)
         (object-is s deepest (past_while blank s 0) (λ q. omega arith) ∙ sym ends-first)
 
-    pub unread-sought : ((e : ℕ) → end_from s first ≡ Past e → tally s responses_name 0 0 (members_from s first) ≡ Nothing)
+    pub unread-sought : ((e : ℕ) → end_from s first ≡ Some e → tally s responses_name 0 0 (members_from s first) ≡ Nothing)
         → entries_of s ≡ unread
     unfolding entries_of list_place is_text pick entries_from list_of
     unread-sought z =

@@ -3,11 +3,9 @@
 -- Each response object contains the keys `rand`, `publicKey`, `request`, and `response`. The values of all four keys
 -- are represented as base64-encoded strings."
 use Prim.Native.Char.{code}
-use Rattle.std.specs.Prelude.{ℕ, suc, ◌+◌, ◌-◌, Bool, true, false, List, [], ◌∷◌, eqb, length, get_or, replicate}
+use Rattle.std.specs.Prelude.{ℕ, suc, ◌+◌, ◌-◌, Bool, true, false, List, [], ◌∷◌, eqb, length, get_or, replicate, None, Option, Some}
 use Rattle.laws.specs.Ascii.{ascii}
 use Rattle.laws.specs.Pick.{pick, either, both}
-use Rattle.json_tokens.specs.declared.Skip.{Skip}
-use Rattle.json_tokens.specs.declared.Skip.TheVariants.{Past, Bad}
 use Rattle.json_values.specs.declared.Found.{Found}
 use Rattle.json_values.specs.declared.Found.TheVariants.{At, Nothing, Twice}
 use Rattle.json_tokens.specs.Scan.{past_while, blank}
@@ -16,7 +14,6 @@ use Rattle.json_strings.specs.Text.{content_at}
 use Rattle.json_values.specs.Value.{value_at, item_step, deepest, is_text}
 use Rattle.json_values.specs.Members.{found_of}
 use Rattle.base64_strict.specs.Decode.{Decoded, bytes, none, decode64}
-use Rattle.json_base64.specs.declared.Size.{Size}
 use Rattle.json_base64.specs.Sized.{size_of, good, plain}
 
 -- a response object
@@ -54,18 +51,18 @@ abbrev pub in_entry : ℕ
 in_entry = deepest - 3
 
 -- the characters of the string that is the value of the one member that was found
-unfoldable pub string_of : List ℕ → Found → Skip
-string_of s (At v) = pick (eqb (get_or s v 0) (code "\"")) (Past (v + 1)) Bad
-string_of s Nothing = Bad
-string_of s Twice = Bad
+unfoldable pub string_of : List ℕ → Found → Option ℕ
+string_of s (At v) = pick (eqb (get_or s v 0) (code "\"")) (Some (v + 1)) None
+string_of s Nothing = None
+string_of s Twice = None
 
 -- the same by the member's name, in the response object at a place
-unfoldable pub text_place : List ℕ → ℕ → List ℕ → Skip
+unfoldable pub text_place : List ℕ → ℕ → List ℕ → Option ℕ
 text_place s at w = string_of s (found_of s w in_entry at)
 
-abbrev pub decoded_at : List ℕ → Skip → Decoded
-decoded_at s (Past p) = decode64 (content_at s p)
-decoded_at s Bad = none
+abbrev pub decoded_at : List ℕ → Option ℕ → Decoded
+decoded_at s (Some p) = decode64 (content_at s p)
+decoded_at s None = none
 
 -- what that string stands for in base64
 unfoldable pub member_of : List ℕ → ℕ → List ℕ → Decoded
@@ -75,7 +72,7 @@ member_of s at w = decoded_at s (text_place s at w)
 unfoldable pub is64 : Decoded → Bool
 is64 d = good d
 
-unfoldable pub size_in : Decoded → Size
+unfoldable pub size_in : Decoded → Option ℕ
 size_in d = size_of 0 d
 
 unfoldable pub held : Decoded → List ℕ
@@ -122,25 +119,25 @@ entries_at s first (k ∷ ks) = entry_at s first k ∷ entries_at s false ks
 
 -- the place of the list of response objects, where the text is JSON and an object with just one member "responses", a
 -- list
-unfoldable pub list_of : List ℕ → Found → Skip
-list_of s (At v) = pick (eqb (get_or s v 0) (code "[")) (Past v) Bad
-list_of s Nothing = Bad
-list_of s Twice = Bad
+unfoldable pub list_of : List ℕ → Found → Option ℕ
+list_of s (At v) = pick (eqb (get_or s v 0) (code "[")) (Some v) None
+list_of s Nothing = None
+list_of s Twice = None
 
-unfoldable pub list_place : List ℕ → Skip
+unfoldable pub list_place : List ℕ → Option ℕ
 list_place s =
     pick (is_text s)
-    (pick (eqb (get_or s (past_while blank s 0) 0) (code "{")) (list_of s (found_of s responses_name in_report (past_while blank s 0))) Bad)
-    Bad
+    (pick (eqb (get_or s (past_while blank s 0) 0) (code "{")) (list_of s (found_of s responses_name in_report (past_while blank s 0))) None)
+    None
 
 -- the entries of a report, or that the text is none
 pub data Entries : Type 0 where
   these : List Entry → Entries
   unread : Entries
 
-unfoldable pub entries_from : List ℕ → Skip → Entries
-entries_from s (Past v) = pick (all_of s true (elements_of s in_list v)) (these (entries_at s true (elements_of s in_list v))) unread
-entries_from s Bad = unread
+unfoldable pub entries_from : List ℕ → Option ℕ → Entries
+entries_from s (Some v) = pick (all_of s true (elements_of s in_list v)) (these (entries_at s true (elements_of s in_list v))) unread
+entries_from s None = unread
 
 unfoldable pub entries_of : List ℕ → Entries
 entries_of s = entries_from s (list_place s)

@@ -1,9 +1,7 @@
 -- For the private functions: what is kept of an entry, of the list and of the whole text, so that the records are written
 -- from the places of the strings.
-use Rattle.std.specs.Prelude.{ℕ, suc, ◌≤◌, ◌<◌, ◌≡◌, Bool, true, false, List, eqb, length, get_or}
+use Rattle.std.specs.Prelude.{ℕ, suc, ◌≤◌, ◌<◌, ◌≡◌, Bool, true, false, List, eqb, length, get_or, None, Option, Some}
 use Rattle.laws.specs.Pick.{either}
-use Rattle.json_tokens.specs.declared.Skip.{Skip}
-use Rattle.json_tokens.specs.declared.Skip.TheVariants.{Past, Bad}
 use Rattle.json_tokens.specs.declared.Step.{Step}
 use Rattle.json_tokens.specs.Scan.{past_while, blank}
 use Rattle.json_tokens.specs.Walk.{onward, walked, more_of, starts}
@@ -13,13 +11,8 @@ use Rattle.json_values.specs.declared.Found.TheVariants.{At, Nothing, Twice}
 use Rattle.json_values.specs.Value.{value_at, item_step, member_step, array_of, object_of}
 use Rattle.json_values.specs.Members.{named, tally, found_of}
 use Rattle.base64_strict.specs.Decode.{decode64}
-use Rattle.json_base64.specs.declared.Size.TheVariants.{Of}
 use Rattle.pile.specs.Layout.{AREA}
 use Rattle.report_read.specs.declared.Spot.{Spot}
-use Rattle.report_read.specs.declared.Part.{Part}
-use Rattle.report_read.specs.declared.Part.TheVariants.{Text, Else}
-use Rattle.report_read.specs.declared.Looked.{Looked}
-use Rattle.report_read.specs.declared.Looked.TheVariants.{Good, Unfit}
 use Rattle.report_read.specs.declared.Kept.{Kept}
 use Rattle.report_read.specs.Entry.{rand_name, key_name, request_name, response_name, responses_name}
 use Rattle.report_read.specs.Entry.{in_report, in_list, string_of, decoded_at, member_of, is64, size_in, held, is32, has_all, entry_at}
@@ -41,23 +34,23 @@ from s k = starts (suc (length s)) (item_step s (value_at s in_list)) k
 -- ---- A member that was found: the string at p, of n bytes in base64.
 pub record Measured (s : List ℕ) (f : Found) (p n : ℕ) : Type 0 where
   pub is : decode64 (content_at s p) ≡ decoded_at s (string_of s f)
-  pub size : Of n ≡ size_in (decoded_at s (string_of s f))
+  pub size : Some n ≡ size_in (decoded_at s (string_of s f))
 
-abbrev pub PartOf : List ℕ → Found → Part → Type 0
-PartOf s f (Text p n) = Measured s f p n
-PartOf s f Else = is64 (decoded_at s (string_of s f)) ≡ false
+abbrev pub PartOf : List ℕ → Found → Option (ℕ × ℕ) → Type 0
+PartOf s f (Some (p, n)) = Measured s f p n
+PartOf s f None = is64 (decoded_at s (string_of s f)) ≡ false
 
 -- the same where it has to be of 32 bytes,
-abbrev pub Exact : List ℕ → Found → Skip → Type 0
-Exact s f (Past p) = (decode64 (content_at s p) ≡ decoded_at s (string_of s f)) × (is32 (decoded_at s (string_of s f)) ≡ true)
-Exact s f Bad = is32 (decoded_at s (string_of s f)) ≡ false
+abbrev pub Exact : List ℕ → Found → Option ℕ → Type 0
+Exact s f (Some p) = (decode64 (content_at s p) ≡ decoded_at s (string_of s f)) × (is32 (decoded_at s (string_of s f)) ≡ true)
+Exact s f None = is32 (decoded_at s (string_of s f)) ≡ false
 
 -- but for the first entry's rand
-abbrev pub Randed : List ℕ → Found → Bool → Skip → Type 0
-Randed s f first (Past p) =
+abbrev pub Randed : List ℕ → Found → Bool → Option ℕ → Type 0
+Randed s f first (Some p) =
     (first ≡ false → decode64 (content_at s p) ≡ decoded_at s (string_of s f))
     × (either first (is32 (decoded_at s (string_of s f))) ≡ true)
-Randed s f first Bad = either first (is32 (decoded_at s (string_of s f))) ≡ false
+Randed s f first None = either first (is32 (decoded_at s (string_of s f))) ≡ false
 
 -- ---- An entry, by the places of its strings.
 pub record Spotted (s : List ℕ) (first : Bool) (e : Spot) : Type 0 where
@@ -72,7 +65,7 @@ pub record Spotted (s : List ℕ) (first : Bool) (e : Spot) : Type 0 where
 pub record Fine (s : List ℕ) (first : Bool) (k : ℕ) (e : Spot) (j : ℕ) : Type 0 where
   pub here : e.at ≡ k
   pub all : has_all s first k ≡ true
-  pub end : value_at s in_list k ≡ Past j
+  pub end : value_at s in_list k ≡ Some j
   pub spot : Spotted s first e
 
 -- an entry that can be written
@@ -81,9 +74,9 @@ pub record Writable (s : List ℕ) (first : Bool) (e : Spot) : Type 0 where
   pub all : has_all s first e.at ≡ true
   pub spot : Spotted s first e
 
-abbrev pub Looks : List ℕ → Bool → ℕ → Looked → Type 0
-Looks s first k (Good e j) = Fine s first k e j
-Looks s first k Unfit = has_all s first k ≡ true → value_at s in_list k ≡ Bad
+abbrev pub Looks : List ℕ → Bool → ℕ → Option (Spot × ℕ) → Type 0
+Looks s first k (Some (e, j)) = Fine s first k e j
+Looks s first k None = has_all s first k ≡ true → value_at s in_list k ≡ None
 
 -- ---- The list: n elements, and the spots of the first 16.
 abbrev pub spot_in : List Spot → ℕ → Spot
@@ -96,15 +89,15 @@ pub record Keeps (s ks : List ℕ) (n : ℕ) (big : Bool) (es : List Spot) : Typ
 
 pub record Listed (s : List ℕ) (v : ℕ) (r : Kept) (j : ℕ) : Type 0 where
   pub all : all_of s true (elements_of s in_list v) ≡ true
-  pub ends : array_of s (value_at s in_list) v ≡ Past j
+  pub ends : array_of s (value_at s in_list) v ≡ Some j
   pub keeps : Keeps s (elements_of s in_list v) r.n r.big r.spots
 
-abbrev pub ListedBy : List ℕ → ℕ → Kept → Skip → Type 0
-ListedBy s v r (Past j) = Listed s v r j
-ListedBy s v r Bad = all_of s true (elements_of s in_list v) ≡ true → array_of s (value_at s in_list) v ≡ Bad
+abbrev pub ListedBy : List ℕ → ℕ → Option (Kept × ℕ) → Type 0
+ListedBy s v (Some (r, j)) = Listed s v r j
+ListedBy s v None = all_of s true (elements_of s in_list v) ≡ true → array_of s (value_at s in_list) v ≡ None
 
 -- ---- The outermost object, from the member at k on: where it ends, and its members.
-unfoldable pub end_from : List ℕ → ℕ → Skip
+unfoldable pub end_from : List ℕ → ℕ → Option ℕ
 end_from s k = walked (length s) (member_step s (value_at s in_report)) k
 
 unfoldable pub members_from : List ℕ → ℕ → List ℕ
@@ -116,21 +109,21 @@ pub record Sought (s : List ℕ) (k₀ k : ℕ) : Type 0 where
   pub count : tally s responses_name 0 0 (members_from s k) ≡ tally s responses_name 0 0 (members_from s k₀)
   pub named : named s responses_name k ≡ true
 
-abbrev pub Seeks : List ℕ → ℕ → Skip → Type 0
-Seeks s k₀ (Past k) = Sought s k₀ k
-Seeks s k₀ Bad = (e : ℕ) → end_from s k₀ ≡ Past e → tally s responses_name 0 0 (members_from s k₀) ≡ Nothing
+abbrev pub Seeks : List ℕ → ℕ → Option ℕ → Type 0
+Seeks s k₀ (Some k) = Sought s k₀ k
+Seeks s k₀ None = (e : ℕ) → end_from s k₀ ≡ Some e → tally s responses_name 0 0 (members_from s k₀) ≡ Nothing
 
 -- no other member behind it has the name
-abbrev pub Rests : List ℕ → ℕ → Skip → Type 0
-Rests s k (Past e) = (end_from s k ≡ Past e) × ((v : ℕ) → tally s responses_name 1 v (members_from s k) ≡ At v)
-Rests s k Bad = (e : ℕ) → end_from s k ≡ Past e → (v : ℕ) → tally s responses_name 1 v (members_from s k) ≡ Twice
+abbrev pub Rests : List ℕ → ℕ → Option ℕ → Type 0
+Rests s k (Some e) = (end_from s k ≡ Some e) × ((v : ℕ) → tally s responses_name 1 v (members_from s k) ≡ At v)
+Rests s k None = (e : ℕ) → end_from s k ≡ Some e → (v : ℕ) → tally s responses_name 1 v (members_from s k) ≡ Twice
 
 -- the same where a turn has ended
-abbrev pub Behind : List ℕ → Step → Skip → Type 0
-Behind s t (Past e) =
-    (onward t (end_from s) ≡ Past e) × ((v : ℕ) → tally s responses_name 1 v (more_of t (members_from s)) ≡ At v)
-Behind s t Bad =
-    (e : ℕ) → onward t (end_from s) ≡ Past e → (v : ℕ) → tally s responses_name 1 v (more_of t (members_from s)) ≡ Twice
+abbrev pub Behind : List ℕ → Step → Option ℕ → Type 0
+Behind s t (Some e) =
+    (onward t (end_from s) ≡ Some e) × ((v : ℕ) → tally s responses_name 1 v (more_of t (members_from s)) ≡ At v)
+Behind s t None =
+    (e : ℕ) → onward t (end_from s) ≡ Some e → (v : ℕ) → tally s responses_name 1 v (more_of t (members_from s)) ≡ Twice
 
 -- ---- The text: its outermost object has the name at k first,
 pub record Opened (s : List ℕ) (k : ℕ) : Type 0 where
@@ -146,6 +139,6 @@ pub record Told (s : List ℕ) (n : ℕ) (big : Bool) (es : List Spot) : Type 0 
   pub all : all_of s true places ≡ true
   pub keeps : Keeps s places n big es
 
-abbrev pub ReportBy : List ℕ → Kept → Skip → Type 0
-ReportBy s r (Past j) = Told s r.n r.big r.spots
-ReportBy s r Bad = entries_of s ≡ unread
+abbrev pub ReportBy : List ℕ → Option Kept → Type 0
+ReportBy s (Some r) = Told s r.n r.big r.spots
+ReportBy s None = entries_of s ≡ unread

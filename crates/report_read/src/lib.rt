@@ -9,7 +9,6 @@ mod reading;
 mod records;
 mod reports;
 
-use json_tokens::Skip;
 use json_values::DEPTH;
 pub use reading::read_report;
 use refusal::Refusal;
@@ -19,13 +18,6 @@ const IN_REPORT: usize = DEPTH - 1;
 
 // and in a response object, which stands in a list there.
 const IN_ENTRY: usize = DEPTH - 3;
-
-// A string of base64: the place of its characters, and how many bytes they stand for.
-#[derive(Clone, Copy)]
-enum Part {
-    Text(usize, usize),
-    Else,
-}
 
 // An entry: its place, those of the characters of its strings, and how many bytes its packets have.
 #[derive(Clone, Copy)]
@@ -39,26 +31,12 @@ struct Spot {
     said: usize,
 }
 
-// An element of the list: an entry with the place past it, or what is none.
-#[derive(Clone, Copy)]
-enum Looked {
-    Good(Spot, usize),
-    Unfit,
-}
-
-// What is kept of a list: the place past it, or that it is no list of entries; how many there are; whether a packet is
-// too long; and the first 16.
+// What is kept of a list of entries. 24 is judged of all of them first, and so what 25 asks is kept beside the first 16:
+// how many there are, past the 16th too, and whether a packet is too long.
 #[derive(Clone, Copy)]
 struct Kept {
-    end: Skip,
     n: usize,
     big: bool,
+    // 16 and no more: memory is fixed.
     spots: [Spot; 16],
-}
-
-// How many records stand at the front of the buffer, or why none do.
-#[derive(Clone, Copy)]
-pub enum Read {
-    Records(usize),
-    Refused(Refusal),
 }

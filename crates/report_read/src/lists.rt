@@ -1,14 +1,14 @@
 // The list of entries, in one walk over it.
-ghost use Rattle.std.specs.Prelude.{◌≡◌, true, false, ◌||◌, ◌<◌, ltb, length};
+ghost use Rattle.std.specs.Prelude.{◌≡◌, ◌||◌, ◌<◌, ltb, length};
 ghost use Rattle.pile.specs.Layout.{AREA};
 ghost use Rattle.report_read.specs.Ready.{ListedBy};
 
 use super::entries::entry;
-use super::{Kept, Looked, Spot};
-use json_tokens::{Skip, Step, after_item, blanks, byte};
+use super::{Kept, Spot};
+use json_tokens::{Step, after_item, blanks, byte};
 use pile::layout::AREA;
 
-// No entries yet.
+// No entries yet: 16 places, since memory is fixed.
 fn blank_spots() -> [Spot; 16]
     ensures { length result ≡ 16 }
 {
@@ -24,19 +24,6 @@ fn blank_spots() -> [Spot; 16]
     [blank; 16]
 }
 
-// What is no list of entries.
-pub fn none() -> Kept
-    ensures { result.end ≡ Skip.Bad }
-{
-    let spots = blank_spots();
-    Kept {
-        end: Skip::Bad,
-        n: 0,
-        big: false,
-        spots,
-    }
-}
-
 // A packet is above 2,000 bytes.
 fn is_big(e: Spot) -> bool
     ensures { result ≡ (ltb AREA e.asked || ltb AREA e.said) }
@@ -44,27 +31,28 @@ fn is_big(e: Spot) -> bool
     (AREA < e.asked) | (AREA < e.said)
 }
 
-// The list at a place.
-pub fn list(s: &[u8], v: usize) -> Kept
+// The list at a place, and the place past it.
+pub fn list(s: &[u8], v: usize) -> Option<(Kept, usize)>
     requires { v < length s.now }
-    ensures { ListedBy s.now v result result.end }
+    ensures { ListedBy s.now v result }
 {
     let mut spots = blank_spots();
     let start = blanks(s, v + 1);
     if byte(s, start) == b']' {
-        return Kept {
-            end: Skip::Past(start + 1),
+        let kept = Kept {
             n: 0,
             big: false,
             spots,
         };
+        return Some((kept, start + 1));
     }
     let mut n: usize = 0;
     let mut big = false;
     let mut k = start;
+    // loop: what stands behind an element says whether another follows.
     loop {
-        let Looked::Good(e, j) = entry(s, k, n == 0) else {
-            return none();
+        let Some((e, j)) = entry(s, k, n == 0) else {
+            return None;
         };
         if n < 16 {
             spots[n] = e;
@@ -76,15 +64,10 @@ pub fn list(s: &[u8], v: usize) -> Kept
                 k = i;
             }
             Step::End(i) => {
-                return Kept {
-                    end: Skip::Past(i),
-                    n,
-                    big,
-                    spots,
-                };
+                return Some((Kept { n, big, spots }, i));
             }
             Step::Wrong => {
-                return none();
+                return None;
             }
         }
     }

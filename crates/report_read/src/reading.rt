@@ -7,50 +7,46 @@ ghost use Rattle.report_read.specs.Ready.{Told};
 ghost use Rattle.report_read.specs.Read.{read_of, read_number, pile_bytes};
 ghost use Rattle.laws.specs.Written.{written};
 
+use super::Spot;
 use super::records::put_record;
 use super::reports::report;
-use super::{Read, Spot};
-use json_tokens::Skip;
 use pile::RECORD;
-use refusal::{codes, refuse};
+use refusal::{Refusal, codes, refuse};
 
-// The records of all.
+// The records of all n entries, of the 16 that are kept.
 fn put_all(s: &[u8], n: usize, spots: [Spot; 16], out: &mut [u8])
     requires { Told s.now n false spots × ((n ≤ 16) × (n * RECORD ≤ length out.old)) }
     ensures { out.new ≡ fronted (pile_bytes (entries_of s.now)) out.old }
 {
-    let mut i = 0;
-    while i < n {
+    // A range: the number is that of the entry and of its record.
+    for i in 0..n {
         let e = spots[i];
         put_record(s, e, i == 0, out, i * RECORD);
-        i += 1;
     }
 }
 
 // The records of a report's text, at the front of out. 24 is judged of every entry first, past the 16th too.
-pub fn read_report(text: &[u8], out: &mut [u8]) -> Read
+pub fn read_report(text: &[u8], out: &mut [u8]) -> Result<usize, Refusal>
     ensures value { result ≡ read_of (entries_of text.now) (length out.old) }
     ensures out_after { out.new ≡ written (read_number result) (pile_bytes (entries_of text.now)) out.old }
 {
-    let r = report(text);
-    let end = r.end;
-    let Skip::Past(_) = end else {
-        return Read::Refused(refuse(codes::REPORT_TEXT));
+    let Some(r) = report(text) else {
+        return Err(refuse(codes::REPORT_TEXT));
     };
     let n = r.n;
     if n == 0 {
-        return Read::Refused(refuse(codes::ENTRIES));
+        return Err(refuse(codes::ENTRIES));
     }
     if 16 < n {
-        return Read::Refused(refuse(codes::ENTRIES));
+        return Err(refuse(codes::ENTRIES));
     }
     if r.big {
-        return Read::Refused(refuse(codes::ENTRIES));
+        return Err(refuse(codes::ENTRIES));
     }
     if out.len() < n * RECORD {
-        return Read::Refused(refuse(codes::ROOM));
+        return Err(refuse(codes::ROOM));
     }
     let spots = r.spots;
     put_all(text, n, spots, out);
-    Read::Records(n)
+    Ok(n)
 }

@@ -1,4 +1,5 @@
-// The record of an entry, from the places of its strings.
+// The record of an entry, from the places of its strings. In each function `first` is the flag of the definition
+// `entry_at`: the first entry has no rand.
 ghost use Rattle.std.specs.Prelude.{◌≡◌, true, ◌++◌, ◌+◌, ◌*◌, ◌≤◌, ◌<◌, length};
 ghost use Rattle.laws.specs.Pasted.{pasted};
 ghost use Rattle.json_strings.specs.Text.{content_at};
@@ -35,7 +36,7 @@ fn put_part(s: &[u8], p: usize, out: &mut [u8], at: usize, n: usize)
     fill_part(s, p, &mut out[at..at + n]);
 }
 
-// The rand of an entry: zeros for the first.
+// The rand of an entry: zeros for the first, by the flag of `entry_at`.
 fn put_rand(s: &[u8], e: Spot, first: bool, out: &mut [u8], at: usize)
     requires { Writable s.now first e × (at + 32 ≤ length out.old) }
     ensures { out.new ≡ pasted out.old at (padded 32 (entry_at s.now first e.at).rand) }
@@ -58,7 +59,7 @@ fn put_sizes(out: &mut [u8], at: usize, request: u32, response: u32)
     put(out, at + 4, &second);
 }
 
-// The key and the rand.
+// The key and the rand, by the flag of `entry_at`.
 fn put_names(s: &[u8], e: Spot, first: bool, out: &mut [u8], at: usize)
     requires { Writable s.now first e × (at + REQUEST-LENGTH ≤ length out.old) }
     ensures { out.new
@@ -70,7 +71,7 @@ fn put_names(s: &[u8], e: Spot, first: bool, out: &mut [u8], at: usize)
     put_rand(s, e, first, out, at + RAND);
 }
 
-// The two areas.
+// The two areas, by the flag of `entry_at`.
 fn put_packets(s: &[u8], e: Spot, first: bool, out: &mut [u8], at: usize)
     requires { Writable s.now first e × (at + 2 * AREA ≤ length out.old) }
     ensures { out.new
@@ -82,7 +83,7 @@ fn put_packets(s: &[u8], e: Spot, first: bool, out: &mut [u8], at: usize)
     put_part(s, e.response, out, at + AREA, AREA);
 }
 
-// The record of a response object.
+// The record of a response object, by the flag of `entry_at`.
 pub fn put_record(s: &[u8], e: Spot, first: bool, out: &mut [u8], at: usize)
     requires { Writable s.now first e × (at + RECORD ≤ length out.old) }
     ensures { out.new ≡ pasted out.old at (record_of (entry_at s.now first e.at)) }

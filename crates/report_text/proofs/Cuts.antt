@@ -1,4 +1,5 @@
 -- The text of a run that convicts: its records can be written, and the writer's answer is that of the cut.
+use Rattle.std.specs.Prelude.{Err, None, Ok, Option, Result, Some}
 use Prim.Native.Nat.{ℕ, ◌+◌, ◌*◌, ◌-◌, ◌≤◌, ◌<◌}
 use mathlib.Core.Path.{◌≡◌, refl, sym, subst, ◌∙◌, ap}
 use mathlib.Core.Bool.{Bool, true, false, cond}
@@ -15,41 +16,33 @@ use Rattle.refusal.specs.Refusal.{refusal}
 use Rattle.refusal.specs.declared.Refusal.{Refusal}
 use Rattle.pile.specs.Pile.{records_in, record_at}
 use Rattle.pile.specs.Meaning.{GoodPile}
-use Rattle.pile_runs.specs.declared.Span.{Span}
-use Rattle.pile_runs.specs.declared.Span.TheVariants.{Places, Nothing}
 use Rattle.pile_runs.specs.Spans.{Answers}
 use Rattle.pile_report.specs.Taking.{ConvictsIn, code-15, code-18, Takes}
-use Rattle.pile_report.specs.declared.Taken.{Taken}
-use Rattle.pile_report.specs.declared.Taken.TheVariants as taken
 use Rattle.pile_report.proofs.Runs.{takes-once}
-use Rattle.report_write.specs.declared.Published.{Published}
-use Rattle.report_write.specs.declared.Published.TheVariants as published
 use Rattle.report_write.specs.Entries.{text_of}
 use Rattle.report_write.specs.Pieces.{Recorded, Piled, Writable}
 use Rattle.report_write.specs.Published.{published_number}
 use Rattle.report_write.specs.Published.{roomed as publishRoomed}
 use Rattle.report_write.proofs.Piles.{valid-undamaged, record-long, refused-left}
-use Rattle.report_text.specs.declared.Forwarded.{Forwarded}
-use Rattle.report_text.specs.declared.Forwarded.TheVariants.{Text, Refused}
 use Rattle.report_text.specs.Forwarded.{run_roomed, cut_of, CutsText, forwarded_number, forwarded_bytes}
 
 -- ---- what the writer answers, told of the run
-abbrev pub forward_of : ℕ → ℕ → Published → Forwarded
-forward_of i j (published.Text n) = Text i j n
-forward_of i j (published.Refused why k) = Refused why
+abbrev pub forward_of : ℕ → ℕ → Result ℕ (Refusal × ℕ) → Result (ℕ × ℕ × ℕ) Refusal
+forward_of i j (Ok n) = Ok (i, j, n)
+forward_of i j (Err (why, k)) = Err why
 
 answer-of : (i j n : ℕ) (b : Bool)
-    → forward_of i j (cond b (published.Refused (refusal 19) 0) (published.Text n)) ≡ cond b (Refused (refusal 19)) (Text i j n)
+    → forward_of i j (cond b (Err ((refusal 19), 0)) (Ok n)) ≡ cond b (Err (refusal 19)) (Ok (i, j, n))
 answer-of i j n true = refl
 answer-of i j n false = refl
 
 left-of : {to : List ℕ} (i j n : ℕ) (text out : List ℕ) (b : Bool)
-    → to ≡ written (published_number (cond b (published.Refused (refusal 19) 0) (published.Text n))) text out
-    → to ≡ written (forwarded_number (cond b (Refused (refusal 19)) (Text i j n))) text out
+    → to ≡ written (published_number (cond b (Err ((refusal 19), 0)) (Ok n))) text out
+    → to ≡ written (forwarded_number (cond b (Err (refusal 19)) (Ok (i, j, n)))) text out
 left-of i j n text out true h = h
 left-of i j n text out false h = h
 
-pub cut-arm : {p x : Published} {to : List ℕ} (i j : ℕ) (text out : List ℕ) → p ≡ publishRoomed text (length out)
+pub cut-arm : {p x : Result ℕ (Refusal × ℕ)} {to : List ℕ} (i j : ℕ) (text out : List ℕ) → p ≡ publishRoomed text (length out)
     → to ≡ written (published_number p) text out → p ≡ x
     → (forward_of i j x ≡ run_roomed i j text (length out))
     × (to ≡ written (forwarded_number (forward_of i j x)) text out)
@@ -115,32 +108,32 @@ cut-writable pile answers i j g v = (order, (inside, record { piled = piled; few
 -- ---- the answers on a pile
 module _ (pile answers out : List ℕ) where
   -- whatever the cutter refuses
-  cut-refused : (why : Refusal) → Takes pile answers (length pile) (taken.Refused why)
-      → CutsText pile answers (length out) (Refused why) × (out ≡ written why.code [] out)
-  cut-refused why t = (record { cut = taken.Refused why; right = t; answer = refl }, refused-left why out)
+  cut-refused : (why : Refusal) → Takes pile answers (length pile) (Err why)
+      → CutsText pile answers (length out) (Err why) × (out ≡ written why.code [] out)
+  cut-refused why t = (record { cut = Err why; right = t; answer = refl }, refused-left why out)
 
   pub cut-bad : {why : Refusal} → why ≡ refusal 15 → (GoodPile pile answers → ⊥)
-      → CutsText pile answers (length out) (Refused why) × (out ≡ written why.code [] out)
+      → CutsText pile answers (length out) (Err why) × (out ≡ written why.code [] out)
   cut-bad {why} e f = cut-refused why (rw e (code-15 f))
 
   module _ (g : GoodPile pile answers) where
-    pub cut-none : {x : Span} {why : Refusal} → Answers (ConvictsIn pile answers) x → x ≡ Nothing → why ≡ refusal 18
-        → CutsText pile answers (length out) (Refused why) × (out ≡ written why.code [] out)
+    pub cut-none : {x : Option (ℕ × ℕ)} {why : Refusal} → Answers (ConvictsIn pile answers) x → x ≡ None → why ≡ refusal 18
+        → CutsText pile answers (length out) (Err why) × (out ≡ written why.code [] out)
     cut-none {why = why} a e r =
         cut-refused why (rw r (code-18 g (omega arith) (subst (Answers (ConvictsIn pile answers)) e a)))
 
     bytes_of : {to : List ℕ} (i j : ℕ) (b : Bool)
         → to ≡ written
-        (forwarded_number (cond b (Refused (refusal 19)) (Text i j (length (text_of (part (4096 * i) (4096 * j + 4096) pile))))))
+        (forwarded_number (cond b (Err (refusal 19)) (Ok (i, j, (length (text_of (part (4096 * i) (4096 * j + 4096) pile)))))))
         (text_of (part (4096 * i) (4096 * j + 4096) pile)) out
         → to ≡ written
-        (forwarded_number (cond b (Refused (refusal 19)) (Text i j (length (text_of (part (4096 * i) (4096 * j + 4096) pile))))))
-        (forwarded_bytes (cond b (Refused (refusal 19)) (Text i j (length (text_of (part (4096 * i) (4096 * j + 4096) pile))))) pile) out
+        (forwarded_number (cond b (Err (refusal 19)) (Ok (i, j, (length (text_of (part (4096 * i) (4096 * j + 4096) pile)))))))
+        (forwarded_bytes (cond b (Err (refusal 19)) (Ok (i, j, (length (text_of (part (4096 * i) (4096 * j + 4096) pile)))))) pile) out
     bytes_of i j true h = h
     bytes_of i j false h = h
 
-    pub cut-run : {x : Span} {r : Forwarded} {to : List ℕ} (i j : ℕ) → Answers (ConvictsIn pile answers) x
-        → x ≡ Places i j
+    pub cut-run : {x : Option (ℕ × ℕ)} {r : Result (ℕ × ℕ × ℕ) Refusal} {to : List ℕ} (i j : ℕ) → Answers (ConvictsIn pile answers) x
+        → x ≡ Some (i, j)
         → r ≡ run_roomed i j (text_of (part (4096 * i) (4096 * j + 4096) pile)) (length out)
         → to ≡ written (forwarded_number r) (text_of (part (4096 * i) (4096 * j + 4096) pile)) out
         → CutsText pile answers (length out) r × (to ≡ written (forwarded_number r) (forwarded_bytes r pile) out)
@@ -149,7 +142,7 @@ module _ (pile answers out : List ℕ) where
         (forwarded_number (run_roomed i j (text_of (part (4096 * i) (4096 * j + 4096) pile)) (length out)))
         (text_of (part (4096 * i) (4096 * j + 4096) pile)) out = rw h at l in (
           record {
-            cut = taken.Run i j;
+            cut = Ok (i, j);
             right = (
               g,
               omega arith,
@@ -161,7 +154,7 @@ module _ (pile answers out : List ℕ) where
         )
 
 -- one answer only is right
-pub cuts-once : (pile answers : List ℕ) (room : ℕ) (r s : Forwarded) → CutsText pile answers room r
+pub cuts-once : (pile answers : List ℕ) (room : ℕ) (r s : Result (ℕ × ℕ × ℕ) Refusal) → CutsText pile answers room r
     → CutsText pile answers room s → r ≡ s
 cuts-once pile answers room r s p q =
     p.answer ∙ ap (cut_of pile room) (takes-once pile answers (length pile) p.cut q.cut p.right q.right)

@@ -1,8 +1,12 @@
 // From text to text: the shortest run that convicts by itself.
-ghost use Rattle.std.specs.Prelude.{◌≡◌, ◌+◌, ◌*◌, ◌≤◌, length};
+ghost use Rattle.std.specs.Prelude.{◌≡◌, ◌+◌, ◌*◌, ◌≤◌, length, List, ℕ};
 ghost use Rattle.laws.specs.Pasted.{part};
 ghost use Rattle.laws.specs.Written.{written};
 ghost use Rattle.pile.specs.Layout.{RECORD};
+ghost use Rattle.pile.specs.Meaning.{GoodPile};
+ghost use Rattle.pile_report.specs.Taking.{ConvictsIn};
+ghost use Rattle.pile_runs.specs.Spans.{Answers};
+ghost use Rattle.report_text.specs.Facts.{FoundIn};
 ghost use Rattle.report_write.specs.Entries.{text_of};
 ghost use Rattle.report_write.specs.Pieces.{Writable};
 ghost use Rattle.pile_signed.specs.OwnAnswers.{own_answers};
@@ -11,11 +15,10 @@ ghost use Rattle.report_text.specs.Forwarded.{run_roomed, pile_of, CutsText, For
 use super::Forwarded;
 use pile::{RECORD, length_bad, pile_code};
 use pile_report::run_in;
-use pile_runs::Span;
 use pile_signed::signed_run;
 use refusal::{codes, refuse};
-use report_read::{Read, read_report};
-use report_write::{Published, put_report};
+use report_read::read_report;
+use report_write::put_report;
 
 // The text of records i to j, at the front of out. The rand of the first is not written, so that it need not be zero.
 fn put_cut(pile: &[u8], i: usize, j: usize, out: &mut [u8]) -> Forwarded
@@ -28,8 +31,21 @@ fn put_cut(pile: &[u8], i: usize, j: usize, out: &mut [u8]) -> Forwarded
     let a = RECORD * i;
     let e = RECORD * j + RECORD;
     match put_report(&pile[a..e], out) {
-        Published::Text(n) => Forwarded::Text(i, j, n),
-        Published::Refused(why, _) => Forwarded::Refused(why),
+        Ok(n) => Ok((i, j, n)),
+        Err((why, _)) => Err(why),
+    }
+}
+
+// The text of the run that was found in a good pile, or 18 where none was.
+fn put_found(pile: &[u8], found: Option<(usize, usize)>, out: &mut [u8]) -> Forwarded
+    requires { FoundIn pile.now found }
+    ensures cuts { (answers : List ℕ) → GoodPile pile.now answers → Answers (ConvictsIn pile.now answers) found
+        → CutsText pile.now answers (length out.old) result }
+    ensures out_after { out.new ≡ written (forwarded_number result) (forwarded_bytes result pile.now) out.old }
+{
+    match found {
+        None => Err(refuse(codes::NO_CONTRADICTION)),
+        Some((i, j)) => put_cut(pile, i, j, out),
     }
 }
 
@@ -38,14 +54,8 @@ fn cut_pile<'a>(pile: &'a [u8], answers: &'a [u8], out: &mut [u8]) -> Forwarded
     ensures cuts_text { CutsText pile.now answers.now (length out.old) result }
     ensures out_after { out.new ≡ written (forwarded_number result) (forwarded_bytes result pile.now) out.old }
 {
-    let bad = pile_code(pile, answers);
-    if bad.code != 0 {
-        return Forwarded::Refused(bad);
-    }
-    match run_in(pile, answers) {
-        Span::Nothing => Forwarded::Refused(refuse(codes::NO_CONTRADICTION)),
-        Span::Places(i, j) => put_cut(pile, i, j, out),
-    }
+    pile_code(pile, answers)?;
+    put_found(pile, run_in(pile, answers), out)
 }
 
 // Reads the text, cuts the shortest run that convicts by itself out of its records, and writes that run's text. The
@@ -57,8 +67,8 @@ pub fn cut_text<'a>(text: &'a [u8], answers: &'a [u8], out: &mut [u8]) -> Forwar
 {
     let mut pile = [0u8; 65536];
     match read_report(text, &mut pile) {
-        Read::Records(n) => cut_pile(&pile[..n * RECORD], answers, out),
-        Read::Refused(why) => Forwarded::Refused(why),
+        Ok(n) => cut_pile(&pile[..n * RECORD], answers, out),
+        Err(why) => Err(why),
     }
 }
 
@@ -68,15 +78,13 @@ fn cut_signed_pile(pile: &[u8], out: &mut [u8]) -> Forwarded
     ensures out_after { out.new ≡ written (forwarded_number result) (forwarded_bytes result pile.now) out.old }
 {
     if length_bad(pile) {
-        return Forwarded::Refused(refuse(codes::PILE));
+        return Err(refuse(codes::PILE));
     }
-    match signed_run(pile) {
-        Span::Nothing => Forwarded::Refused(refuse(codes::NO_CONTRADICTION)),
-        Span::Places(i, j) => put_cut(pile, i, j, out),
-    }
+    put_found(pile, signed_run(pile), out)
 }
 
-// The same as `cut_text` with no answers lent.
+// The same as `cut_text` with no answers lent. They differ in the one call, which writes `out`: handed in as a closure, it
+// would need a contract that is longer than these lines.
 pub fn cut_signed_text(text: &[u8], out: &mut [u8]) -> Forwarded
     ensures forwards { Forwards text.now (own_answers (pile_of text.now)) (length out.old) result }
     ensures out_after { out.new
@@ -84,7 +92,7 @@ pub fn cut_signed_text(text: &[u8], out: &mut [u8]) -> Forwarded
 {
     let mut pile = [0u8; 65536];
     match read_report(text, &mut pile) {
-        Read::Records(n) => cut_signed_pile(&pile[..n * RECORD], out),
-        Read::Refused(why) => Forwarded::Refused(why),
+        Ok(n) => cut_signed_pile(&pile[..n * RECORD], out),
+        Err(why) => Err(why),
     }
 }

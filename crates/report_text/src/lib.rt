@@ -9,8 +9,4 @@ pub use publishing::write_signed_report;
 use refusal::Refusal;
 
 // The places of the first and the last record of the run, and how long its text is; or why there is none.
-#[derive(Clone, Copy)]
-pub enum Forwarded {
-    Text(usize, usize, usize),
-    Refused(Refusal),
-}
+pub type Forwarded = Result<(usize, usize, usize), Refusal>;

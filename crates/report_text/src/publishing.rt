@@ -4,7 +4,6 @@ ghost use Rattle.laws.specs.Written.{written};
 ghost use Rattle.report_write.specs.Published.{Publishes, published_number, published_bytes};
 ghost use Rattle.pile_signed.specs.OwnAnswers.{own_answers};
 
-use pile_report::Report;
 use pile_signed::check_signed_report;
 use report_write::{Published, put_report};
 
@@ -14,7 +13,7 @@ pub fn write_signed_report(pile: &[u8], out: &mut [u8]) -> Published
     ensures out_after { out.new ≡ written (published_number result) (published_bytes result pile.now) out.old }
 {
     match check_signed_report(pile) {
-        Report::Pair(_, _) => put_report(pile, out),
-        Report::Refused(why, k) => Published::Refused(why, k),
+        Ok((_, _)) => put_report(pile, out),
+        Err((why, k)) => Err((why, k)),
     }
 }

@@ -1,6 +1,7 @@
 -- A text that is read is read again from what we write of it: its entries have the form that the round trip asks for.
-use Prim.Native.Nat.{ℕ, zero, suc, ◌≤◌, ◌<◌}
-use mathlib.Core.Path.{◌≡◌, refl, sym, subst}
+use Rattle.std.specs.Prelude.{None, Option, Some}
+use Prim.Native.Nat.{ℕ, zero, suc, ◌<◌}
+use mathlib.Core.Path.{◌≡◌, refl, sym}
 use mathlib.Core.Bool.{Bool, true, false}
 use mathlib.Core.List.{List, [], ◌∷◌}
 use native.Mathlib.Omega.{arith}
@@ -9,12 +10,9 @@ use lib.Dec.{T, eqb}
 use lib.ListN.{length, replicate, length-replicate}
 use Rattle.laws.specs.Bytes.{Bytes}
 use Rattle.laws.specs.Pick.{pick, either}
-use Rattle.json_tokens.specs.declared.Skip.{Skip}
-use Rattle.json_tokens.specs.declared.Skip.TheVariants.{Past, Bad}
 use Rattle.json_strings.specs.Text.{content_at}
 use Rattle.base64_strict.specs.declared.Group.{Group}
 use Rattle.base64_strict.specs.declared.Group.TheVariants.{Three, Two, One}
-use Rattle.base64_strict.specs.declared.Group.TheVariants.{Bad as BadGroup}
 use Rattle.base64_strict.specs.Alphabet.{sextet_of}
 use Rattle.base64_strict.specs.Decode.{Decoded, bytes, none, with_group, one_of, two_of, three_of, group_of, decode64}
 use Rattle.base64_strict.proofs.Tables.{back-letter}
@@ -36,13 +34,13 @@ more_bytes : {x : ℕ} (xs : List ℕ) → x < 256 → Bytes xs → Bytes (x ∷
 more_bytes xs h b zero = h
 more_bytes xs h b (suc k) = b k
 
-abbrev Of256 : Group → Type 0
-Of256 (Three x y z) = (x < 256) × ((y < 256) × (z < 256))
-Of256 (Two x y) = (x < 256) × (y < 256)
-Of256 (One x) = x < 256
-Of256 BadGroup = T true
+abbrev Of256 : Option Group → Type 0
+Of256 (Some (Three x y z)) = (x < 256) × ((y < 256) × (z < 256))
+Of256 (Some (Two x y)) = (x < 256) × (y < 256)
+Of256 (Some (One x)) = x < 256
+Of256 None = T true
 
-by-pick : (b : Bool) (x y : Group) → (b ≡ true → Of256 x) → (b ≡ false → Of256 y) → Of256 (pick b x y)
+by-pick : (b : Bool) (x y : Option Group) → (b ≡ true → Of256 x) → (b ≡ false → Of256 y) → Of256 (pick b x y)
 unfolding pick
 by-pick true x y f g = f refl
 by-pick false x y f g = g refl
@@ -64,15 +62,15 @@ abbrev All : Decoded → Type 0
 All (bytes x) = Bytes x
 All none = T true
 
-joined_bytes : (g : Group) (l : List ℕ) (d : Decoded) → Of256 g → All d → All (with_group g l d)
-joined_bytes (Three x y z) l (bytes m) h a =
+joined_bytes : (g : Option Group) (l : List ℕ) (d : Decoded) → Of256 g → All d → All (with_group g l d)
+joined_bytes (Some (Three x y z)) l (bytes m) h a =
     more_bytes (y ∷ z ∷ m) h.0 (more_bytes (z ∷ m) h.1.0 (more_bytes m h.1.1 a))
-joined_bytes (Three x y z) l none h a = tt
-joined_bytes (Two x y) [] d h a = more_bytes (y ∷ []) h.0 (more_bytes [] h.1 no_bytes)
-joined_bytes (Two x y) (c ∷ l) d h a = tt
-joined_bytes (One x) [] d h a = more_bytes [] h no_bytes
-joined_bytes (One x) (c ∷ l) d h a = tt
-joined_bytes BadGroup l d h a = tt
+joined_bytes (Some (Three x y z)) l none h a = tt
+joined_bytes (Some (Two x y)) [] d h a = more_bytes (y ∷ []) h.0 (more_bytes [] h.1 no_bytes)
+joined_bytes (Some (Two x y)) (c ∷ l) d h a = tt
+joined_bytes (Some (One x)) [] d h a = more_bytes [] h no_bytes
+joined_bytes (Some (One x)) (c ∷ l) d h a = tt
+joined_bytes None l d h a = tt
 
 pub decode-bytes : (x : List ℕ) → All (decode64 x)
 unfolding decode64
@@ -88,9 +86,9 @@ unfolding held
 held_bytes (bytes x) a = a
 held_bytes none a = no_bytes
 
-at-bytes : (s : List ℕ) (p : Skip) → All (decoded_at s p)
-at-bytes s (Past p) = decode-bytes (content_at s p)
-at-bytes s Bad = tt
+at-bytes : (s : List ℕ) (p : Option ℕ) → All (decoded_at s p)
+at-bytes s (Some p) = decode-bytes (content_at s p)
+at-bytes s None = tt
 
 member-bytes : (s : List ℕ) (k : ℕ) (w : List ℕ) → Bytes (held (member_of s k w))
 unfolding member_of
@@ -155,10 +153,10 @@ unfolding pick
 picked s ks true e es a h = let q : entries_at s true ks ≡ e ∷ es = cc in listed-fine s ks e es a q
 picked s ks false e es a h = let z : ◌≡◌ {A = ℕ} 0 1 = cc in absurd (omega arith)
 
-read-fine : (s : List ℕ) (p : Skip) (e : Entry) (es : List Entry) → entries_from s p ≡ these (e ∷ es) → Fine true e es
+read-fine : (s : List ℕ) (p : Option ℕ) (e : Entry) (es : List Entry) → entries_from s p ≡ these (e ∷ es) → Fine true e es
 unfolding entries_from
-read-fine s (Past v) e es h = picked s (elements_of s 14 v) _ e es refl h
-read-fine s Bad e es h = let z : ◌≡◌ {A = ℕ} 0 1 = cc in absurd (omega arith)
+read-fine s (Some v) e es h = picked s (elements_of s 14 v) _ e es refl h
+read-fine s None e es h = let z : ◌≡◌ {A = ℕ} 0 1 = cc in absurd (omega arith)
 
 -- the entries of a text that is a report have that form
 pub text-fine : (s : List ℕ) (e : Entry) (es : List Entry) → entries_of s ≡ these (e ∷ es) → Fine true e es

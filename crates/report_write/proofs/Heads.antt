@@ -2,14 +2,14 @@
 use Prim.Native.Nat.{ℕ, ◌+◌, ◌≤◌}
 use mathlib.Core.Path.{◌≡◌, sym}
 use mathlib.Core.Bool.{Bool, true, false}
-use mathlib.Core.List.{List, [], ◌∷◌, ◌++◌}
+use mathlib.Core.List.{List}
 use lib.ListN.{length}
 use Rattle.laws.specs.Written.{Puts}
 use Rattle.laws.proofs.Written.{puts-more}
 use Rattle.pile.specs.Pile.{key_in, rand_in, request_packet, response_packet}
 use Rattle.report_write.specs.Entries.{entry_of}
 use Rattle.report_write.specs.Pieces.{first_word, rand_word, key_word, request_word, response_word}
-use Rattle.report_write.specs.Pieces.{piece, head_of, packets_of, object_text}
+use Rattle.report_write.specs.Pieces.{piece, head_of, packets_of}
 use Rattle.report_write.proofs.Puts.{left-fits, right-fits}
 
 module _ (r : List ℕ) (at : ℕ) {first : Bool} where

@@ -1,10 +1,12 @@
 -- The loops over the records: what is written, and how long it will be.
 use Prim.Native.Nat.{ℕ, zero, suc, ◌+◌, ◌*◌, ◌-◌, ◌≤◌, ◌<◌}
-use mathlib.Core.Path.{◌≡◌, refl, sym, ◌∙◌, ap}
+use mathlib.Core.Path.{◌≡◌, refl, sym, subst, ◌∙◌, ap}
 use mathlib.Core.Bool.{Bool, true, false}
 use mathlib.Core.List.{List, [], ◌∷◌, ◌++◌, append-nil}
 use native.Mathlib.Omega.{arith}
 use native.Mathlib.Nat.{not-suc-le-zero}
+use borrow.Author.Tests.{ne_eqb}
+use lib.Dec.{eqb}
 use lib.ListN.{length, take, drop, length-append, length-take, length-drop, drop_of_length-le}
 use lib.Seq.{take_all, drop-drop}
 use Rattle.laws.specs.Ascii.{ascii}
@@ -15,7 +17,7 @@ use Rattle.pile.specs.Pile.{record_at}
 use Rattle.report_write.specs.Entries.{entry_of, entries_in}
 use Rattle.report_write.specs.Text.{entries_text, json_of}
 use Rattle.report_write.specs.Pieces.{object_text, list_text, Fits, Recorded, Piled}
-use Rattle.report_write.proofs.Objects.{object-is, fixed, object-most}
+use Rattle.report_write.proofs.Objects.{object-is, object-most}
 
 abbrev pub opening : List ℕ
 opening = ascii "{\"responses\":["
@@ -78,6 +80,23 @@ pub putting-first : (p was : List ℕ) (n : ℕ) → Piled p 0 n → length (lis
     → Putting p (list_text p true n 0) was true 0 n 0 was
 putting-first p was n s h = record { filled = filled-first (list_text p true n 0) was h; piled = s }
 
+-- the same state in other words
+pub putting-as : {p E was : List ℕ} {f g : Bool} {k j n m at : ℕ} {out : List ℕ} → Putting p E was f k n at out → f ≡ g
+    → k ≡ j → n ≡ m → Putting p E was g j m at out
+putting-as {p} {E} {was} {f} {g} {k} {j} {n} {m} {at} {out} s a b c =
+    subst (λ (x : ℕ). Putting p E was g j x at out) c
+    (subst (λ (x : ℕ). Putting p E was g x n at out) b (subst (λ (x : Bool). Putting p E was x k n at out) a s))
+
+pub putting-next : {p E was : List ℕ} {at : ℕ} {out : List ℕ} (k last : ℕ) → Putting p E was false (k + 1) (last + 1 - k - 1) at out
+    → Putting p E was (eqb (k + 1) 0) (k + 1) (last + 1 - (k + 1)) at out
+putting-next k last s = putting-as s (sym (ne_eqb (k + 1) 0 (λ e. omega (arith, e)))) refl (omega arith)
+
+pub putting-last : {p E was : List ℕ} {k last at : ℕ} {out : List ℕ} → Putting p E was (eqb k 0) k (last + 1 - k) at out
+    → last ≤ k → Putting p E was (eqb last 0) last 1 at out
+putting-last {k = k} {last = last} s h =
+    let e : k ≡ last = omega (arith, s.piled.some_left) in
+    putting-as s (ap (λ (x : ℕ). eqb x 0) e) e (omega arith)
+
 module _ {p E was : List ℕ} {first : Bool} {k n at : ℕ} {out : List ℕ} (s : Putting p E was first k n at out) where
   pub putting-here : Recorded p k
   putting-here = piled-here s.piled
@@ -136,6 +155,24 @@ sizing-first p n s =
     let e = ap length (json-is p n s.some_left) in
     let l = length-append opening (list_text p true n 0) in
     record { sum = omega arith; bound = omega arith; piled = s }
+
+-- the same state in other words
+pub sizing-as : {p : List ℕ} {total most : ℕ} {f g : Bool} {k j n m size sum : ℕ} → Sizing p total most f k n size → f ≡ g
+    → k ≡ j → n ≡ m → size ≡ sum → Sizing p total most g j m sum
+sizing-as {p} {total} {most} {f} {g} {k} {j} {n} {m} {size} {sum} s a b c d =
+    subst (λ (x : ℕ). Sizing p total most g j m x) d
+    (subst (λ (x : ℕ). Sizing p total most g j x size) c
+    (subst (λ (x : ℕ). Sizing p total most g x n size) b (subst (λ (x : Bool). Sizing p total most x k n size) a s)))
+
+pub sizing-next : {p : List ℕ} {total most : ℕ} (k last size x : ℕ) → Sizing p total most false (k + 1) (last + 1 - k - 1) (size + x + 1)
+    → Sizing p total most (eqb (k + 1) 0) (k + 1) (last + 1 - (k + 1)) (size + (x + 1))
+sizing-next k last size x s = sizing-as s (sym (ne_eqb (k + 1) 0 (λ e. omega (arith, e)))) refl (omega arith) (omega arith)
+
+pub sizing-end : {p : List ℕ} {total most k last size : ℕ} → Sizing p total most (eqb k 0) k (last + 1 - k) size → last ≤ k
+    → Sizing p total most (eqb last 0) last 1 size
+sizing-end {k = k} {last = last} s h =
+    let e : k ≡ last = omega (arith, s.piled.some_left) in
+    sizing-as s (ap (λ (x : ℕ). eqb x 0) e) e (omega arith) refl
 
 module _ {p : List ℕ} {total most : ℕ} {first : Bool} {k n size : ℕ} (s : Sizing p total most first k n size) where
   pub sizing-here : Recorded p k

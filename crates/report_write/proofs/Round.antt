@@ -1,4 +1,5 @@
 -- The round trip: what is written is read again. `entries_of (json_of es)` are es.
+use Rattle.std.specs.Prelude.{Option, Some}
 use Prim.Native.Nat.{ℕ, suc, ◌+◌}
 use mathlib.Core.Path.{◌≡◌, refl, sym, ◌∙◌, ap}
 use mathlib.Core.Bool.{Bool, true, false}
@@ -9,8 +10,6 @@ use borrow.Author.Tests.{eq-eqb}
 use lib.ListN.{length, drop, replicate, length-drop}
 use lib.Seq.{drop-drop, drop-append_seam}
 use Rattle.laws.specs.Pick.{pick, either, both}
-use Rattle.json_tokens.specs.declared.Skip.{Skip}
-use Rattle.json_tokens.specs.declared.Skip.TheVariants.{Past}
 use Rattle.json_tokens.specs.declared.Step.TheVariants.{End}
 use Rattle.json_values.specs.declared.Found.TheVariants.{At}
 use Rattle.json_tokens.specs.Scan.{then, then_step, blank, past_while, after}
@@ -56,9 +55,9 @@ module _ {s : List ℕ} {k : ℕ} where
   again-as h e = record { is = h.is ∙ e }
 
 -- what a reader read is followed by the text t
-record Passes (s t : List ℕ) (r : Skip) : Type 0 where
+record Passes (s t : List ℕ) (r : Option ℕ) : Type 0 where
   end : ℕ
-  is : r ≡ Past end
+  is : r ≡ Some end
   ends : Ends s end t
 
 -- ---- A member whose value is a string.
@@ -79,7 +78,7 @@ module _ {s : List ℕ} {k : ℕ} (name x t : List ℕ) (h : Ends s k (34 ∷ (n
   member-turn d a b =
       let e : k + length name + 3 + length x + 2 ≡ k + length name + length x + 5 = omega arith in
       member-reads (value_at s d) name 34 (x ++ 34 ∷ t) a (stands h) refl (value-string d x t b (stands value-place)
-      ∙ ap Past e)
+      ∙ ap Some e)
 
 member-next : {s : List ℕ} {k : ℕ} (name x t : List ℕ) → Ends s k (34 ∷ (name ++ 34 ∷ 58 ∷ 34 ∷ (x ++ 34 ∷ 44 ∷ t)))
     → Ends s (k + length name + length x + 6) t
@@ -368,7 +367,7 @@ module _ (e : Entry) (es : List Entry) (w : Fine true e es) where
   list : Listed (whole_text e es) true 14 (e ∷ es) (125 ∷ [])
   list = listed true e es (125 ∷ []) w (record { is = refl })
 
-  array : value_at (whole_text e es) 15 13 ≡ Past list.passes.end
+  array : value_at (whole_text e es) 15 13 ≡ Some list.passes.end
   array =
       array-value {k = 13} 14 (first_tail e es (125 ∷ []))
       (record { is = ap (λ l. 91 ∷ l) (opened-first e es (125 ∷ [])) }) ∙ list.passes.is
@@ -380,7 +379,7 @@ module _ (e : Entry) (es : List Entry) (w : Fine true e es) where
       (entries_text true e es (125 ∷ [])) responses-each (stands {k = 1} (record { is = refl })) refl array
       ∙ close-reads (stands list.passes.ends) refl
 
-  root : value_at (whole_text e es) 16 0 ≡ Past (list.passes.end + 1)
+  root : value_at (whole_text e es) 16 0 ≡ Some (list.passes.end + 1)
   root =
       object-value {k = 0} 15 (responses_name ++ 34 ∷ 58 ∷ body_text e es) (record { is = refl })
       ∙ sym (walked_end (length (whole_text e es))
@@ -423,7 +422,7 @@ module _ (e : Entry) (es : List Entry) (w : Fine true e es) where
       (rw (starts-end (length (whole_text e es)) (member_step (whole_text e es) (value_at (whole_text e es) 15)) 1 refl turn)
       (rw (named-one, place-one) refl))
 
-  place : list_place (whole_text e es) ≡ Past 13
+  place : list_place (whole_text e es) ≡ Some 13
   unfolding list_place list_of pick
   place = rw (is-text, no-blank-0) (rw found refl)
 

@@ -1,33 +1,30 @@
 -- What is written is read as the same bytes: a report turned to JSON and back is the same pile; and a text that is
 -- read,
 -- written from its records and read again has the same entries.
-use Prim.Native.Nat.{ℕ, zero, suc, ◌+◌, ◌*◌, ◌-◌, ◌/◌, ◌≤◌, ◌<◌}
-use mathlib.Core.Path.{◌≡◌, refl, sym, subst, ◌∙◌, ap, ap₂}
-use mathlib.Core.Bool.{Bool, true, false, not}
+use Rattle.std.specs.Prelude.{Ok}
+use Prim.Native.Nat.{ℕ, zero, suc, ◌+◌, ◌*◌, ◌-◌, ◌≤◌, ◌<◌}
+use mathlib.Core.Path.{◌≡◌, refl, sym, ◌∙◌, ap, ap₂}
+use mathlib.Core.Bool.{Bool, true, false}
 use mathlib.Core.List.{List, [], ◌∷◌, ◌++◌, append_assoc}
 use native.Mathlib.Nat.{not-suc-le-zero}
 use native.Mathlib.Omega.{arith}
-use borrow.Author.Tests.{le-ltb, lt-ltb, ne_eqb, eq-eqb, ltb-false}
-use lib.Dec.{T, eqb, ltb}
-use lib.ListN.{length, take, drop, get_or, replicate, length-append, length-take, length-drop}
-use lib.Seq.{take_at, drop_at, get_or-take, get_or-drop}
+use borrow.Author.Tests.{le-ltb, ne_eqb, ltb-false}
+use lib.ListN.{length, take, drop, get_or, replicate, length-append}
+use lib.Seq.{take_at, drop_at}
 use Rattle.laws.specs.Bytes.{Bytes}
 use Rattle.laws.specs.Pasted.{part}
 use Rattle.laws.specs.Pick.{pick, either}
 use Rattle.laws.proofs.Bytes.{bytes_take, bytes_drop}
 use Rattle.laws.proofs.Pasted.{length_part}
-use Rattle.report_read.specs.Entry.{Entry, Entries, these, entries_of}
+use Rattle.report_read.specs.Entry.{Entry, these, entries_of}
 use Rattle.report_read.specs.Read.{is_big, any_big, read_of, pile_bytes}
 use Rattle.report_read.specs.Record.{record_of, records_of}
-use Rattle.report_read.specs.declared.Read.TheVariants.{Records}
 use Rattle.report_read.proofs.Elements.{neither_left, neither_right}
 use Rattle.pile.specs.Pile.{records_in, record_at, request_length, response_length, request_packet, response_packet}
 use Rattle.pile.specs.Meaning.{Undamaged, WholePile}
 use Rattle.pile.proofs.Exactly.{rand-exactly}
-use Rattle.pile.specs.Links.{first_rand_zero}
 use Rattle.pile_runs.specs.Clash.{valid}
 use Rattle.pile_report.specs.Report.{judged, joined, Reports}
-use Rattle.pile_report.specs.declared.Report.TheVariants.{Pair}
 use Rattle.pile_report.proofs.Says.{not-not}
 use Rattle.pile_report.proofs.Exactly.{joined-first}
 use Rattle.laws.proofs.Holds.{holds-exactly}
@@ -48,7 +45,7 @@ record Sound (pile : List ℕ) : Type 0 where
   undamaged : (k : ℕ) → k < records_in pile → Undamaged (record_at pile k)
   zero-rand : (i : ℕ) → 32 ≤ i → i < 64 → get_or (record_at pile 0) i 0 ≡ 0
 
-sound : (pile answers : List ℕ) (i j : ℕ) → Bytes pile → Reports pile answers (Pair i j) → Sound pile
+sound : (pile answers : List ℕ) (i j : ℕ) → Bytes pile → Reports pile answers (Ok (i, j)) → Sound pile
 sound pile answers i j b r = record {
   are = b;
   whole = r.0.pile-whole;
@@ -141,7 +138,7 @@ module _ (pile : List ℕ) (s : Sound pile) where
   unfolding pile_bytes
   bytes_back = rw entries-back (records-pile pile s.are (omega (arith, s.whole.exact)) (λ k h. s.undamaged k h))
 
-  count-back : (room : ℕ) → length pile ≤ room → read_of (entries_of (text_of pile)) room ≡ Records (records_in pile)
+  count-back : (room : ℕ) → length pile ≤ room → read_of (entries_of (text_of pile)) room ≡ Ok (records_in pile)
   unfolding read_of pick
   count-back room h =
       let l = entries-long (records_in pile) 0 in
@@ -158,9 +155,9 @@ module _ (pile : List ℕ) (s : Sound pile) where
       ) refl)
 
 -- a report turned to JSON and back: the same pile, byte for byte, and as many records
-pub report-back : (pile answers : List ℕ) (i j room : ℕ) → Bytes pile → Reports pile answers (Pair i j)
+pub report-back : (pile answers : List ℕ) (i j room : ℕ) → Bytes pile → Reports pile answers (Ok (i, j))
     → length pile ≤ room
-    → (read_of (entries_of (text_of pile)) room ≡ Records (records_in pile)) ×
+    → (read_of (entries_of (text_of pile)) room ≡ Ok (records_in pile)) ×
     (pile_bytes (entries_of (text_of pile)) ≡ pile)
 report-back pile answers i j room b r h =
     let s = sound pile answers i j b r in (count-back pile s room h, bytes_back pile s)

@@ -20,8 +20,4 @@ pub const LONGEST: usize = 87_609;
 
 // How long the text is that stands at the front of the buffer; or why there is none, and the place of the record that
 // is to blame, as the check of a report says it, 0 where none is.
-#[derive(Clone, Copy)]
-pub enum Published {
-    Text(usize),
-    Refused(Refusal, usize),
-}
+pub type Published = Result<usize, (Refusal, usize)>;

@@ -15,23 +15,18 @@ fn put_list(out: &mut [u8], p: &[u8], n: usize)
     requires { Piled p.now 0 n × (length (list_text p.now true n 0) ≤ length out.old) }
     ensures { out.new ≡ fronted (list_text p.now true n 0) out.old }
 {
+    let last = n - 1;
     let mut at = 0;
-    let mut k = 0;
-    let mut first = true;
-    let mut left = n;
-    loop {
+    // A range of records: behind the last stands the bracket, and no comma.
+    for k in 0..last {
         let r = record_at(p, k);
-        at = put_object(out, at, r, first);
-        if left == 1 {
-            put(out, at, b"]}");
-            return;
-        }
+        at = put_object(out, at, &r, k == 0);
         put(out, at, b",");
         at += 1;
-        k += 1;
-        first = false;
-        left -= 1;
     }
+    let r = record_at(p, last);
+    let end = put_object(out, at, &r, last == 0);
+    put(out, end, b"]}");
 }
 
 // The text of the first n records, at the front of out.

@@ -9,7 +9,7 @@ use super::Published;
 use super::listing::put_text;
 use super::sizing::text_size;
 use pile::RECORD;
-use pile_report::{Report, check_report};
+use pile_report::check_report;
 use refusal::{codes, refuse};
 
 // The text of a pile, at the front of out, where its records can be written at all: what is done once a check has
@@ -22,10 +22,10 @@ pub fn put_report(pile: &[u8], out: &mut [u8]) -> Published
     let n = pile.len() / RECORD;
     let size = text_size(pile, n);
     if out.len() < size {
-        return Published::Refused(refuse(codes::ROOM), 0);
+        return Err((refuse(codes::ROOM), 0));
     }
     put_text(out, pile, n);
-    Published::Text(size)
+    Ok(size)
 }
 
 // The text of a report, at the front of out.
@@ -34,7 +34,7 @@ pub fn write_report<'a>(pile: &'a [u8], answers: &'a [u8], out: &mut [u8]) -> Pu
     ensures out_after { out.new ≡ written (published_number result) (published_bytes result pile.now) out.old }
 {
     match check_report(pile, answers) {
-        Report::Pair(_, _) => put_report(pile, out),
-        Report::Refused(why, k) => Published::Refused(why, k),
+        Ok((_, _)) => put_report(pile, out),
+        Err((why, k)) => Err((why, k)),
     }
 }

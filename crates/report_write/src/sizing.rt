@@ -5,7 +5,7 @@ ghost use Rattle.report_write.specs.Pieces.{object_text, Fits, Piled};
 ghost use Rattle.report_write.specs.Text.{json_of};
 
 use super::{CLOSING, OPENING};
-use pile::{record_at, request_of, response_of};
+use pile::{RecordBytes, record_at};
 
 // What is fixed in the first object, {"publicKey":"","request":"","response":""} with 44 characters of its key,
 const FIRST: usize = 87;
@@ -13,13 +13,14 @@ const FIRST: usize = 87;
 // and in a later one, which has "rand":"", with 44 more of its rand besides.
 const LATER: usize = 141;
 
-// The length of a record's object: what is fixed in it, and its two packets in base64.
-fn object_size(r: &[u8], first: bool) -> usize
-    requires { Fits r.now }
-    ensures { (result ≡ length (object_text first (entry_of r.now))) × (result ≤ 5477) }
+// The length of a record's object: what is fixed in it, and its two packets in base64. `first` is the flag of the
+// definition `object_text`: the object of the first record has no rand.
+fn object_size(r: &RecordBytes<'_>, first: bool) -> usize
+    requires { Fits r.now.bytes.now }
+    ensures { (result ≡ length (object_text first (entry_of r.now.bytes.now))) × (result ≤ 5477) }
 {
-    let q = (request_of(r).len() + 2) / 3 * 4;
-    let a = (response_of(r).len() + 2) / 3 * 4;
+    let q = (r.request().len() + 2) / 3 * 4;
+    let a = (r.response().len() + 2) / 3 * 4;
     if first {
         return FIRST + q + a;
     }
@@ -31,18 +32,13 @@ pub fn text_size(p: &[u8], n: usize) -> usize
     requires { Piled p.now 0 n × (n ≤ 16) }
     ensures { result ≡ length (json_of (entries_in n p.now 0)) }
 {
+    let last = n - 1;
     let mut size = OPENING;
-    let mut k = 0;
-    let mut first = true;
-    let mut left = n;
-    loop {
-        size += object_size(record_at(p, k), first);
-        if left == 1 {
-            return size + CLOSING;
-        }
-        size += 1;
-        k += 1;
-        first = false;
-        left -= 1;
+    // A range of records: behind the last stands no comma.
+    for k in 0..last {
+        let r = record_at(p, k);
+        size += object_size(&r, k == 0) + 1;
     }
+    let r = record_at(p, last);
+    size + object_size(&r, last == 0) + CLOSING
 }

@@ -1,8 +1,10 @@
 -- The depth of a tree grows with its leaves.
 use mathlib.Core.Path.{◌≡◌, refl, subst}
-use Prim.Native.Nat.{ℕ, zero, suc, ◌-◌, ◌≤◌}
+use Prim.Native.Nat.{ℕ, zero, suc, ◌*◌, ◌-◌, ◌^◌, ◌≤◌, ◌<◌}
 use native.Mathlib.Omega.{arith}
+use lib.Pow.{pow_mono}
 use Rattle.laws.specs.Least.{least}
+use Rattle.laws.proofs.Split.{split}
 use Rattle.tree.specs.Tree.{depth_of}
 use Rattle.tree.proofs.Width.{bits_of}
 use Rattle.tree_build.specs.Leaves.{most}
@@ -19,3 +21,11 @@ depth-mono (suc m) n h g =
     let e : m ≡ suc m - 1 = omega arith in
     subst (λ (d : ℕ). d ≤ depth_of n) (depth-of b e (omega arith))
     (b.least (depth_of n) (omega (arith, depth-holds n (omega arith) g)))
+
+-- A tree whose rows have room is no deeper than 64.
+pub depth-fits : (d r : ℕ) → 32 * (2 ^ suc d - 1) ≤ r → r < 2 ^ 64 → d ≤ 64
+depth-fits d r h g =
+    split d 64 (λ e. e)
+    (λ e.
+    let more : 2 ^ 65 ≤ 2 ^ suc d = pow_mono {i = 65} (omega arith) in
+    absurd (omega (arith, h, g, more)))

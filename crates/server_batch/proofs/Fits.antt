@@ -1,16 +1,17 @@
 -- How many siblings are enough: by each way out of the test, by the marks and by the batch; the least such number, and
 -- what is known of it.
+use Rattle.std.specs.Prelude.{Option, Some, None, MatchOption, unwrap_or}
 use mathlib.Core.Bool.{Bool, true, false}
 use mathlib.Core.List.{List}
 use mathlib.Core.Path.{◌≡◌, refl, sym, ap, ◌∙◌}
-use Prim.Native.Nat.{ℕ, zero, ◌+◌, ◌*◌, ◌≤◌, ◌<◌}
+use Prim.Native.Nat.{ℕ, ◌+◌, ◌*◌, ◌≤◌, ◌<◌}
 use native.Mathlib.Omega.{arith}
 use borrow.Author.Tests.{le-leb, leb-true}
 use lib.Dec.{leb}
 use lib.ListN.{length}
 use Rattle.laws.specs.Least.{least}
 use Rattle.laws.proofs.Holds.{holds-exactly}
-use Rattle.laws.proofs.Least.{least-le, least-same, least_first}
+use Rattle.laws.proofs.Least.{least-le, least-same, least_first, least-found, least-all}
 use Rattle.laws.proofs.Split.{split}
 use Rattle.tree.specs.Tree.{depth_of}
 use Rattle.tree_build.specs.Leaves.{most}
@@ -69,3 +70,12 @@ module _ (b : Batch) (c : ℕ) where
   pub longest-enough : count b ≤ most → 264 + 32 * depth_of (answers b (longest b c)) + c ≤ longest b c
   unfolding longest
   longest-enough few = omega (arith, enough-there few)
+
+-- ---- The first that is enough, as `find` answers it
+
+pub found-first : (p : ℕ → Bool) (n : ℕ) (r : Option ℕ)
+    → MatchOption r ((k : ℕ) → 0 ≤ k → k < n → p k ≡ false)
+    (λ i. (0 ≤ i) × (i < n) × (p i ≡ true) × ((k : ℕ) → 0 ≤ k → k < i → p k ≡ false))
+    → unwrap_or r n ≡ least p n
+found-first p n (Some i) (a, h, t, f) = least-found p i n (least-all p i (λ k g. f k (omega arith) g)) t h
+found-first p n None f = sym (least-all p n (λ k g. f k (omega arith) g))

@@ -1,11 +1,12 @@
 -- Which packets are meant for the server, by each way out.
-use mathlib.Core.Bool.{Bool, true, false}
+use mathlib.Core.Bool.{Bool, true, false, cond}
 use mathlib.Core.List.{List}
 use mathlib.Core.Path.{◌≡◌, refl, sym, ap, ◌∙◌}
 use Prim.Native.Nat.{ℕ, ◌+◌, ◌*◌, ◌≤◌, ◌<◌}
 use native.Mathlib.Nat.{mul-le-mul_left, mul-suc}
 use native.Mathlib.Omega.{arith}
 use borrow.Author.Tests.{le-leb, lt-leb, leb-true, eqb-true}
+use mir.Val.{bool_byte}
 use lib.ListN.{length, drop, get_or, length-drop}
 use lib.Seq.{length-take-le}
 use Rattle.laws.specs.Same.{same}
@@ -42,6 +43,11 @@ module _ (b : Batch) (i : ℕ) {n : ℕ} (size : n ≡ size_at b i) where
   meant-short h e q = simp (le-leb (size_at b i) b.slot (rw size at h)) (q ∙ ap (meant_for b.srv) e)
 
 -- ---- What is marked
+
+-- a mark, as code has it
+pub mark-is : (t : Bool) → bool_byte t ≡ cond t 1 0
+mark-is true = refl
+mark-is false = refl
 
 -- whether a packet is answered, as code finds out
 pub stay-is : (marks lengths : List ℕ) (least i : ℕ) {n : ℕ} {t : Bool} → t ≡ stay_test (get_or marks i 0) n least

@@ -1,6 +1,6 @@
 -- What the call answers and leaves (draft 19, 5.2 and 5.3; the order of the codes is 7, 4 to 7 of CERT, 35, 11, 20,
 -- 19).
-use Rattle.std.specs.Prelude.{Bool, not, cond, List, [], ◌∷◌, ◌≡◌, ℕ, zero, suc, ◌+◌, ◌*◌, eqb, ltb, length}
+use Rattle.std.specs.Prelude.{Bool, not, cond, List, [], ◌∷◌, ◌≡◌, ℕ, zero, suc, ◌+◌, ◌*◌, eqb, ltb, length, Err, Ok, Result}
 use Rattle.laws.specs.Any.{any}
 use Rattle.laws.specs.Flat.{flat}
 use Rattle.laws.specs.Pasted.{pasted, fronted}
@@ -20,8 +20,6 @@ use Rattle.wire_request.specs.Texts.{response_context}
 use Rattle.server_parts.specs.Signed.{srep_bytes, radius_code}
 use Rattle.server_response.specs.Refusing.{dele_of, cert_code, midp_outside}
 use Rattle.server_batch.specs.Batch.{Batch, count, answered_at, answers, leaves, root_in, longest, answer_at}
-use Rattle.server_batch.specs.declared.BatchAnswer.{BatchAnswer}
-use Rattle.server_batch.specs.declared.BatchAnswer.TheVariants.{Answered, Refused}
 
 -- ---- What is refused, before anything is written
 
@@ -69,13 +67,13 @@ batch_code b cert seed midp radi rows out room lengths =
 -- ---- What is answered
 
 -- how many packets were answered, or why nothing was written
-unfoldable pub batch_answer : Batch → List ℕ → Refusal → BatchAnswer
-batch_answer b cert why = cond (eqb why.code 0) (Answered (answers b (longest b (length cert)))) (Refused why)
+unfoldable pub batch_answer : Batch → List ℕ → Refusal → Result ℕ Refusal
+batch_answer b cert why = cond (eqb why.code 0) (Ok (answers b (longest b (length cert)))) (Err why)
 
 -- document 01's number of an answer, 0 where nothing is refused
-abbrev pub batch_number : BatchAnswer → ℕ
-batch_number (Answered n) = 0
-batch_number (Refused why) = why.code
+abbrev pub batch_number : Result ℕ Refusal → ℕ
+batch_number (Ok n) = 0
+batch_number (Err why) = why.code
 
 -- what a buffer holds after a call with this number: what is left where it is 0, and else what it held before
 abbrev pub left_by : ℕ → List ℕ → List ℕ → List ℕ

@@ -6,8 +6,7 @@ ghost use Rattle.tree_build.specs.Leaves.{most};
 ghost use Rattle.server_batch.specs.Picking.{how_many};
 ghost use Rattle.server_batch.specs.Steps.{stay_at, enough_in};
 
-use super::marking::wide;
-use super::measuring::length_of;
+use super::choosing::stays;
 use tree_build::depth;
 
 // How many bytes an answer has with a path of d siblings and a CERT of c bytes.
@@ -15,7 +14,7 @@ pub fn answer_length(d: u32, c: usize) -> usize
     requires { 264 + 32 * d + c < 2 ^ 64 }
     ensures { result ≡ 264 + 32 * d + c }
 {
-    264 + 32 * wide(d) + c
+    264 + 32 * d as usize + c
 }
 
 // How many packets are answered, where an answer may have as many bytes as `size`.
@@ -24,10 +23,9 @@ fn count_long(lengths: &[u32], marks: &[u32], size: usize) -> usize
     ensures { result ≡ how_many (stay_at marks.now lengths.now size) (length lengths.now) }
 {
     let mut k: usize = 0;
-    let mut i: usize = 0;
-    while i < lengths.len() {
-        k += wide(length_of(marks[i], wide(lengths[i]), size, 1));
-        i += 1;
+    // By index: as `filter` and `count` over a `zip` of both slices the proof does not close.
+    for i in 0..lengths.len() {
+        k += usize::from(stays(marks[i], lengths[i] as usize, size));
     }
     k
 }
@@ -38,10 +36,7 @@ fn enough_with(lengths: &[u32], marks: &[u32], c: usize, d: u32) -> bool
     ensures { result ≡ enough_in marks.now lengths.now c d }
 {
     let k = count_long(lengths, marks, answer_length(d, c));
-    if k == 0 {
-        return true;
-    }
-    depth(k) <= d
+    k == 0 || depth(k) <= d
 }
 
 // The least number of siblings that is enough.
@@ -53,14 +48,9 @@ fn siblings(lengths: &[u32], marks: &[u32], c: usize) -> u32
     ensures { result ≡ least (enough_in marks.now lengths.now c) (depth_of (length lengths.now)) }
 {
     let last = depth(lengths.len());
-    let mut d: u32 = 0;
-    while d < last {
-        if enough_with(lengths, marks, c, d) {
-            return d;
-        }
-        d += 1;
-    }
-    d
+    (0..last)
+        .find(|d| enough_with(lengths, marks, c, *d))
+        .unwrap_or(last)
 }
 
 // How many bytes a packet must have that is answered.

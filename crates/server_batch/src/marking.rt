@@ -1,10 +1,11 @@
 // Which packets are meant for the server.
-ghost use Rattle.std.specs.Prelude.{◌≡◌, ◌+◌, ◌*◌, ◌≤◌, ◌<◌, length, take, drop};
+ghost use Rattle.std.specs.Prelude.{◌≡◌, ◌≤◌, ◌<◌, length};
 ghost use Rattle.laws.specs.Pasted.{fronted};
 ghost use Rattle.laws.specs.Upto.{upto};
 ghost use Rattle.server_batch.specs.Batch.{batch, meant_for, meant_at};
 ghost use Rattle.server_batch.specs.Steps.{Slots, mark_at};
 
+use super::packets::Packets;
 use octets::equal;
 use wire_message::has_tag;
 use wire_message::tags::SRV;
@@ -27,58 +28,32 @@ fn meant_for(p: &[u8], srv: [u8; 32]) -> bool
     true
 }
 
-// A length as an index.
-pub fn wide(x: u32) -> usize
-    ensures { result ≡ x }
-{
-    x as usize
-}
-
-// The first n bytes of slot i.
-pub fn packet(packets: &[u8], slot: usize, i: usize, n: usize) -> &[u8]
-    requires { slot * i + n ≤ length packets.now }
-    ensures { result.now ≡ take n (drop (slot * i) packets.now) }
-{
-    let start = slot * i;
-    let end = start + n;
-    &packets[start..end]
-}
-
 // Whether packet i is.
-fn meant_at(packets: &[u8], slot: usize, lengths: &[u32], srv: [u8; 32], i: usize) -> bool
-    requires { Slots (batch packets.now slot lengths.now srv) × (i < length lengths.now) }
-    ensures { result ≡ meant_at (batch packets.now slot lengths.now srv) i }
+fn meant_at(packets: Packets<'_>, srv: [u8; 32], i: usize) -> bool
+    requires { Slots (batch packets.slots.now packets.slot packets.lengths.now srv)
+        × (i < length packets.lengths.now) }
+    ensures { result
+        ≡ meant_at (batch packets.entry.slots.now packets.entry.slot packets.entry.lengths.now srv) i }
 {
-    let n = wide(lengths[i]);
-    if slot < n {
+    if packets.slot < packets.size(i) {
         return false;
     }
-    meant_for(packet(packets, slot, i, n), srv)
+    meant_for(packets.packet(i), srv)
 }
 
-// 1 where it is, and else 0.
-fn mark_at(packets: &[u8], slot: usize, lengths: &[u32], srv: [u8; 32], i: usize) -> u32
-    requires { Slots (batch packets.now slot lengths.now srv) × (i < length lengths.now) }
-    ensures { result ≡ mark_at (batch packets.now slot lengths.now srv) i }
-{
-    if meant_at(packets, slot, lengths, srv, i) {
-        1
-    } else {
-        0
-    }
-}
-
-// 1 for each packet that is, and 0 for the others, at the front of marks.
-pub fn mark(packets: &[u8], slot: usize, lengths: &[u32], srv: [u8; 32], marks: &mut [u32])
-    requires { Slots (batch packets.now slot lengths.now srv) × (length lengths.now ≤ length marks.old) }
+// 1 for each packet that is, and 0 for the others, at the front of marks: numbers, since marks stand in the caller's
+// buffer of lengths (there is no heap).
+pub fn mark(packets: Packets<'_>, srv: [u8; 32], marks: &mut [u32])
+    requires { Slots (batch packets.slots.now packets.slot packets.lengths.now srv)
+        × (length packets.lengths.now ≤ length marks.old) }
     ensures { marks.new
         ≡ fronted
-        (upto (mark_at (batch packets.now slot lengths.now srv)) (length lengths.now))
+        (upto (mark_at (batch packets.entry.slots.now packets.entry.slot packets.entry.lengths.now srv))
+        (length packets.entry.lengths.now))
         marks.old }
 {
-    let mut i: usize = 0;
-    while i < lengths.len() {
-        marks[i] = mark_at(packets, slot, lengths, srv, i);
-        i += 1;
+    // By the number of a packet: its slot, its length and its mark stand in three places.
+    for i in 0..packets.lengths.len() {
+        marks[i] = u32::from(meant_at(packets, srv, i));
     }
 }

@@ -4,11 +4,10 @@ ghost use Rattle.laws.specs.Pasted.{fronted};
 ghost use Rattle.laws.specs.Upto.{upto};
 ghost use Rattle.server_batch.specs.Steps.{stay_test, length_in};
 
-use super::laying::stays;
-use super::marking::wide;
+use super::choosing::stays;
 
 // The length of the answer to a packet with this mark and length: size, or 0 where there is none.
-pub fn length_of(mark: u32, n: usize, least: usize, size: u32) -> u32
+fn length_of(mark: u32, n: usize, least: usize, size: u32) -> u32
     ensures { result ≡ cond (stay_test mark n least) size 0 }
 {
     if stays(mark, n, least) { size } else { 0 }
@@ -22,9 +21,7 @@ pub fn put_lengths(lengths: &[u32], least: usize, size: u32, marks: &mut [u32])
         (upto (length_in marks.old lengths.now least size) (length lengths.now))
         marks.old }
 {
-    let mut i: usize = 0;
-    while i < lengths.len() {
-        marks[i] = length_of(marks[i], wide(lengths[i]), least, size);
-        i += 1;
+    for (i, n) in lengths.iter().enumerate() {
+        marks[i] = length_of(marks[i], *n as usize, least, size);
     }
 }

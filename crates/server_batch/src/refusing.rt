@@ -1,13 +1,14 @@
 // What is refused, before anything is written.
-ghost use Rattle.std.specs.Prelude.{List, ◌≡◌, ℕ, ◌≤◌, ◌<◌};
+ghost use Rattle.std.specs.Prelude.{◌≡◌, ◌≤◌, ◌<◌, length};
+ghost use Rattle.refusal.specs.Refusal.{passes};
 ghost use Rattle.server_response.specs.Facts.{Certifies};
 ghost use Rattle.tree_build.specs.Leaves.{most};
-ghost use Rattle.ed25519_sign.specs.Signing.{public_of};
 ghost use Rattle.server_batch.specs.Answering.{other_key, count_wrong, room_short, keys_code, sizes_code};
 
-use super::marking::wide;
+use super::packets::Packets;
+use super::service::Service;
 use octets::equal;
-use refusal::{PASSED, Refusal, codes, refuse};
+use refusal::{Refusal, codes, refuse};
 use server_parts::radius_code;
 use server_response::{cert_code, midp_outside};
 use tree_build::{MOST, bytes, depth};
@@ -15,97 +16,92 @@ use wire_message::tags::{DELE, PUBK};
 use wire_message::value_of;
 use wire_packet::fields::value32;
 
-// The key, which is that of the seed, is not the one that CERT delegates to.
-fn other_key(key: [u8; 32], cert: &[u8]) -> bool
-    requires { Certifies cert.now }
-    ensures { (seed : List ℕ) → key ≡ public_of seed → result ≡ other_key seed cert.now }
+// The key is not the one that CERT delegates to.
+fn other_key(service: &Service<'_>) -> bool
+    requires { Certifies service.now.cert.now }
+    ensures { result ≡ other_key service.now.seed service.now.cert.now }
 {
-    let theirs = value32(value_of(cert, DELE), PUBK);
-    !equal(&key, &theirs)
+    let theirs = value32(value_of(service.cert, DELE), PUBK);
+    !equal(&service.key, &theirs)
 }
 
-// Codes 7 for RADI 0; 4 to 7 for CERT and its DELE; 35; 11. The key is that of the seed.
-pub fn keys_code(cert: &[u8], key: [u8; 32], midp: u64, radi: u32) -> Refusal
-    ensures { (seed : List ℕ) → key ≡ public_of seed → result ≡ keys_code cert.now seed midp radi }
+// Codes 7 for RADI 0; 4 to 7 for CERT and its DELE; 35; 11.
+pub fn keys_code(service: &Service<'_>) -> Result<(), Refusal>
+    ensures { result
+        ≡ passes (keys_code service.now.cert.now service.now.seed service.now.midp service.now.radi) }
 {
-    let boast = radius_code(radi);
-    if boast.code != 0 {
-        return boast;
+    radius_code(service.radi)?;
+    cert_code(service.cert)?;
+    if other_key(service) {
+        return Err(refuse(codes::OTHER_KEY));
     }
-    let c = cert_code(cert);
-    if c.code != 0 {
-        return c;
+    if midp_outside(service.midp, service.cert) {
+        return Err(refuse(codes::TIME));
     }
-    if other_key(key, cert) {
-        return refuse(codes::OTHER_KEY);
-    }
-    if midp_outside(midp, cert) {
-        return refuse(codes::TIME);
-    }
-    PASSED
+    Ok(())
 }
 
 // No packet, or too many.
 fn count_wrong(n: usize) -> bool
     ensures { result ≡ count_wrong n }
 {
-    if n == 0 {
-        return true;
-    }
-    MOST < n
+    n == 0 || MOST < n
 }
 
-// Too little room for n packets, where CERT has c bytes.
+// Too little room for the packets, or in the buffers for their answers.
 fn room_short(
-    n: usize,
-    c: usize,
-    packets: usize,
-    slot: usize,
-    rows: usize,
-    out: usize,
-    room: usize,
-    lengths: usize,
+    packets: Packets<'_>,
+    service: &Service<'_>,
+    rows: &[u8],
+    out: &[u8],
+    lengths: &[u32],
 ) -> bool
-    requires { (0 < n) × (n ≤ most) }
-    ensures { result ≡ room_short n c packets slot rows out room lengths }
+    requires { (0 < length packets.lengths.now) × (length packets.lengths.now ≤ most) }
+    ensures { result
+        ≡ room_short (length packets.entry.lengths.now) (length service.now.cert.now)
+        (length packets.entry.slots.now) packets.entry.slot (length rows.now) (length out.now) service.now.room
+        (length lengths.now) }
 {
+    let n = packets.lengths.len();
+    let c = service.cert.len();
     let d = depth(n);
-    if packets / n < slot {
+    if packets.slots.len() / n < packets.slot {
         return true;
     }
-    if rows < bytes(d) {
+    if rows.len() < bytes(d) {
         return true;
     }
-    if out / n < room {
+    if out.len() / n < service.room {
         return true;
     }
-    if lengths < n {
+    if lengths.len() < n {
         return true;
     }
-    if room < c {
+    if service.room < c {
         return true;
     }
-    room - c < 264 + 32 * wide(d)
+    service.room - c < 264 + 32 * d as usize
 }
 
 // Codes 20 and 19.
 pub fn sizes_code(
-    n: usize,
-    c: usize,
-    packets: usize,
-    slot: usize,
-    rows: usize,
-    out: usize,
-    room: usize,
-    lengths: usize,
-) -> Refusal
-    ensures { result ≡ sizes_code n c packets slot rows out room lengths }
+    packets: Packets<'_>,
+    service: &Service<'_>,
+    rows: &[u8],
+    out: &[u8],
+    lengths: &[u32],
+) -> Result<(), Refusal>
+    ensures { result
+        ≡ passes
+        (sizes_code (length packets.entry.lengths.now) (length service.now.cert.now)
+        (length packets.entry.slots.now) packets.entry.slot (length rows.now) (length out.now) service.now.room
+        (length lengths.now)) }
 {
-    if count_wrong(n) {
-        return refuse(codes::LEAVES);
+    if count_wrong(packets.lengths.len()) {
+        return Err(refuse(codes::LEAVES));
     }
-    if room_short(n, c, packets, slot, rows, out, room, lengths) {
-        return refuse(codes::ROOM);
+    if room_short(packets, service, rows, out, lengths) {
+        return Err(refuse(codes::ROOM));
     }
-    PASSED
+    Ok(())
 }

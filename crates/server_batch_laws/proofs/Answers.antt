@@ -1,5 +1,8 @@
 -- Each answer of a batch is what `write_response` writes for its packet, passes the check that verifies signatures by
 -- itself, and is not longer than its request.
+use Rattle.check_response.specs.declared.Window.{Window}
+use Rattle.refusal.specs.declared.Refusal.{Refusal}
+use Rattle.std.specs.Prelude.{Result}
 use mathlib.Core.Bool.{true, false}
 use mathlib.Core.List.{List, [], ◌++◌, append-nil}
 use mathlib.Core.Path.{◌≡◌, refl, sym, ap, ap₂, subst, ◌∙◌}
@@ -8,7 +11,6 @@ use native.Mathlib.Omega.{arith}
 use lib.ListN.{length, drop}
 use lib.Seq.{take_at}
 use Rattle.check_response.specs.Check.{check_code, window_in, verdict_of}
-use Rattle.check_response.specs.declared.Verdict.{Verdict}
 use Rattle.check_response.proofs.Lent.{by-valid}
 use Rattle.check_signatures.specs.SignatureAnswers.{delegated, responded}
 use Rattle.check_signatures.proofs.Verdicts.{checked-texts, delegated-as, responded-as}
@@ -211,5 +213,5 @@ module _ (c : Call) (t : Taken c) (i : ℕ) (holds : answered c i ≡ true) wher
       let delegation : delegated key p ≡ true =
       delegated-as key p texts ∙ rw ((reply-texts a typed granted).1, cert-is a typed granted) signed in
       rw (delegation, signature-verifies)
-      (ap₂ (λ (v : Verdict) (pubk : List ℕ). record { verdict = v; pubk = pubk }) (reply-passes a typed granted)
+      (ap₂ (λ (v : Result Window Refusal) (pubk : List ℕ). record { verdict = v; pubk = pubk }) (reply-passes a typed granted)
       (reply-key a typed granted))

@@ -1,5 +1,6 @@
 -- From the contract of `answer_batch`, as the check hands it out to callers, to the sentences on its answers: a call
 -- that says how many are answered refused nothing, and so left what they speak of.
+use Rattle.std.specs.Prelude.{Err, Ok, Result}
 use mathlib.Core.Bool.{Bool, true, false, cond}
 use mathlib.Core.List.{List}
 use mathlib.Core.Path.{◌≡◌, refl, sym, ap, ◌∙◌}
@@ -13,8 +14,6 @@ use Rattle.laws.specs.Bytes.{Bytes}
 use Rattle.refusal.specs.declared.Refusal.{Refusal}
 use Rattle.server_batch.specs.Answering.{batch_answer, batch_number, LeftBy}
 use Rattle.server_batch.specs.Batch.{Batch, batch, count, longest, answers}
-use Rattle.server_batch.specs.declared.BatchAnswer.{BatchAnswer}
-use Rattle.server_batch.specs.declared.BatchAnswer.TheVariants.{Answered, Refused}
 use Rattle.server_batch.proofs.answer_batch.Kinds as batch-kinds
 use Rattle.server_batch.proofs.answer_batch.Reads as batch-reads
 use Rattle.server_batch_laws.specs.Call.{Call, Called, Taken, code_of, answered}
@@ -44,18 +43,18 @@ pub batch-learnt : (κs : _) (a : _) (x : _) (u : _)
 batch-learnt κs a x u p = record { of-out = refl; says = p.0; left = p.1 }
 
 -- an answer that is no refusal comes of no refusal
-answered-quiet : (b : Batch) (cert : List ℕ) (why : Refusal) (n : ℕ) → Answered n ≡ batch_answer b cert why
+answered-quiet : (b : Batch) (cert : List ℕ) (why : Refusal) (n : ℕ) → Ok n ≡ batch_answer b cert why
     → why.code ≡ 0
 unfolding batch_answer
 answered-quiet b cert why n = by (eqb why.code 0) refl
   where
     by : (t : Bool) → eqb why.code 0 ≡ t
-        → Answered n ≡ cond t (Answered (answers b (longest b (length cert)))) (Refused why) → why.code ≡ 0
+        → Ok n ≡ cond t (Ok (answers b (longest b (length cert)))) (Err why) → why.code ≡ 0
     by true e q = eqb-true why.code 0 e
     by false e q = sym (ap batch_number q)
 
-module _ {c : Call} {rows out lengths rows-after out-after lengths-after : List ℕ} {r : BatchAnswer} {n : ℕ}
-    (call : Called c rows out lengths r rows-after out-after lengths-after) (is : r ≡ Answered n)
+module _ {c : Call} {rows out lengths rows-after out-after lengths-after : List ℕ} {r : Result ℕ Refusal} {n : ℕ}
+    (call : Called c rows out lengths r rows-after out-after lengths-after) (is : r ≡ Ok n)
     (midp : c.midp < 2 ^ 64) (radi : c.radi < 2 ^ 32) where
   -- The call refused nothing,
   pub called-taken : Taken c

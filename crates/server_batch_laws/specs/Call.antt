@@ -1,11 +1,10 @@
 -- A call of `answer_batch`, and the answer to one of its packets as `write_response` would be told to write it.
-use Rattle.std.specs.Prelude.{Bool, List, ◌≡◌, ℕ, ◌^◌, ◌<◌, length}
+use Rattle.std.specs.Prelude.{Bool, List, ◌≡◌, ℕ, ◌^◌, ◌<◌, length, Result}
 use Rattle.laws.specs.Flat.{flat}
 use Rattle.tree.specs.Tree.{path_of}
 use Rattle.refusal.specs.declared.Refusal.{Refusal}
 use Rattle.server_batch.specs.Answering.{batch_answer, batch_code, batch_number, signature_over, LeftBy}
 use Rattle.server_batch.specs.Batch.{Batch, packet_at, longest, answered_at, place_of, leaves, depth_in, root_in, answer_at}
-use Rattle.server_batch.specs.declared.BatchAnswer.{BatchAnswer}
 use Rattle.server_response.specs.Response.{Reply, reply}
 
 -- what the call is lent: the batch, the value of CERT, the delegated seed, MIDP and RADI. Then how many bytes there are
@@ -27,7 +26,7 @@ code_of c =
     batch_code c.batch c.cert c.seed c.midp c.radi c.rows c.out c.room c.lengths
 
 -- what `answer_batch` says, r, and leaves, by its contract, of the buffers that it is lent
-pub record Called (c : Call) (rows out lengths : List ℕ) (r : BatchAnswer)
+pub record Called (c : Call) (rows out lengths : List ℕ) (r : Result ℕ Refusal)
     (rows-after out-after lengths-after : List ℕ) : Type 0 where
   pub of-out : c.out ≡ length out
   pub says : r ≡ batch_answer c.batch c.cert (code_of c)

@@ -1,8 +1,7 @@
 -- What is claimed of the answers of a batch.
-use Rattle.std.specs.Prelude.{true, List, ◌++◌, ◌≡◌, ℕ, ◌*◌, ◌≤◌, length, take, drop, get_or}
+use Rattle.std.specs.Prelude.{true, List, ◌++◌, ◌≡◌, ℕ, ◌*◌, ◌≤◌, length, take, drop, get_or, Ok}
 use Rattle.laws.specs.Written.{written}
 use Rattle.check_response.specs.Window.{window_of}
-use Rattle.check_response.specs.declared.Verdict.TheVariants.{Valid}
 use Rattle.ed25519.specs.Verification.{verifies}
 use Rattle.server_batch.specs.Batch.{Batch, count, size_at, packet_at, answered_at}
 use Rattle.server_response.specs.Refusing.{dele_of, mint_of, maxt_of, reply_code}
@@ -15,14 +14,13 @@ use Rattle.wire_packet.specs.Packet.{body}
 use Rattle.wire_packet.specs.Response.{srep}
 use Rattle.wire_request.specs.Answered.{answered}
 use Rattle.wire_request.specs.Texts.{delegation_context}
-use Rattle.wire_request.specs.declared.Wrote.TheVariants.{Done}
 use Rattle.server_batch_laws.specs.Call.{Call, packet, answer, reply_to}
 
 -- the packet p is what `write_response` writes for the call a: it refuses nothing of it; lent any buffer that has room
 -- for p, it answers the length of p, and p stands at the front
 pub record Writes (a : Reply) (p : List ℕ) : Type 0 where
   pub granted : (reply_code a).code ≡ 0
-  pub done : (out : List ℕ) → length p ≤ length out → answered (reply_code a) (response_bytes a) out ≡ Done (length p)
+  pub done : (out : List ℕ) → length p ≤ length out → answered (reply_code a) (response_bytes a) out ≡ Ok (length p)
   pub front : (out : List ℕ) → take (length p) (written 0 (response_bytes a) out) ≡ p
 
 -- a host finds the packet p in slot i of `room` bytes: it is as many bytes at the front of the slot as length i says
@@ -41,7 +39,7 @@ abbrev pub Passes : List ℕ → List ℕ → List ℕ → ℕ → ℕ → List 
 Passes key q p midp radi cert =
     check_signed key q p
     ≡ record {
-      verdict = Valid (window_of midp radi (mint_of cert) (maxt_of cert));
+      verdict = Ok (window_of midp radi (mint_of cert) (maxt_of cert));
       pubk = value_of (dele_of cert) PUBK;
     }
 

@@ -1,6 +1,8 @@
 -- A batch, end to end: for any 1 to 1,024 good requests, with `rows`, `path_from` and one `write_srep`, no request and
 -- no path is refused, and each response that is written for its own place passes for its own request and carries that
 -- one SREP.
+use Rattle.refusal.specs.declared.Refusal.{Refusal}
+use Rattle.std.specs.Prelude.{Ok, Result}
 use mathlib.Core.Bool.{true, false, not}
 use mathlib.Core.List.{List, [], ◌∷◌}
 use mathlib.Core.Path.{◌≡◌, refl, sym, ap, ◌∙◌}
@@ -28,8 +30,6 @@ use Rattle.tree.specs.PathCheck.{leads_of}
 use Rattle.tree.specs.Tree.{node_in}
 use Rattle.tree.proofs.Nodes.{whole-upto, flat-length, flat-at}
 use Rattle.wire_packet.specs.Request.{request_bad}
-use Rattle.wire_request.specs.declared.Wrote.{Wrote}
-use Rattle.wire_request.specs.declared.Wrote.TheVariants.{Done}
 use Rattle.wire_request.proofs.Answered.{Writes, done-front}
 use Rattle.server_laws.specs.Answerable.{Typed}
 use Rattle.server_laws.specs.Round.{Round, Turn, Laid, Placed, Serves, leaves_of, root_in, turn_reply}
@@ -113,9 +113,9 @@ module _ (r : Round) (ok : Laid r) where
     batch-codes = rw (request-good, misses-not)
 
     -- and the response that is written for a place serves its request, with the SREP that `write_srep` wrote once
-    pub batch-serves : {x y : Wrote} {d e : List ℕ} (room out : List ℕ) (k n : ℕ)
-        → Writes (radius_code r.radi) (srep_bytes (root_in r) r.midp r.radi) room x d → x ≡ Done k
-        → Writes (reply_code a) (response_bytes a) out y e → y ≡ Done n
+    pub batch-serves : {x y : Result ℕ Refusal} {d e : List ℕ} (room out : List ℕ) (k n : ℕ)
+        → Writes (radius_code r.radi) (srep_bytes (root_in r) r.midp r.radi) room x d → x ≡ Ok k
+        → Writes (reply_code a) (response_bytes a) out y e → y ≡ Ok n
         → Serves r t (take k d) (take n e)
     batch-serves room out k n s s-done w w-done =
         let f = front-granted a out n w w-done in

@@ -1,5 +1,7 @@
 -- What an operator writes is a good CERT, and says what was lent: the key, its first and its last second, and the
 -- signature over the DELE that was written to be signed.
+use Rattle.refusal.specs.declared.Refusal.{Refusal}
+use Rattle.std.specs.Prelude.{Ok, Result}
 use mathlib.Core.List.{List}
 use mathlib.Core.Path.{◌≡◌, refl}
 use Prim.Native.Nat.{ℕ, ◌^◌, ◌<◌}
@@ -13,8 +15,6 @@ use Rattle.wire_message.proofs.Encoded.{value-encoded}
 use Rattle.refusal.specs.Refusal.{passed}
 use Rattle.server_parts.specs.Delegation.{dele_fields, dele_bytes, cert_fields, cert_bytes}
 use Rattle.server_response.specs.Refusing.{mint_of, maxt_of}
-use Rattle.wire_request.specs.declared.Wrote.{Wrote}
-use Rattle.wire_request.specs.declared.Wrote.TheVariants.{Done}
 use Rattle.wire_request.proofs.Answered.{Writes, done-front}
 use Rattle.server_laws.specs.Answerable.{GoodCert, Delegates}
 use Rattle.server_laws.proofs.Made.{dele-kept, cert-kept}
@@ -70,9 +70,9 @@ module _ (pubk : List ℕ) (mint maxt : ℕ) (signature : List ℕ) (k32 : lengt
 
   -- and so do the first n bytes of what `write_cert` leaves, where it answers n; the DELE in it is the first k bytes of
   -- what `write_dele` leaves, where it answers k
-  pub front-delegates : {x y : Wrote} {d e : List ℕ} (out room : List ℕ) (n k : ℕ)
-      → Writes passed value out x d → x ≡ Done n
-      → Writes passed (dele_bytes pubk mint maxt) room y e → y ≡ Done k
+  pub front-delegates : {x y : Result ℕ Refusal} {d e : List ℕ} (out room : List ℕ) (n k : ℕ)
+      → Writes passed value out x d → x ≡ Ok n
+      → Writes passed (dele_bytes pubk mint maxt) room y e → y ≡ Ok k
       → Delegates (take n d) pubk mint maxt signature (take k e)
   front-delegates out room n k c c-done w w-done =
       rw (done-front passed value out n c c-done, done-front passed (dele_bytes pubk mint maxt) room k w w-done)

@@ -1,4 +1,6 @@
 -- Which calls write a response: exactly those that requests P1 and P4 name, and so every one that could be answered.
+use Rattle.refusal.specs.declared.Refusal.{Refusal}
+use Rattle.std.specs.Prelude.{Ok, Result}
 use mathlib.Core.Bool.{Bool, true, false, not}
 use mathlib.Core.List.{List}
 use mathlib.Core.Logic.{◌↔◌}
@@ -31,8 +33,6 @@ use Rattle.wire_packet.proofs.GoodResponse.{inner, inner-passes, response-good}
 use Rattle.wire_packet.proofs.PacketFields.{encoded, encoded-held}
 use Rattle.wire_packet.proofs.RequestCodes.{lent-good}
 use Rattle.wire_request.specs.Answered.{answered}
-use Rattle.wire_request.specs.declared.Wrote.{Wrote}
-use Rattle.wire_request.specs.declared.Wrote.TheVariants.{Done}
 use Rattle.wire_request.proofs.Answered.{Writes, done-exactly, done-front}
 use Rattle.server_laws.specs.Answerable.{Typed, GoodCert, Answerable, Says}
 use Rattle.server_laws.proofs.Granting.{Granted, granted-exactly}
@@ -108,7 +108,7 @@ module _ (a : Reply) where
 
   -- so that one is written exactly where it can be, and the buffer has room for it
   pub written-exactly : Bytes a.request → Bytes a.cert → (out : List ℕ) (n : ℕ)
-      → answered (reply_code a) (response_bytes a) out ≡ Done n
+      → answered (reply_code a) (response_bytes a) out ≡ Ok n
       ↔ (Answerable a × ((n ≡ length (response_bytes a)) × (n ≤ length out)))
   written-exactly q-bytes c-bytes out n =
       let exactly = done-exactly (reply_code a) (response_bytes a) out n in
@@ -149,8 +149,8 @@ module _ (a : Reply) where
       })
 
   -- where `write_response` answers n, it is such a call, and the first n bytes of what it leaves are the response
-  pub front-granted : {r : Wrote} {d : List ℕ} (out : List ℕ) (n : ℕ)
-      → Writes (reply_code a) (response_bytes a) out r d → r ≡ Done n
+  pub front-granted : {r : Result ℕ Refusal} {d : List ℕ} (out : List ℕ) (n : ℕ)
+      → Writes (reply_code a) (response_bytes a) out r d → r ≡ Ok n
       → Granted a × (take n d ≡ response_bytes a)
   front-granted out n w e = (
     (granted-exactly a).0 ((done-exactly (reply_code a) (response_bytes a) out n).0 (sym w.0 ∙ e)).0,

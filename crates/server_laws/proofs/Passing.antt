@@ -1,4 +1,5 @@
 -- Whatever a server writes passes, reads back as what was lent, and carries what was signed; its length.
+use Rattle.std.specs.Prelude.{Ok}
 use mathlib.Core.Bool.{true, false, not}
 use mathlib.Core.List.{List, ◌++◌}
 use mathlib.Core.Path.{◌≡◌, refl, sym, ap, ◌∙◌}
@@ -21,7 +22,7 @@ use Rattle.wire_message.proofs.Codes as codes
 use Rattle.wire_message.proofs.Codes.{code-passed}
 use Rattle.wire_message.proofs.Encoded.{value-encoded}
 use Rattle.wire_message.proofs.FieldRows.{AllHeld, all-passes}
-use Rattle.refusal.specs.Refusal.{passed, shifted, refusals}
+use Rattle.refusal.specs.Refusal.{answer, passed, shifted, refusals}
 use Rattle.server_response.specs.Refusing.{dele_of, mint_of, maxt_of}
 use Rattle.server_response.specs.Response.{Reply, nonce_of, response_fields, response_bytes}
 use Rattle.server_parts.specs.Signed.{srep_fields, srep_bytes}
@@ -31,7 +32,6 @@ use Rattle.server_response.proofs.Replied.{lent-short, sized}
 use Rattle.check_response.specs.Check.{version_unasked, version_downgraded, nonce_differs, path_misses, time_outside, answers_code}
 use Rattle.check_response.specs.Check.{agreement_code, check_code, window_in, verdict_of, key_of}
 use Rattle.check_response.specs.Window.{window_of}
-use Rattle.check_response.specs.declared.Verdict.TheVariants.{Valid}
 use Rattle.check_response.proofs.Downgrade.{one-highest}
 use Rattle.check_response.proofs.Lent.{valid-by, key-by}
 use Rattle.wire_packet.specs.Good.{PacketFields}
@@ -272,7 +272,7 @@ module _ (a : Reply) (t : Typed a) (g : Granted a) where
 
   -- it passes against its request when both answers are yes, and the window is that of these MIDP and RADI with the
   -- CERT's MINT and MAXT;
-  pub reply-passes : verdict_of q p true true ≡ Valid (window_of a.midp a.radi (mint_of a.cert) (maxt_of a.cert))
+  pub reply-passes : verdict_of q p true true ≡ Ok (window_of a.midp a.radi (mint_of a.cert) (maxt_of a.cert))
   unfolding verdict_of window_in
   reply-passes =
       valid-by (check_code q p true true) _ (none-quiet refusals check-passes)
@@ -287,27 +287,25 @@ module _ (a : Reply) (t : Typed a) (g : Granted a) where
 
   -- reading it gives the request's NONC and these INDX, MIDP, RADI and ROOT;
   pub reply-reads : response_of p
-      ≡ record {
-        refusal = passed;
+      ≡ Ok (record {
         nonc = nonce_of a;
         indx = a.indx;
         midp = a.midp;
         radi = a.radi;
         root = a.root;
-      }
-  unfolding response_of response_in
+      })
+  unfolding response_of answer response_in
   reply-reads =
       rw (eq-eqb (response_code p).code 0 (none-quiet refusals response-good), nonce-is, indx-is, midp-is, radi-is, root_is)
 
   -- what a client verifies is this signature and, of the CERT, its signature and its key,
   pub reply-parts : parts_of p
-      ≡ record {
-        refusal = passed;
+      ≡ Ok (record {
         signature = a.signature;
         delegation = value_of a.cert SIG;
         pubk = value_of (dele_of a.cert) PUBK;
-      }
-  unfolding parts_of parts_in
+      })
+  unfolding parts_of answer parts_in
   reply-parts =
       rw (eq-eqb (signed_code p).code 0 (none-quiet refusals signed-good), signature-is, cert-is)
 

@@ -10,7 +10,8 @@ use native.Mathlib.Omega.{arith}
 use borrow.Author.Tests.{eq-eqb, eqb-true}
 use Rattle.laws.proofs.First.{first-keeps, when-keeps, end-keeps, test-quiet}
 use Rattle.wire_message.specs.Places.{RowsRise}
-use Rattle.wire_message.specs.Rules.{TagRule, message_code}
+use Rattle.wire_message.specs.Rules.{message_code}
+use Rattle.wire_message.specs.declared.rules.TagRule.{TagRule}
 use Rattle.wire_message.specs.Sentences.{Good}
 use Rattle.wire_message.specs.Tags.{DELE}
 use Rattle.wire_message.specs.Values.{value_start}

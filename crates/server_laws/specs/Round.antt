@@ -1,11 +1,9 @@
 -- A round of a server: a batch of requests, the rows of their tree, one SREP, and a response to each (request P1). What
 -- the operations answered and left is told by their own statements.
-use Rattle.std.specs.Prelude.{true, List, ◌≡◌, ℕ, ◌*◌, ◌-◌, ◌^◌, ◌≤◌, ◌<◌, length, take}
+use Rattle.std.specs.Prelude.{true, List, ◌≡◌, ℕ, ◌*◌, ◌-◌, ◌^◌, ◌≤◌, ◌<◌, length, take, Ok}
 use Rattle.tree_build.specs.AllRows.{nodes_of}
 use Rattle.tree_build.specs.Building.{path_answer, from_bytes, rows_answer, rows_bytes}
 use Rattle.tree_build.specs.Leaves.{most, count_of, held_of}
-use Rattle.tree_build.specs.declared.PathAnswer.TheVariants as path-answer
-use Rattle.tree_build.specs.declared.RowsAnswer.TheVariants as rows-answer
 use Rattle.hash.specs.Hashes.{leaf_of}
 use Rattle.laws.specs.Flat.{flat}
 use Rattle.laws.specs.Upto.{upto}
@@ -17,7 +15,6 @@ use Rattle.server_response.specs.Response.{Reply, reply}
 use Rattle.tree.specs.Tree.{node_in}
 use Rattle.check_response.specs.Check.{verdict_of, key_of}
 use Rattle.check_response.specs.Window.{window_of}
-use Rattle.check_response.specs.declared.Verdict.TheVariants.{Valid}
 use Rattle.wire_packet.specs.Packet.{body}
 use Rattle.wire_packet.specs.Request.{request_code}
 use Rattle.wire_packet.specs.Response.{srep}
@@ -48,7 +45,7 @@ pub record Laid (r : Round) : Type 0 where
   pub one : 1 ≤ r.count
   pub few : r.count ≤ most
   pub good : (k : ℕ) → k < r.count → (request_code (r.requests k)).code ≡ 0
-  pub answered : rows-answer.Written r.depth ≡ rows_answer (count_of (length (leaves_of r))) (length r.buffer)
+  pub answered : Ok r.depth ≡ rows_answer (count_of (length (leaves_of r))) (length r.buffer)
   pub left : r.rows ≡ written 0 (rows_bytes (leaves_of r)) r.buffer
   pub midp : r.midp < 2 ^ 64
   pub radi : r.radi < 2 ^ 32
@@ -64,7 +61,7 @@ pub record Turn : Type 0 where
 
 -- it was lent the rows, and wrote
 pub record Placed (r : Round) (t : Turn) : Type 0 where
-  pub answered : path-answer.Written t.indx t.siblings
+  pub answered : Ok (t.indx, t.siblings)
       ≡ path_answer (held_of (length r.rows) r.count) t.place (length t.buffer)
   pub left : t.path ≡ written 0 (from_bytes r.rows r.count t.place) t.buffer
 
@@ -79,6 +76,6 @@ turn_reply r t =
 -- time, and with the times and the key of CERT. Its SREP is the one that was signed
 pub record Serves (r : Round) (t : Turn) (signed p : List ℕ) : Type 0 where
   pub passes : verdict_of (r.requests t.place) p true true
-      ≡ Valid (window_of r.midp r.radi (mint_of r.cert) (maxt_of r.cert))
+      ≡ Ok (window_of r.midp r.radi (mint_of r.cert) (maxt_of r.cert))
   pub key : key_of (r.requests t.place) p true true ≡ value_of (dele_of r.cert) PUBK
   pub carries : srep (body p) ≡ signed

@@ -1,5 +1,7 @@
 -- The code and the part that a lookup answers with, as document 01's sentences: when each code is given, and that the
 -- part is the first record with the SRV value, the owner's list before the shipped one.
+use Rattle.refusal.specs.declared.Refusal.{Refusal}
+use Rattle.std.specs.Prelude.{Err, Ok, Result}
 use borrow.Author.Tests.{ltb-true, ltb-false}
 use mathlib.Core.Bool.{Bool, true, false}
 use mathlib.Core.Path.{◌≡◌, refl, sym, ap, ◌∙◌, subst}
@@ -19,7 +21,7 @@ use Rattle.server_list.specs.Lists.{server_count, server_at, servers_in, srv_in,
 use Rattle.server_list.specs.Lookup.{searched, handed, where_number, sought}
 use Rattle.server_list.specs.Meaning.{WholeLists, IsFirstIn, NotIn, code-21, code-22, FindsServer, HasSrv, FirstWithSrv}
 use Rattle.server_list.specs.declared.Where.{Where}
-use Rattle.server_list.specs.declared.Where.TheVariants.{Owner, Shipped, Refused}
+use Rattle.server_list.specs.declared.Where.TheVariants.{Owner, Shipped}
 use Rattle.server_list.proofs.Matching.{server-long, part_of, part-sought}
 use Rattle.server_list.proofs.Seeking.{sought-finds}
 
@@ -113,36 +115,36 @@ module _ (owner shipped srv : List ℕ) where
   pub ragged-exactly : where_number (sought owner shipped srv) ≡ 21 ↔ (WholeLists owner shipped → ⊥)
   ragged-exactly = by (sought owner shipped srv) (sought-finds owner shipped srv)
     where
-      by : (w : Where) → FindsServer owner shipped srv w → where_number w ≡ 21 ↔ (WholeLists owner shipped → ⊥)
-      by (Owner k) f = (λ e. absurd (omega (arith, e)), λ r. absurd (r f.0))
-      by (Shipped k) f = (λ e. absurd (omega (arith, e)), λ r. absurd (r f.0))
-      by (Refused why) (code-21 f) = (λ e. f, λ r. refl)
-      by (Refused why) (code-22 w n m) = (λ e. absurd (omega (arith, e)), λ r. absurd (r w))
+      by : (w : Result Where Refusal) → FindsServer owner shipped srv w → where_number w ≡ 21 ↔ (WholeLists owner shipped → ⊥)
+      by (Ok (Owner k)) f = (λ e. absurd (omega (arith, e)), λ r. absurd (r f.0))
+      by (Ok (Shipped k)) f = (λ e. absurd (omega (arith, e)), λ r. absurd (r f.0))
+      by (Err why) (code-21 f) = (λ e. f, λ r. refl)
+      by (Err why) (code-22 w n m) = (λ e. absurd (omega (arith, e)), λ r. absurd (r w))
 
   -- 22 exactly where both are, and no record of either has the SRV value,
   pub unknown-exactly : where_number (sought owner shipped srv) ≡ 22
       ↔ WholeLists owner shipped × ((i : ℕ) → HasSrv srv (searched owner shipped) i → ⊥)
   unknown-exactly = by (sought owner shipped srv) (sought-finds owner shipped srv)
     where
-      by : (w : Where) → FindsServer owner shipped srv w
+      by : (w : Result Where Refusal) → FindsServer owner shipped srv w
           → where_number w ≡ 22 ↔ WholeLists owner shipped × ((i : ℕ) → HasSrv srv (searched owner shipped) i → ⊥)
-      by (Owner k) f = (λ e. absurd (omega (arith, e)), λ r. absurd (r.1 _ (first-owner k f.1).here))
-      by (Shipped k) f =
+      by (Ok (Owner k)) f = (λ e. absurd (omega (arith, e)), λ r. absurd (r.1 _ (first-owner k f.1).here))
+      by (Ok (Shipped k)) f =
           (λ e. absurd (omega (arith, e)), λ r. absurd (r.1 _ (first-shipped k f.1 f.2).here))
-      by (Refused why) (code-21 f) = (λ e. absurd (omega (arith, e)), λ r. absurd (f r.0))
-      by (Refused why) (code-22 w n m) = (λ e. (w, none_at_all n m), λ r. refl)
+      by (Err why) (code-21 f) = (λ e. absurd (omega (arith, e)), λ r. absurd (f r.0))
+      by (Err why) (code-22 w n m) = (λ e. (w, none_at_all n m), λ r. refl)
 
   -- and 0 exactly where both are, and some record has it.
   pub found-exactly : where_number (sought owner shipped srv) ≡ 0
       ↔ WholeLists owner shipped × ((i : ℕ) × HasSrv srv (searched owner shipped) i)
   found-exactly = by (sought owner shipped srv) (sought-finds owner shipped srv)
     where
-      by : (w : Where) → FindsServer owner shipped srv w
+      by : (w : Result Where Refusal) → FindsServer owner shipped srv w
           → where_number w ≡ 0 ↔ WholeLists owner shipped × ((i : ℕ) × HasSrv srv (searched owner shipped) i)
-      by (Owner k) f = (λ e. (f.0, (_, (first-owner k f.1).here)), λ r. refl)
-      by (Shipped k) f = (λ e. (f.0, (_, (first-shipped k f.1 f.2).here)), λ r. refl)
-      by (Refused why) (code-21 f) = (λ e. absurd (omega (arith, e)), λ r. absurd (f r.0))
-      by (Refused why) (code-22 w n m) = (λ e. absurd (omega (arith, e)), λ r. absurd (none_at_all n m r.1.0 r.1.1))
+      by (Ok (Owner k)) f = (λ e. (f.0, (_, (first-owner k f.1).here)), λ r. refl)
+      by (Ok (Shipped k)) f = (λ e. (f.0, (_, (first-shipped k f.1 f.2).here)), λ r. refl)
+      by (Err why) (code-21 f) = (λ e. absurd (omega (arith, e)), λ r. absurd (f r.0))
+      by (Err why) (code-22 w n m) = (λ e. absurd (omega (arith, e)), λ r. absurd (none_at_all n m r.1.0 r.1.1))
 
   -- Then the part is the first record that has it, the owner's list before the shipped one,
   pub found_first : where_number (sought owner shipped srv) ≡ 0
@@ -150,29 +152,29 @@ module _ (owner shipped srv : List ℕ) where
   found_first e =
       rw (← part-sought owner shipped srv) (by (sought owner shipped srv) (sought-finds owner shipped srv) e)
     where
-      by : (w : Where) → FindsServer owner shipped srv w → where_number w ≡ 0
+      by : (w : Result Where Refusal) → FindsServer owner shipped srv w → where_number w ≡ 0
           → FirstWithSrv srv (searched owner shipped) (part_of owner shipped w)
-      by (Owner k) f e = first-owner k f.1
-      by (Shipped k) f e = first-shipped k f.1 f.2
-      by (Refused why) (code-21 f) e = absurd (omega (arith, e))
-      by (Refused why) (code-22 w n m) e = absurd (omega (arith, e))
+      by (Ok (Owner k)) f e = first-owner k f.1
+      by (Ok (Shipped k)) f e = first-shipped k f.1 f.2
+      by (Err why) (code-21 f) e = absurd (omega (arith, e))
+      by (Err why) (code-22 w n m) e = absurd (omega (arith, e))
 
   -- and has 64 bytes;
   pub found-long : where_number (sought owner shipped srv) ≡ 0 → length (handed owner shipped srv) ≡ 64
   found-long e =
       rw (← part-sought owner shipped srv) (by (sought owner shipped srv) (sought-finds owner shipped srv) e)
     where
-      by : (w : Where) → FindsServer owner shipped srv w → where_number w ≡ 0 → length (part_of owner shipped w) ≡ 64
-      by (Owner k) f e = server-long owner k f.1.inside
-      by (Shipped k) f e = server-long shipped k f.2.inside
-      by (Refused why) (code-21 f) e = absurd (omega (arith, e))
-      by (Refused why) (code-22 w n m) e = absurd (omega (arith, e))
+      by : (w : Result Where Refusal) → FindsServer owner shipped srv w → where_number w ≡ 0 → length (part_of owner shipped w) ≡ 64
+      by (Ok (Owner k)) f e = server-long owner k f.1.inside
+      by (Ok (Shipped k)) f e = server-long shipped k f.2.inside
+      by (Err why) (code-21 f) e = absurd (omega (arith, e))
+      by (Err why) (code-22 w n m) e = absurd (omega (arith, e))
 
   -- on a refusal it is empty.
   pub refused-empty : (where_number (sought owner shipped srv) ≡ 0 → ⊥) → handed owner shipped srv ≡ []
   refused-empty r = rw (← part-sought owner shipped srv) (by (sought owner shipped srv) r)
     where
-      by : (w : Where) → (where_number w ≡ 0 → ⊥) → part_of owner shipped w ≡ []
-      by (Owner k) r = absurd (r refl)
-      by (Shipped k) r = absurd (r refl)
-      by (Refused why) r = refl
+      by : (w : Result Where Refusal) → (where_number w ≡ 0 → ⊥) → part_of owner shipped w ≡ []
+      by (Ok (Owner k)) r = absurd (r refl)
+      by (Ok (Shipped k)) r = absurd (r refl)
+      by (Err why) r = refl

@@ -1,4 +1,6 @@
 -- The part that an answer names is the first match of document 01's sentence, and lies within its list.
+use Rattle.refusal.specs.declared.Refusal.{Refusal}
+use Rattle.std.specs.Prelude.{Err, Ok, Result}
 use borrow.Author.Tests.{ltb-true, lt-ltb, le-ltb}
 use mathlib.Core.Bool.{Bool, true, false, cond, ◌&&◌}
 use mathlib.Core.Path.{◌≡◌, refl, sym, ap, ◌∙◌}
@@ -14,7 +16,7 @@ use Rattle.refusal.specs.Refusal.{refusal}
 use Rattle.server_list.specs.Lists.{whole, server_count, server_at, servers_in, serves}
 use Rattle.server_list.specs.Lookup.{searched, first_match, handed, first_in, known, sought, place_of}
 use Rattle.server_list.specs.declared.Where.{Where}
-use Rattle.server_list.specs.declared.Where.TheVariants.{Owner, Shipped, Refused}
+use Rattle.server_list.specs.declared.Where.TheVariants.{Owner, Shipped}
 use Rattle.server_list.proofs.Seeking.{finds-at, sought-at}
 
 -- the first match among n records by their rule, and then others: the least number tells it
@@ -49,10 +51,10 @@ unfolding server_at
 server-long list k h = simp (length-take, length-drop) (omega arith)
 
 -- the bytes of the part that an answer names
-abbrev pub part_of : List ℕ → List ℕ → Where → List ℕ
-part_of owner shipped (Owner k) = server_at owner k
-part_of owner shipped (Shipped k) = server_at shipped k
-part_of owner shipped (Refused why) = []
+abbrev pub part_of : List ℕ → List ℕ → Result Where Refusal → List ℕ
+part_of owner shipped (Ok (Owner k)) = server_at owner k
+part_of owner shipped (Ok (Shipped k)) = server_at shipped k
+part_of owner shipped (Err why) = []
 
 module _ (owner shipped srv : List ℕ) where
   -- of the answer that is right, they are the first match
@@ -75,7 +77,7 @@ module _ (owner shipped srv : List ℕ) where
           ∙ ap (cond (known owner srv) (server_at owner i)) (rw append-nil at (first_of srv shipped []))
 
       by : (t u v : Bool)
-          → part_of owner shipped (cond t (cond u (Owner i) (cond v (Shipped j) (Refused (refusal 22)))) (Refused (refusal 21)))
+          → part_of owner shipped (cond t (cond u (Ok (Owner i)) (cond v (Ok (Shipped j)) (Err (refusal 22)))) (Err (refusal 21)))
           ≡ cond t (cond u (server_at owner i) (cond v (server_at shipped j) [])) []
       by true true v = refl
       by true false true = refl
@@ -85,18 +87,18 @@ module _ (owner shipped srv : List ℕ) where
   -- ---- the answer as code has it, x, which is w
 
   -- a record that is found lies within its list
-  pub within-owner : {x : Where} {k : ℕ} → x ≡ Owner k → x ≡ sought owner shipped srv → k * 64 + 64 ≤ length owner
+  pub within-owner : {x : Result Where Refusal} {k : ℕ} → x ≡ Ok (Owner k) → x ≡ sought owner shipped srv → k * 64 + 64 ≤ length owner
   within-owner e f = omega (arith, (finds-at owner shipped srv e f).1.inside)
 
-  pub within-shipped : {x : Where} {k : ℕ} → x ≡ Shipped k → x ≡ sought owner shipped srv
+  pub within-shipped : {x : Result Where Refusal} {k : ℕ} → x ≡ Ok (Shipped k) → x ≡ sought owner shipped srv
       → k * 64 + 64 ≤ length shipped
   within-shipped e f = omega (arith, (finds-at owner shipped srv e f).2.inside)
 
   -- its part is what is handed back, at its place
-  pub part_at : {x : Where} (w : Where) {b : List ℕ} → x ≡ w → x ≡ sought owner shipped srv
+  pub part_at : {x : Result Where Refusal} (w : Result Where Refusal) {b : List ℕ} → x ≡ w → x ≡ sought owner shipped srv
       → b ≡ part_of owner shipped w → b ≡ handed owner shipped srv
   part_at w e f g = sought-at owner shipped srv (part_of owner shipped) w e f g ∙ part-sought
 
-  pub place_at : {x : Where} (w : Where) {a : ℕ × ℕ} (p q : ℕ × ℕ) → x ≡ w → x ≡ sought owner shipped srv
+  pub place_at : {x : Result Where Refusal} (w : Result Where Refusal) {a : ℕ × ℕ} (p q : ℕ × ℕ) → x ≡ w → x ≡ sought owner shipped srv
       → a ≡ place_of p q w → a ≡ place_of p q (sought owner shipped srv)
   place_at w p q e f g = sought-at owner shipped srv (place_of p q) w e f g

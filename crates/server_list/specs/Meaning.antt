@@ -1,12 +1,12 @@
 -- Document 01's sentences on a lookup. `FindsServer` is what the answer of the search says, case by case, and proved to
 -- hold of that answer and no other; the others are proved of the code and of the part that is handed back.
-use Rattle.std.specs.Prelude.{◌≡◌, List, [], ℕ, ◌%◌, ◌<◌, length, get_or}
+use Rattle.std.specs.Prelude.{◌≡◌, List, [], ℕ, ◌%◌, ◌<◌, length, get_or, Err, Ok, Result}
 use Rattle.laws.specs.Least.{IsFirst, Never}
 use Rattle.refusal.specs.Refusal.{refusal}
 use Rattle.refusal.specs.declared.Refusal.{Refusal}
 use Rattle.server_list.specs.Lists.{server_count, srv_in, serves_at}
 use Rattle.server_list.specs.declared.Where.{Where}
-use Rattle.server_list.specs.declared.Where.TheVariants.{Owner, Shipped, Refused}
+use Rattle.server_list.specs.declared.Where.TheVariants.{Owner, Shipped}
 
 -- both lists are whole records; an empty list is
 pub record WholeLists (owner shipped : List ℕ) : Type 0 where
@@ -27,10 +27,10 @@ pub data NotFound (owner shipped srv : List ℕ) : Refusal → Type 0 where
   code-22 : WholeLists owner shipped → NotIn owner srv → NotIn shipped srv → NotFound owner shipped srv (refusal 22)
 
 -- what each answer says: the place of the record, or a refusal
-abbrev pub FindsServer : List ℕ → List ℕ → List ℕ → Where → Type 0
-FindsServer owner shipped srv (Owner k) = WholeLists owner shipped × IsFirstIn owner srv k
-FindsServer owner shipped srv (Shipped k) = WholeLists owner shipped × NotIn owner srv × IsFirstIn shipped srv k
-FindsServer owner shipped srv (Refused why) = NotFound owner shipped srv why
+abbrev pub FindsServer : List ℕ → List ℕ → List ℕ → Result Where Refusal → Type 0
+FindsServer owner shipped srv (Ok (Owner k)) = WholeLists owner shipped × IsFirstIn owner srv k
+FindsServer owner shipped srv (Ok (Shipped k)) = WholeLists owner shipped × NotIn owner srv × IsFirstIn shipped srv k
+FindsServer owner shipped srv (Err why) = NotFound owner shipped srv why
 
 -- record i of some records has the SRV value
 pub record HasSrv (srv : List ℕ) (records : List (List ℕ)) (i : ℕ) : Type 0 where

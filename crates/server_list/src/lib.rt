@@ -8,12 +8,10 @@ mod lookup;
 mod records;
 
 pub use lookup::{find_code, find_server, search};
-use refusal::Refusal;
 
-// Where a server stands: the number of its record, from 0, in the list that holds it; or why it was not found.
+// Where a server stands: the list that holds it, and the number of its record there, from 0.
 #[derive(Clone, Copy)]
 pub enum Where {
     Owner(usize),
     Shipped(usize),
-    Refused(Refusal),
 }

@@ -1,7 +1,7 @@
 // One list by its records.
-ghost use Rattle.std.specs.Prelude.{◌≡◌, ◌+◌, ◌*◌, ◌≤◌, length};
+ghost use Rattle.std.specs.Prelude.{◌≡◌, ◌+◌, ◌*◌, ◌<◌, ◌≤◌, length};
 ghost use Rattle.laws.specs.Same.{same};
-ghost use Rattle.server_list.specs.Lists.{server_at};
+ghost use Rattle.server_list.specs.Lists.{server_at, server_count, serves_at};
 ghost use Rattle.server_list.specs.Lookup.{first_in, offset_by};
 
 use octets::{equal, le64};
@@ -9,8 +9,8 @@ use octets::{equal, le64};
 // The bytes of a server's record: its key and its SRV value, 32 bytes each.
 pub const SERVER: usize = 64;
 
-// Whether two values are the same. Eight bytes are looked at together, the last first: of values that were made to be
-// nearly alike, most differ there.
+// Whether two values are the same. Not by `==`: eight bytes are looked at together, the last first, since of values that
+// were made to be nearly alike most differ there.
 fn alike<'a>(a: &'a [u8], b: &'a [u8]) -> bool
     requires { length a.now ≡ 32 }
     ensures { result ≡ same a.now b.now }
@@ -30,20 +30,25 @@ fn alike<'a>(a: &'a [u8], b: &'a [u8]) -> bool
     equal(a, b)
 }
 
-// The number of the first record of list with this SRV value, or of all records where none has it.
+// Whether record k of list has this SRV value.
+fn serves_at<'a>(list: &'a [u8], srv: &'a [u8], k: usize) -> bool
+    requires { k < server_count list.now }
+    ensures { result ≡ serves_at srv.now list.now k }
+{
+    let one = record_of(list, k);
+    // The first half of a record is its key.
+    alike(&one[32..SERVER], srv)
+}
+
+// The number of the first record of list with this SRV value, or of all records where none has it: no Option, as in the
+// definition `first_in`, whose number is compared with that of all.
 pub fn index_in<'a>(list: &'a [u8], srv: &'a [u8]) -> usize
     ensures { result ≡ first_in list.now srv.now }
 {
-    let mut k = 0;
-    while k < list.len() / SERVER {
-        let one = record_of(list, k);
-        // The first half of a record is its key.
-        if alike(&one[32..SERVER], srv) {
-            return k;
-        }
-        k += 1;
-    }
-    k
+    let count = list.len() / SERVER;
+    (0..count)
+        .position(|k| serves_at(list, srv, k))
+        .unwrap_or(count)
 }
 
 // Record k of list, as a part of it.

@@ -8,20 +8,19 @@ ghost use Rattle.server_parts.specs.Delegation.{dele_bytes, cert_bytes};
 
 use super::wording::put_words;
 use octets::{le64_bytes, put};
-use refusal::{codes, refuse};
+use refusal::{Refusal, codes, refuse};
 use wire_message::tags::{DELE, MAXT, MINT, PUBK, SIG};
-use wire_request::Wrote;
 
 // DELE for the delegated key, and the first and the last second at which it may sign, at the front of out: 72 bytes.
-pub fn write_dele(pubk: [u8; 32], mint: u64, maxt: u64, out: &mut [u8]) -> Wrote
+pub fn write_dele(pubk: [u8; 32], mint: u64, maxt: u64, out: &mut [u8]) -> Result<usize, Refusal>
     ensures value { result ≡ answered passed (dele_bytes pubk mint maxt) out.old }
     ensures out_after { out.new ≡ written (wrote_number result) (dele_bytes pubk mint maxt) out.old }
 {
     if out.len() < 72 {
-        return Wrote::Refused(refuse(codes::ROOM));
+        return Err(refuse(codes::ROOM));
     }
     put_dele(out, 0, pubk, mint, maxt);
-    Wrote::Done(72)
+    Ok(72)
 }
 
 // CERT for the same and the signature over that DELE, at the front of out: 152 bytes.
@@ -31,19 +30,19 @@ pub fn write_cert(
     maxt: u64,
     signature: [u8; 64],
     out: &mut [u8],
-) -> Wrote
+) -> Result<usize, Refusal>
     ensures value { result ≡ answered passed (cert_bytes pubk mint maxt signature) out.old }
     ensures out_after { out.new
         ≡ written (wrote_number result) (cert_bytes pubk mint maxt signature) out.old }
 {
     if out.len() < 152 {
-        return Wrote::Refused(refuse(codes::ROOM));
+        return Err(refuse(codes::ROOM));
     }
     // Two values, of which the second starts at 64, and the tags.
     put_words(out, 0, &[2, 64, SIG, DELE]);
     put(out, 16, &signature);
     put_dele(out, 80, pubk, mint, maxt);
-    Wrote::Done(152)
+    Ok(152)
 }
 
 // DELE, from index at of dst on.

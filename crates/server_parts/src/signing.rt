@@ -2,40 +2,37 @@
 ghost use Rattle.std.specs.Prelude.{◌≡◌, ◌+◌, ◌≤◌, length};
 ghost use Rattle.laws.specs.Pasted.{pasted};
 ghost use Rattle.laws.specs.Written.{written};
+ghost use Rattle.refusal.specs.Refusal.{passes};
 ghost use Rattle.wire_request.specs.Answered.{wrote_number, answered};
 ghost use Rattle.server_parts.specs.Signed.{srep_bytes, radius_code};
 
 use super::wording::put_words;
 use octets::{le64_bytes, put};
-use refusal::{PASSED, Refusal, codes, refuse};
+use refusal::{Refusal, codes, refuse};
 use wire_message::tags::{MIDP, RADI, ROOT, VER, VERS};
-use wire_request::Wrote;
 
 // SREP for the root of a batch, a time and its radius, at the front of out: 92 bytes. It is refused with 7 for a radius
 // of 0, which carries no place, and then with 19.
-pub fn write_srep(root: [u8; 32], midp: u64, radi: u32, out: &mut [u8]) -> Wrote
+pub fn write_srep(root: [u8; 32], midp: u64, radi: u32, out: &mut [u8]) -> Result<usize, Refusal>
     ensures value { result ≡ answered (radius_code radi) (srep_bytes root midp radi) out.old }
     ensures out_after { out.new ≡ written (wrote_number result) (srep_bytes root midp radi) out.old }
 {
-    let why = radius_code(radi);
-    if why.code != 0 {
-        return Wrote::Refused(why);
-    }
+    radius_code(radi)?;
     if out.len() < 92 {
-        return Wrote::Refused(refuse(codes::ROOM));
+        return Err(refuse(codes::ROOM));
     }
     put_srep(out, 0, root, midp, radi);
-    Wrote::Done(92)
+    Ok(92)
 }
 
 // Code 7 for a radius of 0. It carries no place: there are no bytes yet in which RADI could stand.
-pub fn radius_code(radi: u32) -> Refusal
-    ensures { result ≡ radius_code radi }
+pub fn radius_code(radi: u32) -> Result<(), Refusal>
+    ensures { result ≡ passes (radius_code radi) }
 {
     if radi == 0 {
-        return refuse(codes::VALUE);
+        return Err(refuse(codes::VALUE));
     }
-    PASSED
+    Ok(())
 }
 
 // SREP, from index at of dst on.

@@ -10,10 +10,7 @@ pub fn put_words(dst: &mut [u8], at: usize, ws: &[u32])
     requires { at + 4 * length ws.now ≤ length dst.old }
     ensures { dst.new ≡ pasted dst.old at (words ws.now) }
 {
-    let mut i = 0;
-    while i < ws.len() {
-        let word = le32_bytes(ws[i]);
-        put(dst, at + 4 * i, &word);
-        i += 1;
+    for (i, word) in ws.iter().enumerate() {
+        put(dst, at + 4 * i, &le32_bytes(*word));
     }
 }

@@ -59,12 +59,9 @@ length-behind root midp radi cert indx r32 =
     ap length (behind-is root midp radi cert indx)
     ∙ simp (length-append, length-srep root midp radi r32) (omega arith)
 
-pub length_rest : (path root : List ℕ) (midp radi : ℕ) (cert : List ℕ) (indx : ℕ) → length root ≡ 32
-    → length (rest_bytes path root midp radi cert indx) ≡ 96 + length path + length cert
-unfolding rest_bytes
-length_rest path root midp radi cert indx r32 =
-    length-append path (behind_bytes root midp radi cert indx) ∙ omega
-    (arith, length-behind root midp radi cert indx r32)
+pub length-end : (cert : List ℕ) (indx : ℕ) → length (cert ++ words (indx ∷ [])) ≡ length cert + 4
+unfolding words le_bytes
+length-end cert indx = length-append cert (words (indx ∷ []))
 
 -- ---- the response
 
@@ -106,6 +103,13 @@ module _ (a : Reply) (ok : Sized a) where
       ≡ front_bytes a.signature (nonce_of a) p c ++ rest_bytes a.path a.root a.midp a.radi a.cert a.indx
   unfolding response_bytes packet_of front_bytes rest_bytes behind_bytes words le_bytes values
   response-is = rw (length-message, message-is) (simp append_assoc)
+
+  -- the same as they are put
+  pub response-parts : response_bytes a
+      ≡ ((front_bytes a.signature (nonce_of a) p c ++ a.path) ++ srep_bytes a.root a.midp a.radi)
+      ++ (a.cert ++ words (a.indx ∷ []))
+  unfolding rest_bytes behind_bytes
+  response-parts = response-is ∙ simp append_assoc
 
   -- 264 bytes, the path and CERT
   pub length-response : length (response_bytes a) ≡ 264 + length a.path + length a.cert

@@ -6,4 +6,4 @@ mod refusing;
 mod responding;
 
 pub use refusing::{cert_code, midp_outside};
-pub use responding::{put_behind, put_front, write_response};
+pub use responding::{put_end, put_front, write_response};

@@ -1,24 +1,24 @@
 // The whole response to a request.
-ghost use Rattle.std.specs.Prelude.{◌≡◌, ◌+◌, ◌≤◌, length};
+ghost use Rattle.std.specs.Prelude.{[], ◌∷◌, ◌++◌, ◌≡◌, ◌+◌, ◌≤◌, length};
 ghost use Rattle.laws.specs.Pasted.{pasted};
 ghost use Rattle.laws.specs.Written.{written};
+ghost use Rattle.wire_message.specs.Encode.{words};
 ghost use Rattle.wire_request.specs.Answered.{wrote_number, answered};
 ghost use Rattle.server_response.specs.Refusing.{reply_code};
 ghost use Rattle.server_response.specs.Response.{reply, response_bytes};
-ghost use Rattle.server_response.specs.Steps.{front_bytes, behind_bytes, rest_bytes};
+ghost use Rattle.server_response.specs.Steps.{front_bytes};
 
 use super::refusing::tests_code;
 use octets::put;
-use refusal::{codes, refuse};
+use refusal::{Refusal, codes, refuse};
 use server_parts::{put_srep, put_words};
 use wire_message::tags::{CERT, INDX, NONC, PATH, SIG, SREP, TYPE};
 use wire_packet::fields::value32;
 use wire_packet::packet::{MARK, body_of};
-use wire_request::Wrote;
 
 // The response to a request, at the front of out: of 264 bytes, the path and CERT, with VER and VERS {1}. The signature
 // is that over what `write_srep` writes for the same root, MIDP and RADI. Refused, in this order, with 14; 7 for RADI
-// 0; 4 to 7 for CERT and its DELE; 10; 11; 23; 19.
+// 0; 4 to 7 for CERT and its DELE; 10; 11; 23; 19. The parameters are those of `tb_write_response`.
 pub fn write_response<'a>(
     request: &'a [u8],
     indx: u32,
@@ -29,7 +29,7 @@ pub fn write_response<'a>(
     cert: &'a [u8],
     signature: [u8; 64],
     out: &mut [u8],
-) -> Wrote
+) -> Result<usize, Refusal>
     ensures value { result
         ≡ answered
         (reply_code
@@ -43,18 +43,19 @@ pub fn write_response<'a>(
         (reply request.now indx root path.now midp radi cert.now signature))
         out.old }
 {
-    let why = tests_code(request, indx, root, path, midp, radi, cert);
-    if why.code != 0 {
-        return Wrote::Refused(why);
-    }
+    tests_code(request, indx, root, path, midp, radi, cert)?;
     let n = 264 + path.len() + cert.len();
     if out.len() < n {
-        return Wrote::Refused(refuse(codes::ROOM));
+        return Err(refuse(codes::ROOM));
     }
     let nonce = value32(body_of(request), NONC);
     put_front(out, signature, nonce, path.len() as u32, cert.len() as u32);
-    put_rest(out, path, root, midp, radi, cert, indx);
-    Wrote::Done(n)
+    put(out, 168, path);
+    let behind = 168 + path.len();
+    // SREP has 92 bytes.
+    put_srep(out, behind, root, midp, radi);
+    put_end(out, behind + 92, cert, indx);
+    Ok(n)
 }
 
 // What stands before the path, which has p bytes, and CERT c.
@@ -92,41 +93,11 @@ pub fn put_front(dst: &mut [u8], signature: [u8; 64], nonce: [u8; 32], p: u32, c
     put_words(dst, 164, &[1]);
 }
 
-// The path, and what stands behind it.
-fn put_rest<'a>(
-    dst: &mut [u8],
-    path: &'a [u8],
-    root: [u8; 32],
-    midp: u64,
-    radi: u32,
-    cert: &'a [u8],
-    indx: u32,
-)
-    requires { 264 + length path.now + length cert.now ≤ length dst.old }
-    ensures { dst.new
-        ≡ pasted dst.old 168
-        (rest_bytes path.now root midp radi cert.now indx) }
+// What stands behind SREP, which ends before index at: CERT and INDX.
+pub fn put_end(dst: &mut [u8], at: usize, cert: &[u8], indx: u32)
+    requires { at + (4 + length cert.now) ≤ length dst.old }
+    ensures { dst.new ≡ pasted dst.old at (cert.now ++ words (indx ∷ [])) }
 {
-    put(dst, 168, path);
-    put_behind(dst, 168 + path.len(), root, midp, radi, cert, indx);
-}
-
-// What stands behind the path, which ends before index at: SREP, CERT and INDX.
-pub fn put_behind(
-    dst: &mut [u8],
-    at: usize,
-    root: [u8; 32],
-    midp: u64,
-    radi: u32,
-    cert: &[u8],
-    indx: u32,
-)
-    requires { at + (96 + length cert.now) ≤ length dst.old }
-    ensures { dst.new
-        ≡ pasted dst.old at (behind_bytes root midp radi cert.now indx) }
-{
-    let c = cert.len();
-    put_srep(dst, at, root, midp, radi);
-    put(dst, at + 92, cert);
-    put_words(dst, at + 92 + c, &[indx]);
+    put(dst, at, cert);
+    put_words(dst, at + cert.len(), &[indx]);
 }

@@ -1,5 +1,8 @@
 -- A response that is written with what a server signed: both signatures verify, by our own Ed25519, and so it passes
 -- the check that lends no answers.
+use Rattle.check_response.specs.declared.Window.{Window}
+use Rattle.refusal.specs.declared.Refusal.{Refusal}
+use Rattle.std.specs.Prelude.{Result}
 use Prim.Native.Nat.{ℕ, ◌+◌, ◌^◌, ◌<◌}
 use mathlib.Core.Path.{◌≡◌, ap₂, ◌∙◌}
 use mathlib.Core.Bool.{true}
@@ -7,7 +10,6 @@ use mathlib.Core.List.{List, ◌++◌}
 use native.Mathlib.Omega.{arith}
 use lib.ListN.{length}
 use Rattle.check_response.specs.Check.{check_code, window_in, verdict_of}
-use Rattle.check_response.specs.declared.Verdict.{Verdict}
 use Rattle.check_response.proofs.Lent.{by-valid}
 use Rattle.check_signatures.specs.SignatureAnswers.{delegated, responded}
 use Rattle.check_signatures.proofs.Verdicts.{checked-texts, delegated-as, responded-as}
@@ -74,5 +76,5 @@ module _ (s : Signer) (a : Reply) (by : SignedBy s a) (time : InTime s a.midp a.
     pub response-passes : PassesFor s a.request p a.midp a.radi
     response-passes =
         rw (delegation-yes, response-yes)
-        (ap₂ (λ (v : Verdict) (key : List ℕ). record { verdict = v; pubk = key })
+        (ap₂ (λ (v : Result Window Refusal) (key : List ℕ). record { verdict = v; pubk = key })
         (rw (cert-of.from, cert-of.to) at (reply-passes a t g)) (reply-key a t g ∙ cert-of.key))

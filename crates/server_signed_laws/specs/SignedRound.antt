@@ -1,6 +1,6 @@
 -- A round of a server that signs with two seeds: DELE and its signature, CERT, SREP and its signature, operation by
 -- operation. Each is what its contract says of its answer and of the buffer that it was lent.
-use Rattle.std.specs.Prelude.{ℕ, ◌≡◌, List, take}
+use Rattle.std.specs.Prelude.{ℕ, ◌≡◌, List, take, Ok, Result}
 use Rattle.ed25519_sign.specs.Signing.{public_of, signature_parts}
 use Rattle.laws.specs.Written.{written}
 use Rattle.refusal.specs.Refusal.{passed}
@@ -10,8 +10,6 @@ use Rattle.server_parts.specs.Delegation.{cert_bytes}
 use Rattle.server_parts.specs.Signed.{srep_bytes, radius_code}
 use Rattle.wire_request.specs.Answered.{wrote_number, answered}
 use Rattle.wire_request.specs.Texts.{delegation_context, response_context}
-use Rattle.wire_request.specs.declared.Wrote.{Wrote}
-use Rattle.wire_request.specs.declared.Wrote.TheVariants.{Done}
 use Rattle.server_signed_laws.specs.Signer.{Signer, dele_for}
 
 -- A writer that refuses its input by `why`, and else writes p, was lent a buffer and answered n: its first n bytes
@@ -19,11 +17,11 @@ use Rattle.server_signed_laws.specs.Signer.{Signer, dele_for}
 pub record Front (why : Refusal) (p front : List ℕ) : Type 0 where
   pub out : List ℕ
   pub left : List ℕ
-  pub answer : Wrote
+  pub answer : Result ℕ Refusal
   pub n : ℕ
   pub answers : answer ≡ answered why p out
   pub leaves : left ≡ written (wrote_number answer) p out
-  pub done : answer ≡ Done n
+  pub done : answer ≡ Ok n
   pub is : front ≡ take n left
 
 pub record SignedRound (s : Signer) (r : Round) : Type 0 where

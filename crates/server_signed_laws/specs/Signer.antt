@@ -1,10 +1,9 @@
 -- A server that signs with two seeds by our own Ed25519 (requests P1 and P11; draft 19, 5.2.1 and 5.2.6): what it has,
 -- what it writes, and what is claimed of it.
-use Rattle.std.specs.Prelude.{ℕ, ◌^◌, ◌≤◌, ◌<◌, ◌≡◌, List, []}
+use Rattle.std.specs.Prelude.{ℕ, ◌^◌, ◌≤◌, ◌<◌, ◌≡◌, List, [], Ok}
 use Rattle.check_response.specs.Check.{checked_of}
 use Rattle.check_response.specs.Window.{window_of}
 use Rattle.check_response.specs.declared.Checked.{Checked}
-use Rattle.check_response.specs.declared.Verdict.TheVariants.{Valid}
 use Rattle.check_signatures.specs.SignatureAnswers.{delegated, responded}
 use Rattle.ed25519_sign.specs.Signing.{public_of, signature_parts}
 use Rattle.hash.specs.Hashes.{leaf_of}
@@ -62,4 +61,4 @@ check_signed key q p = checked_of q p (delegated key p) (responded p)
 abbrev pub PassesFor : Signer → List ℕ → List ℕ → ℕ → ℕ → Type 0
 PassesFor s q p midp radi =
     check_signed (public_of s.long-term) q p
-    ≡ record { verdict = Valid (window_of midp radi s.mint s.maxt); pubk = public_of s.delegate }
+    ≡ record { verdict = Ok (window_of midp radi s.mint s.maxt); pubk = public_of s.delegate }

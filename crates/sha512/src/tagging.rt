@@ -11,6 +11,7 @@ use octets::put;
 use sha512_block::hash_open_blocks;
 
 // The SHA-512 digest of one byte, and then a. The first block is put together, and the others are read where they are.
+// A function of its own beside `sha512_pair`, by whose pieces a block of zeros takes the time of any other.
 pub fn sha512_tagged(tag: u8, a: &[u8]) -> [u8; 64]
     ensures { result ≡ Sha512 (tag ∷ a.now) }
 {
@@ -25,7 +26,6 @@ pub fn sha512_tagged(tag: u8, a: &[u8]) -> [u8; 64]
     let x = hash_open_blocks(initial_hash(), &b);
     let t = &a[127..];
     let y = hash_open_blocks(x, t);
-    let m = t.len();
-    let e = m - m % 128;
+    let e = t.len() - t.len() % 128;
     digest(last(y, &t[e..], n))
 }

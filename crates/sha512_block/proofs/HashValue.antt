@@ -1,6 +1,8 @@
 -- Laws of the hash value after block upon block.
-use Rattle.std.proofs.Common.{◌≡◌, ℕ, zero, suc, ◌+◌, ◌-◌, ◌*◌, ◌/◌, ◌%◌, ◌≤◌, List, ◌++◌, length, take, drop, sym, refl, ap, ◌∙◌, ap₂, append_assoc, add-zero, add-suc, arith, length-append, length-drop, take-append-drop, length-take-le, take_all}
-use lib.Seq.{drop-append-le, take-append-le, drop-append-add}
+use Rattle.std.proofs.Common.{◌≡◌, ℕ, zero, suc, ◌+◌, ◌-◌, ◌*◌, ◌/◌, ◌%◌, ◌≤◌, ◌<◌, List, get_or, add-one, ◌++◌, length, take, drop, sym, refl, ap, ◌∙◌, ap₂, append_assoc, add-zero, add-suc, arith, length-append, length-drop, take-append-drop, length-take-le, take_all}
+use lib.Seq.{drop-drop, drop-append-le, take-append-le, drop-append-add}
+use Rattle.std.specs.Simd.{first_chunks}
+use Rattle.laws.proofs.Chunks.{chunk_at}
 use Rattle.sha512_block.specs.HashValue.{next_hash, compress, hash_after, hashed}
 use Rattle.sha512_block.specs.Parsing.{block}
 
@@ -59,6 +61,18 @@ hashed-rest h s z t a a-is t-is =
 pub hashed-short : (h s : List ℕ) → length s / 128 ≡ 0 → h ≡ hashed h s
 unfolding hashed hash_after
 hashed-short h s e = ap (hash_after h s) (sym e)
+
+-- no block does
+pub hash_none : (h s : List ℕ) → hash_after h s 0 ≡ h
+unfolding hash_after
+hash_none h s = refl
+
+-- one block more, where code has the blocks as bs
+pub hash_more : (h m x y : List ℕ) (bs : List (List ℕ)) (n i : ℕ) (d : List ℕ) → bs ≡ first_chunks 128 n m → i < n
+    → x ≡ hash_after h m i → y ≡ compress x (get_or bs i d) → y ≡ hash_after h m (i + 1)
+unfolding hash_after
+hash_more h m x y bs n i d b l e f =
+    f ∙ ap₂ compress e (ap (λ l. get_or l i d) b ∙ chunk_at 128 n m i d l) ∙ rw add-one refl
 
 -- ---- the hash value has eight words
 

@@ -1,8 +1,8 @@
 -- The rounds with sixteen words of the schedule at a time are the rounds over the whole schedule.
-use Rattle.std.proofs.Common.{◌≡◌, ℕ, ◌+◌, ◌-◌, ◌%◌, ◌<◌, ◌≤◌, List, [], length, get_or, replicate, sym, refl, ap, ◌∙◌, ⊎_elim, eq-or-lt_of_le, add-one, arith, length-set, get_or-set_other, get_or-take, get_or-set_same}
+use Rattle.std.proofs.Common.{◌≡◌, ℕ, ◌+◌, ◌-◌, ◌%◌, ◌<◌, ◌≤◌, List, length, get_or, replicate, sym, refl, ap, ◌∙◌, ⊎_elim, eq-or-lt_of_le, add-one, arith, length-set, get_or-set_other, get_or-take, get_or-set_same}
 use lib.ListN.{get_or-replicate}
 use Rattle.sha512_block.specs.Constants.{K}
-use Rattle.sha512_block.specs.Rolling.{Turning, turning, next_mixed, word_step, round_step, quiet_step, turn_step}
+use Rattle.sha512_block.specs.Rolling.{Turning, turning, next_mixed, word_step, round_step, turn_step}
 use Rattle.sha512_block.specs.Rounds.{round, rounds}
 use Rattle.sha512_block.specs.Schedule.{first_words, schedule}
 use Rattle.sha512_block.specs.Steps.{steps}
@@ -32,7 +32,7 @@ rolling-none b w z l e = record {
 
 -- one round more over the schedule q, from any words of which the one at t's place is word t
 round-more : (q w : List ℕ) (z : Regs) (t : ℕ) (y : Regs) → get_or w (t % 16) 0 ≡ get_or q t 0
-    → y ≡ rounds q z t → round_step K w t y ≡ rounds q z (t + 1)
+    → y ≡ rounds q z t → round_step w t y ≡ rounds q z (t + 1)
 unfolding rounds
 round-more q w z t y v e = rw (add-one, v) (ap (round (get_or K t 0) (get_or q t 0)) e)
 
@@ -55,7 +55,7 @@ module _ (b : List ℕ) (z : Regs) (t : ℕ) (p : Turning) (l : t < 64) (r : Rol
       (sym (rw (e2, e7, e15, e16) at (schedule-high b (t + 16) (omega arith) (omega arith))))
 
   -- one turn more
-  rolling-turn : Rolling b z (t + 1) (turn_step K t p)
+  rolling-turn : Rolling b z (t + 1) (turn_step t p)
   rolling-turn = record {
     long = simp length-set r.long;
     window = λ u h g.
@@ -74,24 +74,26 @@ module _ (b : List ℕ) (z : Regs) (t : ℕ) (p : Turning) (l : t < 64) (r : Rol
     so_far = round-more (schedule b) w z t p.regs (r.window t (omega arith) (omega arith)) r.so_far;
   }
 
--- n turns more, where code has the constants as k
-pub rolling-turns : {b k : List ℕ} {z : Regs} {t : ℕ} {p q : Turning} (n : ℕ) → k ≡ K → Rolling b z t p → t + n ≤ 64
-    → q ≡ steps (turn_step k) t n p → Rolling b z (t + n) q
-rolling-turns {b} {k} {z} {t} {p} {q} n k-is r l e =
-    rw (e, k-is) (steps-keep (turn_step K) (Rolling b z) t n p (λ i y f g h. rolling-turn b z i y (omega arith) h) r)
+-- n turns more
+pub rolling-turns : {b : List ℕ} {z : Regs} {t u : ℕ} {p q : Turning} (n : ℕ) → Rolling b z t p → u ≡ t + n
+    → t + n ≤ 64 → q ≡ steps turn_step t n p → Rolling b z u q
+rolling-turns {b} {z} {t} {u} {p} {q} n r u-is l e =
+    rw (u-is, e) (steps-keep turn_step (Rolling b z) t n p (λ i y f g h. rolling-turn b z i y (omega arith) h) r)
 
 -- the last sixteen rounds
-pub rolling-last : {b k w : List ℕ} {z x r : Regs} {t : ℕ} → k ≡ K → t ≡ 64 → Rolling b z t (turning x w)
-    → r ≡ steps (round_step k w) 64 16 x → r ≡ rounds (schedule b) z 80
-rolling-last {b} {k} {w} {z} {x} {r} {t} k-is t-is l e =
-    rw (e, k-is)
-    (steps-keep (round_step K w) (λ i y. y ≡ rounds (schedule b) z i) 64 16 x
+pub rolling-last : {b w : List ℕ} {z x r : Regs} {t : ℕ} → t ≡ 64 → Rolling b z t (turning x w)
+    → r ≡ steps (round_step w) 64 16 x → r ≡ rounds (schedule b) z 80
+rolling-last {b} {w} {z} {x} {r} {t} t-is l e =
+    rw (e)
+    (steps-keep (round_step w) (λ i y. y ≡ rounds (schedule b) z i) 64 16 x
     (λ i y f g h. round-more (schedule b) w z i y (l.window i (omega arith) (omega arith)) h) (rw t-is at l.so_far))
 
--- n rounds more over a schedule of zeros
-pub quiet-more : {k : List ℕ} (z x : Regs) {r : Regs} (t n : ℕ) → k ≡ K → t + n ≤ 80 → x ≡ rounds (replicate 80 0) z t
-    → r ≡ steps (quiet_step k) t n x → r ≡ rounds (replicate 80 0) z (t + n)
-quiet-more {k} z x {r} t n k-is l so_far e =
-    rw (e, k-is)
-    (steps-keep (quiet_step K) (λ i y. y ≡ rounds (replicate 80 0) z i) t n x
-    (λ i y f g h. round-more (replicate 80 0) [] z i y (sym (get_or-replicate 80 i 0 0 (omega arith))) h) so_far)
+-- n rounds more over a schedule of zeros, with words of zeros
+pub quiet-more : {w : List ℕ} (z x : Regs) {r : Regs} {u : ℕ} (t n : ℕ) → w ≡ replicate 16 0 → u ≡ t + n
+    → t + n ≤ 80 → x ≡ rounds (replicate 80 0) z t → r ≡ steps (round_step w) t n x → r ≡ rounds (replicate 80 0) z u
+quiet-more {w} z x {r} {u} t n w-is u-is l so_far e =
+    rw (u-is, e, w-is)
+    (steps-keep (round_step (replicate 16 0)) (λ i y. y ≡ rounds (replicate 80 0) z i) t n x
+    (λ i y f g h.
+    let word : get_or (replicate 16 0) (i % 16) 0 ≡ 0 = get_or-replicate 16 (i % 16) 0 0 (omega arith) in
+    round-more (replicate 80 0) (replicate 16 0) z i y (word ∙ sym (get_or-replicate 80 i 0 0 (omega arith))) h) so_far)

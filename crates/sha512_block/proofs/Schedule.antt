@@ -22,7 +22,7 @@ mixed-take w t h =
     let h16 : t - 16 < t = omega arith in
     simp get_or-take
 
-words_long : (b : List ℕ) (n : ℕ) → length (first_words b n) ≡ n
+pub words_long : (b : List ℕ) (n : ℕ) → length (first_words b n) ≡ n
 unfolding first_words
 words_long b zero = refl
 words_long b (suc n) =
@@ -54,6 +54,10 @@ words-at b t n h =
     sym (get_or-take (suc t) (first_words b n) t 0 (omega arith))
     ∙ ap (λ (l : List ℕ). get_or l t 0) (words_take b (suc t) n h ∙ words_more b t)
     ∙ get_or_at (first_words b t) (next_word b (first_words b t) t) [] 0 t (words_long b t)
+
+-- the block's own words
+pub own_word : (b : List ℕ) (t : ℕ) → t < 16 → get_or (first_words b 16) t 0 ≡ block_word b t
+own_word b t h = words-at b t 16 h ∙ rw (lt-ltb t 16 h)
 
 -- 6.4.2, step 1, as it stands there, and so a check of the definition: W t is M t for t below 16,
 pub schedule-low : (b : List ℕ) (t : ℕ) → t < 16 → get_or (schedule b) t 0 ≡ block_word b t

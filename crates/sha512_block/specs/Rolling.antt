@@ -2,6 +2,7 @@
 -- t % 16, and with round t word t + 16 takes that place.
 use Rattle.std.specs.Prelude.{ℕ, ◌+◌, ◌%◌, List, slice_index, slice_set}
 use Rattle.sha512_block.specs.declared.Regs.{Regs}
+use Rattle.sha512_block.specs.Constants.{K}
 use Rattle.sha512_block.specs.Rounds.{round}
 use Rattle.sha512_block.specs.Words.{add64, σ0, σ1}
 
@@ -24,14 +25,10 @@ next_mixed w t =
 abbrev pub word_step : ℕ → List ℕ → List ℕ
 word_step t w = slice_set w (t % 16) (next_mixed w t)
 
--- round t, with the constants k and the words w
-abbrev pub round_step : List ℕ → List ℕ → ℕ → Regs → Regs
-round_step k w t s = round (slice_index k t) (slice_index w (t % 16)) s
-
--- round t on a block of zeros, with the constants k
-abbrev pub quiet_step : List ℕ → ℕ → Regs → Regs
-quiet_step k t s = round (slice_index k t) 0 s
+-- round t, with the words w
+abbrev pub round_step : List ℕ → ℕ → Regs → Regs
+round_step w t s = round (slice_index K t) (slice_index w (t % 16)) s
 
 -- round t with its word, and word t + 16 in the place of that
-abbrev pub turn_step : List ℕ → ℕ → Turning → Turning
-turn_step k t p = turning (round_step k p.words t p.regs) (word_step t p.words)
+abbrev pub turn_step : ℕ → Turning → Turning
+turn_step t p = turning (round_step p.words t p.regs) (word_step t p.words)

@@ -1,23 +1,20 @@
 // The whole blocks of a slice worked into the hash value, one by one (FIPS 180-4, 6.4.2).
-ghost use Rattle.std.specs.Prelude.{◌≡◌, length};
-ghost use Rattle.sha512_block.specs.Constants.{K};
+ghost use Rattle.std.specs.Prelude.{◌≡◌};
 ghost use Rattle.sha512_block.specs.HashValue.{next_hash, compress, hashed};
 ghost use Rattle.sha512_block.specs.Rounds.{working_variables, rounds};
 ghost use Rattle.sha512_block.specs.Schedule.{schedule};
 
 use super::Regs;
-use super::constants::constants;
 use super::quiet::quiet_rounds;
 use super::rounding::rounds;
 use octets::all_zero;
-use std::num::wrapping_add_u64;
 
 // The hash value after the whole blocks of s, from the hash value h on. Bytes behind the last whole block play no part.
 // No branch hangs on the bytes, which may be secret.
 pub fn hash_blocks(h: [u64; 8], s: &[u8]) -> [u64; 8]
     ensures { result ≡ hashed h s.now }
 {
-    blocks_hashed(h, s, false)
+    blocks_hashed::<Secret>(h, s)
 }
 
 // The same of bytes that are open to all, as requests are: a block of zeros, of which a request has several, takes less
@@ -25,52 +22,61 @@ pub fn hash_blocks(h: [u64; 8], s: &[u8]) -> [u64; 8]
 pub fn hash_open_blocks(h: [u64; 8], s: &[u8]) -> [u64; 8]
     ensures { result ≡ hashed h s.now }
 {
-    blocks_hashed(h, s, true)
+    blocks_hashed::<Open>(h, s)
 }
 
-// Both. The table of constants is copied at each call: once for all blocks, and not at all where there is none.
-fn blocks_hashed(h: [u64; 8], s: &[u8], open: bool) -> [u64; 8]
+// How the rounds on a block go, by who may know its bytes.
+trait Openness {
+    // All the rounds on the block b.
+    fn block_rounds(s: Regs, b: &[u8; 128]) -> Regs
+        ensures { result ≡ rounds (schedule b.now) s 80 };
+}
+
+// Bytes that may be secret: they are not looked at.
+struct Secret;
+
+impl Openness for Secret {
+    fn block_rounds(s: Regs, b: &[u8; 128]) -> Regs {
+        rounds(s, b)
+    }
+}
+
+// Bytes that are open to all.
+struct Open;
+
+impl Openness for Open {
+    fn block_rounds(s: Regs, b: &[u8; 128]) -> Regs {
+        if all_zero(b) {
+            quiet_rounds(s)
+        } else {
+            rounds(s, b)
+        }
+    }
+}
+
+// Block after block.
+fn blocks_hashed<O: Openness>(h: [u64; 8], s: &[u8]) -> [u64; 8]
     ensures { result ≡ hashed h s.now }
 {
-    let n = s.len() / 128;
-    if n == 0 {
-        return h;
-    }
-    let k = constants();
+    let (blocks, _) = s.as_chunks::<128>();
     let mut x = h;
-    let mut i: usize = 0;
-    while i < n {
-        let a = 128 * i;
-        let e = a + 128;
-        let y = compress(x, &k, &s[a..e], open);
-        x = y;
-        i += 1;
+    for block in blocks {
+        let next = compress::<O>(x, block);
+        x = next;
     }
     x
 }
 
-// The hash value after the block b, with the constants k.
-fn compress(h: [u64; 8], k: &[u64; 80], b: &[u8], open: bool) -> [u64; 8]
-    requires { (k.now ≡ K) × (length b.now ≡ 128) }
+// The hash value after the block b.
+#[tactic(auto, unfolding(crate::specs::HashValue::compress))]
+fn compress<O: Openness>(h: [u64; 8], b: &[u8; 128]) -> [u64; 8]
     ensures { result ≡ compress h b.now }
 {
-    next_hash(h, block_rounds(working_variables(h), k, b, open))
-}
-
-// All the rounds on the block b. Its bytes are looked at only where they are open.
-fn block_rounds(s: Regs, k: &[u64; 80], b: &[u8], open: bool) -> Regs
-    requires { (k.now ≡ K) × (length b.now ≡ 128) }
-    ensures { result ≡ rounds (schedule b.now) s 80 }
-{
-    if open {
-        if all_zero(b) {
-            return quiet_rounds(s, k);
-        }
-    }
-    rounds(s, k, b)
+    next_hash(h, O::block_rounds(working_variables(h), b))
 }
 
 // Step 2: the working variables as the rounds begin.
+#[tactic(auto, unfolding(crate::specs::Rounds::working_variables))]
 fn working_variables(h: [u64; 8]) -> Regs
     ensures { result ≡ working_variables h }
 {
@@ -87,17 +93,18 @@ fn working_variables(h: [u64; 8]) -> Regs
 }
 
 // Step 4: the hash value with the working variables added.
+#[tactic(auto, unfolding(crate::specs::HashValue::next_hash))]
 fn next_hash(h: [u64; 8], s: Regs) -> [u64; 8]
     ensures { result ≡ next_hash h s }
 {
     [
-        wrapping_add_u64(h[0], s.a),
-        wrapping_add_u64(h[1], s.b),
-        wrapping_add_u64(h[2], s.c),
-        wrapping_add_u64(h[3], s.d),
-        wrapping_add_u64(h[4], s.e),
-        wrapping_add_u64(h[5], s.f),
-        wrapping_add_u64(h[6], s.g),
-        wrapping_add_u64(h[7], s.h),
+        h[0].wrapping_add(s.a),
+        h[1].wrapping_add(s.b),
+        h[2].wrapping_add(s.c),
+        h[3].wrapping_add(s.d),
+        h[4].wrapping_add(s.e),
+        h[5].wrapping_add(s.f),
+        h[6].wrapping_add(s.g),
+        h[7].wrapping_add(s.h),
     ]
 }

@@ -5,5 +5,5 @@ ghost use Rattle.tree.specs.Width.{Bits};
 pub fn bit_length(x: u32) -> u32
     ensures { Bits x result }
 {
-    32 - u32::leading_zeros(x)
+    u32::BITS - x.leading_zeros()
 }

@@ -1,35 +1,33 @@
 -- Laws of the builders' answers: by each way out, what is known where one wrote, and what is left in the buffer.
+use Rattle.std.specs.Prelude.{Err, Ok, Result}
 use mathlib.Core.Path.{◌≡◌, refl, sym, ap, ◌∙◌}
 use mathlib.Core.Bool.{Bool, true, false, cond}
 use mathlib.Core.List.{List}
 use Prim.Native.Nat.{ℕ, ◌*◌, ◌≤◌, ◌<◌}
 use native.Mathlib.Omega.{arith}
 use lib.Dec.{eqb, ltb, leb}
-use lib.ListN.{length, replicate}
+use lib.ListN.{length}
 use borrow.Author.Tests.{le-leb, lt-leb, lt-ltb, le-ltb, eq-eqb, ne_eqb, leb-false, ltb-false, eqb-false}
 use Rattle.laws.specs.Flat.{flat}
 use Rattle.laws.specs.Written.{written, Puts}
 use Rattle.laws.proofs.Written.{written-whole}
-use Rattle.refusal.specs.Refusal.{refusal, passed}
+use Rattle.refusal.specs.Refusal.{refusal}
 use Rattle.refusal.specs.declared.Refusal.{Refusal}
 use Rattle.tree.specs.Tree.{nodes_in, depth_of, root_of, path_of}
 use Rattle.tree_build.specs.AllRows.{levels, nodes_of, path_in}
 use Rattle.tree_build.specs.Leaves.{count_of, held_of}
 use Rattle.tree_build.specs.Building.{rooted_of, path_answer, path_bytes, from_bytes, rows_answer, rows_bytes}
-use Rattle.tree_build.specs.declared.PathAnswer.{PathAnswer}
-use Rattle.tree_build.specs.declared.PathAnswer.TheVariants as path-answer
-use Rattle.tree_build.specs.declared.RowsAnswer.TheVariants as rows-answer
 use Rattle.tree_build.proofs.Leaves.{held-is}
 
 -- ---- The answers by each way out. There are n leaves, which code has as m, and their tree has the depth d.
 
 module _ {m n : ℕ} (same : m ≡ n) where
   pub path-none : {why : Refusal} (place room : ℕ) → m ≤ place → why ≡ refusal 20
-      → path-answer.Refused why ≡ path_answer n place room
+      → Err why ≡ path_answer n place room
   unfolding path_answer
   path-none place room h e = simp (le-leb n place (rw same at h), e)
 
-  pub rows_none : {why : Refusal} (room : ℕ) → m ≡ 0 → why ≡ refusal 20 → rows-answer.Refused why ≡ rows_answer n room
+  pub rows_none : {why : Refusal} (room : ℕ) → m ≡ 0 → why ≡ refusal 20 → Err why ≡ rows_answer n room
   unfolding rows_answer
   rows_none room z e = simp (eq-eqb n 0 (sym same ∙ z), e)
 
@@ -39,21 +37,21 @@ module _ {m n : ℕ} (same : m ≡ n) where
 
     module _ {place room : ℕ} (there : place < m) where
       pub path-short : {why : Refusal} → room < 32 * d → why ≡ refusal 19
-          → path-answer.Refused why ≡ path_answer n place room
+          → Err why ≡ path_answer n place room
       unfolding path_answer
       path-short h e = simp (lt-leb n place (rw same at there), lt-ltb _ _ (rw height at h), e)
 
       pub path-written : {indx : ℕ} → indx ≡ place → 32 * d ≤ room
-          → path-answer.Written indx d ≡ path_answer n place room
+          → Ok (indx, d) ≡ path_answer n place room
       unfolding path_answer
       path-written e h = simp (lt-leb n place (rw same at there), le-ltb _ _ (rw height at h), e, height)
 
     module _ {size room : ℕ} (some : m ≡ 0 → ⊥) (whole : size ≡ 32 * nodes_of d) where
-      pub rows_short : {why : Refusal} → room < size → why ≡ refusal 19 → rows-answer.Refused why ≡ rows_answer n room
+      pub rows_short : {why : Refusal} → room < size → why ≡ refusal 19 → Err why ≡ rows_answer n room
       unfolding rows_answer
       rows_short h e = simp (ne_eqb n 0 (λ z. some (same ∙ z)), lt-ltb _ _ (rw (whole, height) at h), e)
 
-      pub rows_written : size ≤ room → rows-answer.Written d ≡ rows_answer n room
+      pub rows_written : size ≤ room → Ok d ≡ rows_answer n room
       unfolding rows_answer
       rows_written h = simp (ne_eqb n 0 (λ z. some (same ∙ z)), le-ltb _ _ (rw (whole, height) at h), height)
 
@@ -66,9 +64,9 @@ pub record PathThere (n place room indx depth : ℕ) : Type 0 where
   pub deep : depth ≡ depth_of n
 
 -- what an answer says of the leaf at a place of n leaves
-abbrev PathSays : ℕ → ℕ → ℕ → PathAnswer → Type 0
-PathSays n place room (path-answer.Written indx depth) = PathThere n place room indx depth
-PathSays n place room (path-answer.Refused why) = why.code ≡ 0 → ⊥
+abbrev PathSays : ℕ → ℕ → ℕ → Result (ℕ × ℕ) Refusal → Type 0
+PathSays n place room (Ok (indx, depth)) = PathThere n place room indx depth
+PathSays n place room (Err why) = why.code ≡ 0 → ⊥
 
 path-says : (n place room : ℕ) → PathSays n place room (path_answer n place room)
 unfolding path_answer
@@ -76,18 +74,18 @@ path-says n place room = by (leb n place) (ltb room (32 * depth_of n)) refl refl
   where
     by : (a b : Bool) → leb n place ≡ a → ltb room (32 * depth_of n) ≡ b
         → PathSays n place room
-        (cond a (path-answer.Refused (refusal 20))
-        (cond b (path-answer.Refused (refusal 19)) (path-answer.Written place (depth_of n))))
+        (cond a (Err (refusal 20))
+        (cond b (Err (refusal 19)) (Ok (place, (depth_of n)))))
     by true b p q = λ z. omega arith
     by false true p q = λ z. omega arith
     by false false p q =
         record { there = leb-false _ _ p; fits = ltb-false _ _ q; indx-is = refl; deep = refl }
 
-pub path-there : (n place room indx depth : ℕ) → path-answer.Written indx depth ≡ path_answer n place room
+pub path-there : (n place room indx depth : ℕ) → Ok (indx, depth) ≡ path_answer n place room
     → PathThere n place room indx depth
 path-there n place room indx depth e = rw (← e) at (path-says n place room)
 
-pub path-refused : (n place room : ℕ) (why : Refusal) → path-answer.Refused why ≡ path_answer n place room
+pub path-refused : (n place room : ℕ) (why : Refusal) → Err why ≡ path_answer n place room
     → why.code ≡ 0 → ⊥
 path-refused n place room why e = rw (← e) at (path-says n place room)
 
@@ -95,14 +93,14 @@ pub record RowsThere (n depth : ℕ) : Type 0 where
   pub some : 0 < n
   pub deep : depth ≡ depth_of n
 
-pub rows-there : (n room depth : ℕ) → rows-answer.Written depth ≡ rows_answer n room → RowsThere n depth
+pub rows-there : (n room depth : ℕ) → Ok depth ≡ rows_answer n room → RowsThere n depth
 unfolding rows_answer
 rows-there n room depth = by (eqb n 0) (ltb room (32 * nodes_of (depth_of n))) refl
   where
     by : (a b : Bool) → eqb n 0 ≡ a
-        → rows-answer.Written depth
-        ≡ cond a (rows-answer.Refused (refusal 20))
-        (cond b (rows-answer.Refused (refusal 19)) (rows-answer.Written (depth_of n)))
+        → Ok depth
+        ≡ cond a (Err (refusal 20))
+        (cond b (Err (refusal 19)) (Ok (depth_of n)))
         → RowsThere n depth
     by true b p e = absurd (let z : ◌≡◌ {A = ℕ} 0 1 = cc in omega arith)
     by false true p e = absurd (let z : ◌≡◌ {A = ℕ} 0 1 = cc in omega arith)
@@ -112,13 +110,13 @@ rows-there n room depth = by (eqb n 0) (ltb room (32 * nodes_of (depth_of n))) r
 
 module _ (s : List ℕ) {n : ℕ} (e : n ≡ count_of (length s)) where
   pub rooted_none : {x : Refusal} → n ≡ 0 → x ≡ refusal 20
-      → record { refusal = x; depth = 0; root = replicate 32 0 } ≡ rooted_of s
+      → Err x ≡ rooted_of s
   unfolding rooted_of
   rooted_none z p = simp (eq-eqb (count_of (length s)) 0 (sym e ∙ z), p)
 
   module _ {d : ℕ} (deep : d ≡ depth_of n) where
     pub rooted-some : {r : List ℕ} → (n ≡ 0 → ⊥) → r ≡ root_of (nodes_in n s) d
-        → record { refusal = passed; depth = d; root = r } ≡ rooted_of s
+        → Ok (record { depth = d; root = r }) ≡ rooted_of s
     unfolding rooted_of
     rooted-some some p =
         simp (ne_eqb (count_of (length s)) 0 (λ (z : count_of (length s) ≡ 0). some (e ∙ z)), p, deep, e)

@@ -1,4 +1,6 @@
 -- The theorem in bytes: what `path` answers as written passes the check, from that leaf, against what `root` answers.
+use Rattle.std.specs.Prelude.{Ok, Result}
+use Rattle.refusal.specs.declared.Refusal.{Refusal}
 use mathlib.Core.Path.{◌≡◌, refl, sym, ap, ◌∙◌}
 use mathlib.Core.Bool.{true}
 use mathlib.Core.List.{List}
@@ -14,9 +16,8 @@ use Rattle.hash.specs.Hashes.{empty_place}
 use Rattle.tree.specs.Tree.{node_in, nodes_in, node_at, depth_of, root_of, siblings, path_of}
 use Rattle.tree.specs.PathCheck.{climb, reached, leads_of}
 use Rattle.tree_build.specs.Leaves.{count_of, leaves_in, depth_in, most}
-use Rattle.tree_build.specs.Building.{rooted_of, path_number, path_answer, path_bytes}
+use Rattle.tree_build.specs.Building.{rooted_of, rooted_root, path_number, path_answer, path_bytes}
 use Rattle.tree_build.specs.declared.Rooted.{Rooted}
-use Rattle.tree_build.specs.declared.PathAnswer.TheVariants.{Written}
 use Rattle.tree_build.proofs.Leads.{path-leads}
 use Rattle.tree.proofs.Nodes.{Whole, whole-siblings, leaves-long, tree-long, nodes-at, nodes-flat, flat-length}
 use Rattle.tree_build.proofs.Depths.{depth-holds, depth-short}
@@ -67,11 +68,11 @@ module _ (s : List ℕ) (n place : ℕ) (whole : 32 * n ≤ length s) (few : n �
 
 -- `path`, lent the leaves s and the buffer o, answered that it wrote, and left `out`; `root`, lent the leaves,
 -- answered r: the siblings at the front of `out` lead from that leaf to r's root
-pub answers-lead : (s o out : List ℕ) (place indx depth : ℕ) (r : Rooted)
-    → Written indx depth ≡ path_answer (count_of (length s)) place (length o)
-    → out ≡ written (path_number (Written indx depth)) (path_bytes s place) o
+pub answers-lead : (s o out : List ℕ) (place indx depth : ℕ) (r : Result Rooted Refusal)
+    → Ok (indx, depth) ≡ path_answer (count_of (length s)) place (length o)
+    → out ≡ written (path_number (Ok (indx, depth))) (path_bytes s place) o
     → r ≡ rooted_of s
-    → leads_of (node_in s place) indx (take (32 * depth) out) r.root ≡ true
+    → leads_of (node_in s place) indx (take (32 * depth) out) (rooted_root r) ≡ true
 unfolding path_bytes
 answers-lead s o out place indx depth r answered left rooted =
     let n = count_of (length s) in
@@ -83,6 +84,6 @@ answers-lead s o out place indx depth r answered left rooted =
     ap (take (32 * depth)) left
     ∙ take_at bytes (drop (length bytes) o) (32 * depth)
     (path_bytes_lem s n place b.1 b.0 there ∙ ap (λ (x : ℕ). 32 * x) (sym right.deep)) in
-    let root : r.root ≡ root_of (leaves_in s) (depth_in s) =
-    ap (λ (x : Rooted). x.root) (rooted ∙ sym (rooted-some s {n = n} refl refl (λ (z : n ≡ 0). omega arith) refl)) in
+    let root : rooted_root r ≡ root_of (leaves_in s) (depth_in s) =
+    ap rooted_root (rooted ∙ sym (rooted-some s {n = n} refl refl (λ (z : n ≡ 0). omega arith) refl)) in
     rw (front, root, right.indx-is) (built-leads s n place b.1 b.0 there)

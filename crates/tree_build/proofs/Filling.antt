@@ -1,11 +1,10 @@
--- What the loops over one level keep, and the laws of their turns: a row as it is padded, as it is filled with parents,
--- and as it is put.
+-- What the loops over one level keep, and the laws of their turns: a row as it is filled with parents, and as it is
+-- put. And a row of leaves, once it is padded.
 use mathlib.Core.Path.{◌≡◌, refl, sym, ◌∙◌}
 use mathlib.Core.List.{List, []}
 use Prim.Native.Nat.{ℕ, ◌+◌, ◌*◌, ◌≤◌, ◌<◌}
 use native.Mathlib.Omega.{arith}
 use lib.ListN.{length, set, get_or, length-set}
-use lib.Seq.{get_or-set_same, get_or-set_other}
 use Rattle.laws.proofs.Fill.{fill-next}
 use Rattle.laws.proofs.Split.{split}
 use Rattle.laws.specs.Written.{Puts}
@@ -16,22 +15,6 @@ use Rattle.tree.proofs.Nodes.{nodes-at, nodes-past, flat-more}
 use Rattle.tree_build.specs.Level.{Level, bytes_of, Padded, Halved}
 
 -- ---- A row as it is padded
-
-pub padded-none : (was : List (List ℕ)) (count n : ℕ) → n ≤ count → Padded was count n was
-padded-none was count n h = record { size = refl; front = λ j g. refl; empty = λ j g l. absurd (omega arith) }
-
-pub padded-next : {was row : List (List ℕ)} {count i : ℕ} (v : List ℕ) → Padded was count i row → count ≤ i
-    → i < length row → v ≡ empty_place → Padded was count (i + 1) (set row i v)
-padded-next {was} {row} {count} {i} v p h g e =
-    record {
-      size = simp length-set p.size;
-      front = λ j l. get_or-set_other row i j v [] (λ (q : j ≡ i). omega arith) ∙ p.front j l;
-      empty = λ j l m. split i j
-          (λ o.
-          let q : j ≡ i = omega arith in
-          rw q (get_or-set_same row i v [] g ∙ e))
-          (λ o. get_or-set_other row i j v [] (λ (q : j ≡ i). omega arith) ∙ p.empty j l o);
-    }
 
 -- the leaves, padded, are level 0
 pub level-padded : {row was : List (List ℕ)} {count n : ℕ} (s : List ℕ)

@@ -14,35 +14,19 @@ mod size;
 
 pub use build::{path, path_from, root, rows};
 pub use fill::fill_rows;
-use refusal::Refusal;
 pub use siblings::read_path;
 pub use size::{MOST, bytes, depth, rows_length};
 
-// The root of a batch; or a refusal, with zeros for the rest. (An enum cannot hold an array.)
+// The root of a batch, and the depth of its tree.
 #[derive(Clone, Copy)]
 pub struct Rooted {
-    pub refusal: Refusal,
     pub depth: u32,
     pub root: [u8; 32],
 }
 
-// What a writer of a path answers: INDX of the leaf and how many siblings stand at the front of the buffer, or why
-// none do.
-#[derive(Clone, Copy)]
-pub enum PathAnswer {
-    Written { indx: u32, depth: u32 },
-    Refused(Refusal),
-}
-
-// What the writer of all rows answers: the depth of the tree, or why nothing is written.
-#[derive(Clone, Copy)]
-pub enum RowsAnswer {
-    Written { depth: u32 },
-    Refused(Refusal),
-}
-
 // What is written of each level of a tree as it is built: nothing, where the root is all that is wanted; the sibling of
-// one node, for a path; or all nodes.
+// one node, for a path; or all nodes. An enum of three, since an Option has place for one step only; and the node stands
+// beside it and not in `Sibling`, since it changes from level to level and what is wanted does not.
 #[derive(Clone, Copy)]
 enum Wanted {
     Nothing,

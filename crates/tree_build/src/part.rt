@@ -7,7 +7,7 @@ use super::row::put_row;
 use super::siblings::{other, put_node};
 
 // What is wanted of a level of n nodes, which stand at the front of row, from index at of out on: the sibling is that
-// of node j. Answers the index behind it.
+// of node j. Answers the index behind it. row and n are apart, as a level has places that are not in use.
 pub fn put_part(
     wanted: Wanted,
     row: &[[u8; 32]],

@@ -15,25 +15,18 @@ fn pad(row: &mut [[u8; 32]], count: usize, n: usize)
     ensures { Padded row.old count n row.new }
 {
     if count < n {
-        let empty = empty_place();
-        let mut i = count;
-        while i < n {
-            row[i] = empty;
-            i += 1;
-        }
+        row[count..n].fill(empty_place());
     }
 }
 
 // Level 0, of n places: the leaves, and behind them the empty places.
-pub fn bottom(leaves: &[u8], count: usize, n: usize, row: &mut [[u8; 32]])
+pub fn lay_leaves(leaves: &[u8], count: usize, n: usize, row: &mut [[u8; 32]])
     requires { (count ≤ n) × (n ≤ length row.old) × (32 * count ≤ length leaves.now) }
     ensures { Level (nodes_in count leaves.now) 0 n row.new
         × (length row.new ≡ length row.old) }
 {
-    let mut i: usize = 0;
-    while i < count {
+    for i in 0..count {
         row[i] = copy32(leaves, 32 * i);
-        i += 1;
     }
     pad(row, count, n);
 }
@@ -43,12 +36,10 @@ pub fn parents(row: &[[u8; 32]], n: usize, up: &mut [[u8; 32]])
     requires { (2 * n ≤ length row.now) × (n ≤ length up.old) }
     ensures { Halved row.now n (length up.old) up.new }
 {
-    let mut i: usize = 0;
-    while i < n {
+    for i in 0..n {
         let left = row[2 * i];
         let right = row[2 * i + 1];
         up[i] = parent(left, right);
-        i += 1;
     }
 }
 
@@ -57,9 +48,7 @@ pub fn put_row(row: &[[u8; 32]], n: usize, out: &mut [u8], at: usize)
     requires { (n ≤ length row.now) × (at + 32 * n ≤ length out.old) }
     ensures { Puts out.old at (bytes_of row.now n) out.new (at + 32 * n) }
 {
-    let mut i: usize = 0;
-    while i < n {
+    for i in 0..n {
         put_node(row[i], out, at + 32 * i);
-        i += 1;
     }
 }

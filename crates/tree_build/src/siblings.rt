@@ -28,20 +28,19 @@ pub fn put_node(node: [u8; 32], out: &mut [u8], at: usize)
 }
 
 // The siblings of the leaf at place, leaf end first, at the front of out. A level has n nodes, from number first on, and
-// on the way up d says how many levels are left, and place which node of the level is on the way.
-pub fn read_path(rows: &[u8], mut d: u32, mut place: usize, out: &mut [u8])
+// on the way up place says which node of the level is on the way.
+pub fn read_path(rows: &[u8], d: u32, mut place: usize, out: &mut [u8])
     requires { CanRead rows.now d place (length out.old) }
     ensures { Puts out.old 0 (flat (path_in rows.now d place)) out.new (32 * d) }
 {
     let mut first: usize = 0;
     let mut n = width(d);
     let mut at: usize = 0;
-    while 0 < d {
+    for left in (0..d).rev() {
         put_node(copy32(rows, 32 * (first + other(place))), out, at);
         first += n;
         n = n / 2;
         place = place / 2;
         at += 32;
-        d -= 1;
     }
 }

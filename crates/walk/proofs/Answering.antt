@@ -1,4 +1,5 @@
 -- The answer of the checks of a call: a refusal, or the window of the response.
+use Rattle.std.specs.Prelude.{Err, Ok, Result}
 use Prim.Native.Nat.{ℕ}
 use mathlib.Core.Path.{◌≡◌, refl, sym, ◌∙◌}
 use mathlib.Core.List.{List}
@@ -6,8 +7,6 @@ use Rattle.laws.proofs.First.{says-0, says-more, is_last, quiet_of}
 use Rattle.refusal.specs.Refusal.{refusals}
 use Rattle.refusal.specs.declared.Refusal.{Refusal}
 use Rattle.check_response.specs.Check.{window_in, verdict_of}
-use Rattle.check_response.specs.declared.Verdict.{Verdict}
-use Rattle.check_response.specs.declared.Verdict.TheVariants.{Valid, Refused}
 use Rattle.check_response.specs.declared.Window.{Window}
 use Rattle.check_response.proofs.Lent.{by-valid, by-refused, refused-by}
 use Rattle.wire_packet.specs.Packet.{body}
@@ -28,20 +27,20 @@ module _ (w : Walk) (h : Heard) (x : List ℕ) (room : ℕ) {c : Refusal} (e : c
     unfolding take_code
     response-tells = says-0 refusals _ _ e z (is_last refusals refl)
 
-    module _ {v : Verdict} (f : v ≡ verdict_of (request_now w) x h.delegation h.signature) where
+    module _ {v : Result Window Refusal} (f : v ≡ verdict_of (request_now w) x h.delegation h.signature) where
       -- its refusal,
-      pub refused-by-check : {why : Refusal} → v ≡ Refused why
+      pub refused-by-check : {why : Refusal} → v ≡ Err why
           → (why ≡ take_code w h x room) × (why.code ≡ 0 → ⊥)
       unfolding verdict_of response_code_now
       refused-by-check {why} g =
           let k = response_code_now w h x in
           let n : k.code ≡ 0 → ⊥ = by-refused k (window_in (body x)) why (sym f ∙ g) in
-          let both : Refused why ≡ Refused k = sym g ∙ f ∙ refused-by k (window_in (body x)) n in
+          let both : Err why ≡ Err k = sym g ∙ f ∙ refused-by k (window_in (body x)) n in
           let is : why ≡ k = cc in
           (is ∙ response-tells, λ y. n (quiet_of refusals is y))
 
       -- or none, and the response's window
-      pub passed-check : {u : Window} → v ≡ Valid u → ((take_code w h x room).code ≡ 0) × (u ≡ window_in (body x))
+      pub passed-check : {u : Window} → v ≡ Ok u → ((take_code w h x room).code ≡ 0) × (u ≡ window_in (body x))
       unfolding verdict_of response_code_now
       passed-check {u} g =
           let k = by-valid (response_code_now w h x) (window_in (body x)) u (sym f ∙ g) in

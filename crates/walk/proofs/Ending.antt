@@ -1,5 +1,7 @@
 -- The theorem of the walk. Wherever a caller comes to from a start, the pile at the front of the buffer is sound, and
 -- at the end what the walk says is what the report check says of that pile.
+use Rattle.refusal.specs.declared.Refusal.{Refusal}
+use Rattle.std.specs.Prelude.{Err, Ok, Result}
 use Prim.Native.Nat.{ℕ, zero, suc, ◌+◌, ◌-◌, ◌*◌, ◌%◌, ◌≤◌, ◌<◌}
 use mathlib.Core.Path.{◌≡◌, refl, sym, ap, subst, ◌∙◌}
 use mathlib.Core.Bool.{true, false}
@@ -15,7 +17,6 @@ use Rattle.laws.proofs.First.{row-quiet, test-quiet}
 use Rattle.laws.proofs.Zeros.{zeros-replicate}
 use Rattle.refusal.specs.Refusal.{refusal, refusals}
 use Rattle.check_response.specs.Check.{check_code, window_in}
-use Rattle.check_response.specs.declared.Verdict.TheVariants.{Valid}
 use Rattle.check_response.specs.declared.Window.{Window}
 use Rattle.wire_packet.specs.Packet.{body}
 use Rattle.wire_packet.specs.Request.{request_bad}
@@ -29,10 +30,6 @@ use Rattle.pile_runs.specs.Clash.{windows_clash}
 use Rattle.pile_report.specs.Report.{judged, joined, Reports, report_number}
 use Rattle.pile_report.specs.Meaning.{Sound, Accepts, Decides}
 use Rattle.pile_report.specs.Taking as cutter
-use Rattle.pile_report.specs.declared.Report.{Report}
-use Rattle.pile_report.specs.declared.Report.TheVariants.{Pair}
-use Rattle.pile_report.specs.declared.Taken.{Taken}
-use Rattle.pile_report.specs.declared.Taken.TheVariants as taken
 use Rattle.pile_report.proofs.Says.{report-once}
 use Rattle.pile_report.proofs.Runs.{joined-later, takes-once}
 use Rattle.pile_report.proofs.Exactly.{joined-first}
@@ -107,7 +104,7 @@ module _
   undamaged : (k : ℕ) → k < w.step → Undamaged (record_at pile k)
   undamaged k h = (undamaged-exactly (record_at pile k)).0 (entry k h).undamaged
 
-  valid-at : (k : ℕ) → k < records_in pile → judged pile answers k ≡ Valid (window_at pile k)
+  valid-at : (k : ℕ) → k < records_in pile → judged pile answers k ≡ Ok (window_at pile k)
   valid-at k l =
       let h : k < w.step = omega (arith, records-are) in
       passed-judged pile answers k good l (entry k h).undamaged
@@ -165,13 +162,13 @@ module _
 module _
     (keys nonce : List ℕ) (most : ℕ) (n32 : length nonce ≡ 32) (w : Walk) (b : List ℕ)
     (way : Reached keys nonce most w b) (h : Heard) (response : List ℕ) (rl : length h.rand ≡ 32) (v : Window)
-    (r : Report) (t : Takes w h response b (Ended v r)) where
+    (r : Result (ℕ × ℕ) (Refusal × ℕ)) (t : Takes w h response b (Ok (Ended v r))) where
   abbrev last-way : Reached keys nonce most (moved_on w h response) (recorded w response b)
-  last-way = took w b h response (Ended v r) way rl t
+  last-way = took w b h response (Ok (Ended v r)) way rl t
 
   -- the pile, two records a server, and its answers
   abbrev left : List ℕ
-  left = pile_of (2 * w.count) (pile_after (Ended v r) w response b)
+  left = pile_of (2 * w.count) (pile_after (Ok (Ended v r)) w response b)
 
   abbrev yeses : List ℕ
   yeses = all_yes (2 * w.count)
@@ -230,28 +227,28 @@ module _
   ends_decided = sound-decides left yeses ends-sound r t.1.1
 
   -- and the report check with all answers yes says the same of the pile, whoever makes it:
-  pub ends-checked : (s : Report) → Reports left yeses s → s ≡ r
+  pub ends-checked : (s : Result (ℕ × ℕ) (Refusal × ℕ)) → Reports left yeses s → s ≡ r
   ends-checked s p = report-once left yeses s r p t.1.1
 
   -- it accepts the pile where the walk said malfeasance,
-  pub malfeasance-accepted : (i j : ℕ) → r ≡ Pair i j → (s : Report) → Reports left yeses s → report_number s ≡ 0
+  pub malfeasance-accepted : (i j : ℕ) → r ≡ Ok (i, j) → (s : Result (ℕ × ℕ) (Refusal × ℕ)) → Reports left yeses s → report_number s ≡ 0
   malfeasance-accepted i j e s p = ap report_number (ends-checked s p ∙ e)
 
   -- and says 18 where it said consistent
-  pub consistent-clear : report_number r ≡ 18 → (s : Report) → Reports left yeses s → report_number s ≡ 18
+  pub consistent-clear : report_number r ≡ 18 → (s : Result (ℕ × ℕ) (Refusal × ℕ)) → Reports left yeses s → report_number s ≡ 18
   consistent-clear e s p = ap report_number (ends-checked s p) ∙ e
 
   -- the cutter, with room for the pile, takes a run where the walk said malfeasance, from record to record of the pair,
-  pub ends-cut : (room i j : ℕ) (c : Taken) → r ≡ Pair i j → length left ≤ room → cutter.Takes left yeses room c
-      → c ≡ taken.Run i j
+  pub ends-cut : (room i j : ℕ) (c : Result (ℕ × ℕ) Refusal) → r ≡ Ok (i, j) → length left ≤ room → cutter.Takes left yeses room c
+      → c ≡ Ok (i, j)
   ends-cut room i j c e l u =
-      named-is-cut left yeses room i j c (subst (λ (x : Report). Reports left yeses x) e t.1.1) l u
+      named-is-cut left yeses room i j c (subst (λ (x : Result (ℕ × ℕ) (Refusal × ℕ)). Reports left yeses x) e t.1.1) l u
 
   -- and none where it said consistent
-  pub ends-uncut : (room : ℕ) (c : Taken) → report_number r ≡ 18 → length left ≤ room → cutter.Takes left yeses room c
-      → c ≡ taken.Refused (refusal 18)
+  pub ends-uncut : (room : ℕ) (c : Result (ℕ × ℕ) Refusal) → report_number r ≡ 18 → length left ≤ room → cutter.Takes left yeses room c
+      → c ≡ Err (refusal 18)
   ends-uncut room c e l u =
-      takes-once left yeses room c (taken.Refused (refusal 18)) u
+      takes-once left yeses room c (Err (refusal 18)) u
       (cutter.code-18 ends-sound.good l (λ i j v.
       sound-clear left yeses ends-sound r t.1.1 e v.i v.j
       (record { order = v.order; inside = omega (arith, v.to, v.inside); holds = v.clash })))
@@ -272,7 +269,7 @@ module _
 
   pub lie-heard : (i j : ℕ) → i < j → j < 2 * w.count
       → T
-      (windows_clash (window_in (body (get_or (heard (took w b h response (Ended v r) way rl t)) i [])))
-      (window_in (body (get_or (heard (took w b h response (Ended v r) way rl t)) j []))))
+      (windows_clash (window_in (body (get_or (heard (took w b h response (Ok (Ended v r)) way rl t)) i [])))
+      (window_in (body (get_or (heard (took w b h response (Ok (Ended v r)) way rl t)) j []))))
       → Accepts r
   lie-heard i j o l c = lie-told i j o l (rw (window-of i (omega arith), window-of j l) c)

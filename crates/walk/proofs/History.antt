@@ -1,4 +1,5 @@
 -- The records of the pile are those of the responses that were accepted, in their order.
+use Rattle.std.specs.Prelude.{Err, Ok}
 use Prim.Native.Nat.{ℕ, ◌+◌, ◌*◌, ◌≤◌, ◌<◌}
 use mathlib.Core.Path.{◌≡◌, refl, sym, ap, subst, ◌∙◌}
 use mathlib.Core.List.{List, [], ◌∷◌, ◌++◌}
@@ -16,7 +17,7 @@ use Rattle.walk.specs.Trace.Reached.{begun, took}
 use Rattle.walk.specs.Standing.{InStep}
 use Rattle.walk.specs.declared.Walk.{Walk}
 use Rattle.walk.specs.declared.Heard.{Heard}
-use Rattle.walk.specs.declared.Said.TheVariants.{Next, Ended, Refused}
+use Rattle.walk.specs.declared.Said.TheVariants.{Next, Ended}
 use Rattle.walk.proofs.Accepting.{Accepted, accepted}
 use Rattle.walk.proofs.Lengths.{length-now}
 use Rattle.walk.proofs.Standing.{standing, before, here, stands-long, now-response}
@@ -68,10 +69,10 @@ module _ (keys nonce : List ℕ) (most : ℕ) (n32 : length nonce ≡ 32) where
   pub holds : (w : Walk) (b : List ℕ) (way : Reached keys nonce most w b) → Holds w b (heard way) (records way)
   unfolding heard records begun_walk
   holds w b (begun c e) = record { many = refl; each = λ k l. absurd (omega arith); all = refl }
-  holds w b (took v c h x (Next u) way l t) =
+  holds w b (took v c h x (Ok (Next u)) way l t) =
       holds_more v c (standing keys nonce most n32 v c way) (heard way) (records way) (holds v c way) h x
       (accepted v h x (length c) refl t.0) l
-  holds w b (took v c h x (Ended u r) way l t) =
+  holds w b (took v c h x (Ok (Ended u r)) way l t) =
       holds_more v c (standing keys nonce most n32 v c way) (heard way) (records way) (holds v c way) h x
       (accepted v h x (length c) refl t.0) l
-  holds w b (took v c h x (Refused why) way l t) = holds v c way
+  holds w b (took v c h x (Err why) way l t) = holds v c way

@@ -1,4 +1,5 @@
 -- Laws that belong to no one function. What the crate claims of itself stands in Codes, Once, History and Ending.
+pub mod Passed
 pub mod Accepting
 pub mod Lengths
 pub mod Requests

@@ -1,4 +1,6 @@
 -- The request that is asked, as `write_request` leaves it in a buffer.
+use Rattle.refusal.specs.declared.Refusal.{Refusal}
+use Rattle.std.specs.Prelude.{Ok, Result}
 use Prim.Native.Nat.{ℕ, ◌≤◌}
 use mathlib.Core.Path.{◌≡◌, sym, ap, ◌∙◌}
 use mathlib.Core.List.{List, [], ◌++◌, append-nil}
@@ -8,8 +10,6 @@ use Rattle.laws.specs.Written.{written}
 use Rattle.refusal.specs.Refusal.{passed}
 use Rattle.wire_request.specs.Answered.{wrote_number}
 use Rattle.wire_request.specs.Request.{request_bytes}
-use Rattle.wire_request.specs.declared.Wrote.{Wrote}
-use Rattle.wire_request.specs.declared.Wrote.TheVariants.{Done}
 use Rattle.wire_request.proofs.Answered.{Writes, done-exactly}
 use Rattle.wire_request.proofs.RequestPieces.{length-request}
 use Rattle.walk.specs.State.{key_of, request_now}
@@ -17,15 +17,15 @@ use Rattle.walk.specs.declared.Walk.{Walk}
 
 module _ (w : Walk) where
   -- with room for it, it is written
-  pub request-written : {key d : List ℕ} {r : Wrote} (out : List ℕ) → length w.nonce ≡ 32 → 1036 ≤ length out
+  pub request-written : {key d : List ℕ} {r : Result ℕ Refusal} (out : List ℕ) → length w.nonce ≡ 32 → 1036 ≤ length out
       → key ≡ key_of w → Writes passed (request_bytes key w.nonce) out r d → d ≡ written 0 (request_now w) out
   unfolding request_now
   request-written {key} {d} {r} out n room e put =
       let long : length (request_bytes key w.nonce) ≡ 1036 = length-request key w.nonce n in
-      let done : r ≡ Done 1036 =
+      let done : r ≡ Ok 1036 =
       put.0 ∙ (done-exactly passed (request_bytes key w.nonce) out 1036).1 (omega arith, (sym long, room)) in
       put.1
-      ∙ ap (λ (x : Wrote). written (wrote_number x) (request_bytes key w.nonce) out) done
+      ∙ ap (λ (x : Result ℕ Refusal). written (wrote_number x) (request_bytes key w.nonce) out) done
       ∙ ap (λ (k : List ℕ). written 0 (request_bytes k w.nonce) out) e
 
   -- and fills a buffer of just its length

@@ -1,4 +1,5 @@
 -- Where a caller comes to from a start, the front of the buffer is the pile of the accepted records.
+use Rattle.std.specs.Prelude.{Err, Ok}
 use Prim.Native.Nat.{ℕ, ◌+◌, ◌-◌, ◌*◌, ◌%◌, ◌≤◌, ◌<◌}
 use mathlib.Core.Path.{◌≡◌, refl, sym, ap, subst, ◌∙◌}
 use mathlib.Core.Bool.{true, false}
@@ -28,7 +29,7 @@ use Rattle.walk.specs.Trace.Reached.{begun, took}
 use Rattle.walk.specs.Standing.{nonce_in, Recorded, InStep}
 use Rattle.walk.specs.declared.Walk.{Walk}
 use Rattle.walk.specs.declared.Heard.{Heard}
-use Rattle.walk.specs.declared.Said.TheVariants.{Next, Ended, Refused}
+use Rattle.walk.specs.declared.Said.TheVariants.{Next, Ended}
 use Rattle.walk.proofs.Accepting.{Accepted, accepted}
 use Rattle.walk.proofs.Accepting as accepting
 use Rattle.walk.proofs.Checked.{check-yes}
@@ -213,8 +214,8 @@ module _ (keys nonce : List ℕ) (most : ℕ) where
     -- wherever the caller comes to
     pub standing : (w : Walk) (b : List ℕ) → Reached keys nonce most w b → InStep keys nonce most w b
     standing w b (begun c e) = stands-first c e
-    standing w b (took v c h x (Next u) s l t) =
+    standing w b (took v c h x (Ok (Next u)) s l t) =
         stands-more v c (standing v c s) h x (accepted v h x (length c) refl t.0) l
-    standing w b (took v c h x (Ended u r) s l t) =
+    standing w b (took v c h x (Ok (Ended u r)) s l t) =
         stands-more v c (standing v c s) h x (accepted v h x (length c) refl t.0) l
-    standing w b (took v c h x (Refused why) s l t) = standing v c s
+    standing w b (took v c h x (Err why) s l t) = standing v c s

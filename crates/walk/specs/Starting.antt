@@ -1,15 +1,14 @@
 -- The start of a walk (request P10): 31, then 19.
-use Rattle.std.specs.Prelude.{ℕ, ◌*◌, ◌/◌, ◌%◌, Bool, not, cond, List, [], ◌∷◌, eqb, ltb, length, replicate}
+use Rattle.std.specs.Prelude.{ℕ, ◌*◌, ◌/◌, ◌%◌, Bool, not, cond, List, [], ◌∷◌, eqb, ltb, length, replicate, Err, Ok, Result}
 use Rattle.pile.specs.Layout.{RECORD}
 use Rattle.laws.specs.Any.{any}
 use Rattle.laws.specs.Least.{somewhere}
 use Rattle.laws.specs.Pasted.{fronted}
 use Rattle.laws.specs.Same.{same}
-use Rattle.refusal.specs.Refusal.{first, when, passed}
+use Rattle.refusal.specs.Refusal.{first, when}
 use Rattle.refusal.specs.declared.Refusal.{Refusal}
 use Rattle.walk.specs.State.{key_at}
 use Rattle.walk.specs.declared.Walk.{Walk}
-use Rattle.walk.specs.declared.Started.{Started}
 
 -- how many servers there are
 abbrev pub servers_in : List ℕ → ℕ
@@ -36,7 +35,7 @@ keys_bad keys =
 unfoldable pub start_code : List ℕ → ℕ → Refusal
 start_code keys room = first (when (keys_bad keys) 31 ∷ when (ltb room (2 * RECORD * servers_in keys)) 19 ∷ [])
 
--- what a refused start hands out: it has no servers, so that every call on it is a call after the end
+-- a state of zeros, which no start has filled: it has no servers, so that every call on it is a call after the end
 unfoldable pub blank_walk : Walk
 blank_walk =
     record {
@@ -63,7 +62,11 @@ begun_walk keys nonce most =
     }
 
 -- the answer, with a buffer of room bytes
-unfoldable pub started_of : List ℕ → List ℕ → ℕ → ℕ → Started
+unfoldable pub started_of : List ℕ → List ℕ → ℕ → ℕ → Result Walk Refusal
 started_of keys nonce most room =
-    cond (eqb (start_code keys room).code 0) (record { refusal = passed; walk = begun_walk keys nonce most })
-    (record { refusal = start_code keys room; walk = blank_walk })
+    cond (eqb (start_code keys room).code 0) (Ok (begun_walk keys nonce most)) (Err (start_code keys room))
+
+-- its number: 0 with a walk
+abbrev pub started_number : Result Walk Refusal → ℕ
+started_number (Ok w) = 0
+started_number (Err why) = why.code

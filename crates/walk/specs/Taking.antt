@@ -1,5 +1,5 @@
 -- A response taken (request P10): 28, 19, 26, 27, then 1 to 13; or its record is written and the walk moves on.
-use Rattle.std.specs.Prelude.{ℕ, ◌+◌, ◌-◌, ◌*◌, ◌≤◌, ◌<◌, ◌≡◌, Bool, List, [], ◌∷◌, ltb, length, take, replicate}
+use Rattle.std.specs.Prelude.{ℕ, ◌+◌, ◌-◌, ◌*◌, ◌≤◌, ◌<◌, ◌≡◌, Bool, List, [], ◌∷◌, ltb, length, take, replicate, Err, Ok, Result}
 use Rattle.hash.specs.Hashes.{link_of}
 use Rattle.laws.specs.Any.{any}
 use Rattle.laws.specs.Pasted.{pasted}
@@ -15,7 +15,8 @@ use Rattle.walk.specs.State.{over_of, key_of, request_now}
 use Rattle.walk.specs.declared.Walk.{Walk}
 use Rattle.walk.specs.declared.Heard.{Heard}
 use Rattle.walk.specs.declared.Said.{Said}
-use Rattle.walk.specs.declared.Said.TheVariants.{Next, Ended, Refused}
+use Rattle.walk.specs.declared.Stepped.{Stepped}
+use Rattle.walk.specs.declared.Said.TheVariants.{Next, Ended}
 
 -- ---- the codes
 
@@ -80,42 +81,52 @@ all_yes n = replicate (2 * n) 1
 
 -- what is said of a response with the window v once its record is in the buffer. It is that window, and there is a next
 -- step; or the walk has ended with two records a server, and with what the report check says of the pile
-abbrev pub SaidOf : Walk → Window → List ℕ → Said → Type 0
-SaidOf w v buffer (Next window) = (w.step + 1 < 2 * w.count) × (window ≡ v)
-SaidOf w v buffer (Ended window r) =
+abbrev pub SaidOf : Walk → Window → List ℕ → Result Said Refusal → Type 0
+SaidOf w v buffer (Ok (Next window)) = (w.step + 1 < 2 * w.count) × (window ≡ v)
+SaidOf w v buffer (Ok (Ended window r)) =
     (2 * w.count ≤ w.step + 1)
     × Reports (pile_of (2 * w.count) buffer) (all_yes (2 * w.count)) r
     × (window ≡ v)
-SaidOf w v buffer (Refused why) = ⊥
+SaidOf w v buffer (Err why) = ⊥
 
 -- the answer: that, with the response's own window, where nothing is refused, or the first refusal
-abbrev pub Takes : Walk → Heard → List ℕ → List ℕ → Said → Type 0
-Takes w h response buffer (Next v) =
+abbrev pub Takes : Walk → Heard → List ℕ → List ℕ → Result Said Refusal → Type 0
+Takes w h response buffer (Ok (Next v)) =
     ((take_code w h response (length buffer)).code ≡ 0)
-    × SaidOf w (window_in (body response)) (recorded w response buffer) (Next v)
-Takes w h response buffer (Ended v r) =
+    × SaidOf w (window_in (body response)) (recorded w response buffer) (Ok (Next v))
+Takes w h response buffer (Ok (Ended v r)) =
     ((take_code w h response (length buffer)).code ≡ 0)
-    × SaidOf w (window_in (body response)) (recorded w response buffer) (Ended v r)
-Takes w h response buffer (Refused why) = (why ≡ take_code w h response (length buffer)) × (why.code ≡ 0 → ⊥)
+    × SaidOf w (window_in (body response)) (recorded w response buffer) (Ok (Ended v r))
+Takes w h response buffer (Err why) = (why ≡ take_code w h response (length buffer)) × (why.code ≡ 0 → ⊥)
 
 -- its number and its byte place, 0 where nothing is refused
-abbrev pub said_number : Said → ℕ
-said_number (Next v) = 0
-said_number (Ended v r) = 0
-said_number (Refused why) = why.code
+abbrev pub said_number : Result Said Refusal → ℕ
+said_number (Ok (Next v)) = 0
+said_number (Ok (Ended v r)) = 0
+said_number (Err why) = why.code
 
-abbrev pub said_at : Said → ℕ
-said_at (Next v) = 0
-said_at (Ended v r) = 0
-said_at (Refused why) = why.at
+abbrev pub said_at : Result Said Refusal → ℕ
+said_at (Ok (Next v)) = 0
+said_at (Ok (Ended v r)) = 0
+said_at (Err why) = why.at
+
+-- of a call, which hands out what is said with the state for the next call: what is said, and that state. A refusal
+-- hands out none, and the caller's stays.
+abbrev pub said_in : Result Stepped Refusal → Result Said Refusal
+said_in (Ok t) = Ok t.said
+said_in (Err why) = Err why
+
+abbrev pub next_in : Walk → Result Stepped Refusal → Walk
+next_in w (Ok t) = t.walk
+next_in w (Err why) = w
 
 -- the state and the buffer afterwards, by the answer: a refusal leaves both
-abbrev pub walk_after : Said → Walk → Heard → List ℕ → Walk
-walk_after (Next v) w h response = moved_on w h response
-walk_after (Ended v r) w h response = moved_on w h response
-walk_after (Refused why) w h response = w
+abbrev pub walk_after : Result Said Refusal → Walk → Heard → List ℕ → Walk
+walk_after (Ok (Next v)) w h response = moved_on w h response
+walk_after (Ok (Ended v r)) w h response = moved_on w h response
+walk_after (Err why) w h response = w
 
-abbrev pub pile_after : Said → Walk → List ℕ → List ℕ → List ℕ
-pile_after (Next v) w response buffer = recorded w response buffer
-pile_after (Ended v r) w response buffer = recorded w response buffer
-pile_after (Refused why) w response buffer = buffer
+abbrev pub pile_after : Result Said Refusal → Walk → List ℕ → List ℕ → List ℕ
+pile_after (Ok (Next v)) w response buffer = recorded w response buffer
+pile_after (Ok (Ended v r)) w response buffer = recorded w response buffer
+pile_after (Err why) w response buffer = buffer

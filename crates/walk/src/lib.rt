@@ -11,9 +11,8 @@ mod taking;
 pub use asking::{ask, key_of, request_now};
 use check_response::Window;
 use pile_report::Report;
-use refusal::Refusal;
 pub use starting::start;
-pub use taking::{accept, refused, step_code, take};
+pub use taking::{accept, step_code, take};
 
 // The state between packets: the servers' keys, 32 bytes each, and how many there are; the step, from 0; the nonce of
 // the request that is asked, and the rand that it was made with. `last` is when the last accepted response was
@@ -29,23 +28,16 @@ pub struct Walk {
     pub most: u64,
 }
 
-// What a start answers.
-#[derive(Clone, Copy)]
-pub struct Started {
-    pub refusal: Refusal,
-    pub walk: Walk,
-}
-
 // What is asked next: which server, from 0, and the nonce.
 #[derive(Clone, Copy)]
 pub struct Asked {
-    pub refusal: Refusal,
     pub server: usize,
     pub nonce: [u8; 32],
 }
 
 // What the host has of a response beside its packet: whether its two signatures verify, the local seconds at which its
-// request was sent and it was received, and the rand for the next nonce.
+// request was sent and it was received, and the rand for the next nonce. The two answers stay two flags: a host's
+// library answers each signature by itself, and the response check takes the two one by one.
 #[derive(Clone, Copy)]
 pub struct Heard {
     pub delegation: bool,
@@ -55,16 +47,15 @@ pub struct Heard {
     pub rand: [u8; 32],
 }
 
-// What is said of a response. `Next`: it is accepted, with its window, and there is a next to ask. `Ended`: it is
-// accepted and the last, with its window and what the report check says of the pile. Or it is refused.
+// What is said of an accepted response. `Next`: there is a next to ask. `Ended`: it is the last, with what the report
+// check says of the pile. Both have its window.
 #[derive(Clone, Copy)]
 pub enum Said {
     Next(Window),
     Ended(Window, Report),
-    Refused(Refusal),
 }
 
-// That, and the state for the next call.
+// That, and the state for the next call. Beside a refusal stands none: the caller's stays.
 #[derive(Clone, Copy)]
 pub struct Stepped {
     pub said: Said,

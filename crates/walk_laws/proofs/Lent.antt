@@ -1,5 +1,7 @@
 -- The report check and the cutter say of a walk's pile what the walk said, also with the very answers that were lent on
 -- the way: those of accepted responses are all yes.
+use Rattle.refusal.specs.declared.Refusal.{Refusal}
+use Rattle.std.specs.Prelude.{Err, Ok, Result}
 use Prim.Native.Nat.{ℕ, ◌+◌, ◌*◌, ◌≤◌}
 use mathlib.Core.Path.{◌≡◌, refl, ap, ◌∙◌}
 use mathlib.Core.List.{List, ◌++◌}
@@ -8,10 +10,6 @@ use lib.ListN.{length, replicate, replicate-append-replicate}
 use Rattle.refusal.specs.Refusal.{refusal}
 use Rattle.pile_report.specs.Report.{Reports, report_number}
 use Rattle.pile_report.specs.Taking as cutter
-use Rattle.pile_report.specs.declared.Report.{Report}
-use Rattle.pile_report.specs.declared.Report.TheVariants.{Pair}
-use Rattle.pile_report.specs.declared.Taken.{Taken}
-use Rattle.pile_report.specs.declared.Taken.TheVariants as taken
 use Rattle.check_response.specs.declared.Window.{Window}
 use Rattle.walk.specs.State.{request_now}
 use Rattle.walk.specs.Starting.{begun_walk}
@@ -20,7 +18,7 @@ use Rattle.walk.specs.Trace.{Reached}
 use Rattle.walk.specs.Trace.Reached.{begun, took}
 use Rattle.walk.specs.declared.Walk.{Walk}
 use Rattle.walk.specs.declared.Heard.{Heard}
-use Rattle.walk.specs.declared.Said.TheVariants.{Next, Ended, Refused}
+use Rattle.walk.specs.declared.Said.TheVariants.{Next, Ended}
 use Rattle.walk.proofs.Accepting.{accepted}
 use Rattle.walk.proofs.Checked.{both_yes}
 use Rattle.walk.proofs.Ending.{ends-checked, ends-cut, ends-uncut}
@@ -43,19 +41,19 @@ pub lent-yes : {keys nonce : List ℕ} {most : ℕ} (w : Walk) (b : List ℕ) (w
     → lent way ≡ all_yes w.step
 unfolding lent begun_walk moved_on
 lent-yes w b (begun c e) = refl
-lent-yes w b (took v c h x (Next o) way l t) =
+lent-yes w b (took v c h x (Ok (Next o)) way l t) =
     one_more v.step (lent way) h (lent-yes v c way) (answers-yes v h x (length c) t.0)
-lent-yes w b (took v c h x (Ended o r) way l t) =
+lent-yes w b (took v c h x (Ok (Ended o r)) way l t) =
     one_more v.step (lent way) h (lent-yes v c way) (answers-yes v h x (length c) t.0)
-lent-yes w b (took v c h x (Refused why) way l t) = lent-yes v c way
+lent-yes w b (took v c h x (Err why) way l t) = lent-yes v c way
 
 -- Of the call that ends a walk, and the pile that it leaves:
 module _
     (keys nonce : List ℕ) (most : ℕ) (n32 : length nonce ≡ 32) (w : Walk) (b : List ℕ)
     (way : Reached keys nonce most w b) (h : Heard) (response : List ℕ) (rl : length h.rand ≡ 32) (o : Window)
-    (r : Report) (t : Takes w h response b (Ended o r)) where
+    (r : Result (ℕ × ℕ) (Refusal × ℕ)) (t : Takes w h response b (Ok (Ended o r))) where
   abbrev last-way : Reached keys nonce most (moved_on w h response) (recorded w response b)
-  last-way = took w b h response (Ended o r) way rl t
+  last-way = took w b h response (Ok (Ended o r)) way rl t
 
   abbrev left : List ℕ
   left = pile_of (2 * w.count) (recorded w response b)
@@ -69,17 +67,17 @@ module _
       lent-yes (moved_on w h response) (recorded w response b) last-way ∙ ap all_yes full
 
   -- with them the report check says what the walk said,
-  pub checked-as-lent : (s : Report) → Reports left (lent last-way) s → s ≡ r
+  pub checked-as-lent : (s : Result (ℕ × ℕ) (Refusal × ℕ)) → Reports left (lent last-way) s → s ≡ r
   checked-as-lent s p =
       ends-checked keys nonce most n32 w b way h response rl o r t s (rw ends-lent at p)
 
   -- and the cutter takes a run exactly where it said malfeasance
-  pub cut-as-lent : (room i j : ℕ) (c : Taken) → r ≡ Pair i j → length left ≤ room
-      → cutter.Takes left (lent last-way) room c → c ≡ taken.Run i j
+  pub cut-as-lent : (room i j : ℕ) (c : Result (ℕ × ℕ) Refusal) → r ≡ Ok (i, j) → length left ≤ room
+      → cutter.Takes left (lent last-way) room c → c ≡ Ok (i, j)
   cut-as-lent room i j c e l u =
       ends-cut keys nonce most n32 w b way h response rl o r t room i j c e l (rw ends-lent at u)
 
-  pub uncut-as-lent : (room : ℕ) (c : Taken) → report_number r ≡ 18 → length left ≤ room
-      → cutter.Takes left (lent last-way) room c → c ≡ taken.Refused (refusal 18)
+  pub uncut-as-lent : (room : ℕ) (c : Result (ℕ × ℕ) Refusal) → report_number r ≡ 18 → length left ≤ room
+      → cutter.Takes left (lent last-way) room c → c ≡ Err (refusal 18)
   uncut-as-lent room c e l u =
       ends-uncut keys nonce most n32 w b way h response rl o r t room c e l (rw ends-lent at u)

@@ -1,4 +1,6 @@
 -- Where a walk ends, every server's key stands in just two records of its pile; of 8 servers they are 16 records.
+use Rattle.refusal.specs.declared.Refusal.{Refusal}
+use Rattle.std.specs.Prelude.{Err, Ok, Result}
 use Prim.Native.Nat.{ℕ, ◌+◌, ◌-◌, ◌*◌, ◌≤◌, ◌<◌}
 use mathlib.Core.Path.{◌≡◌, refl, sym, ap, subst, ◌∙◌}
 use mathlib.Core.Bool.{Bool, true, false}
@@ -12,7 +14,6 @@ use lib.ListN.{length, take}
 use Rattle.laws.specs.Same.{same}
 use Rattle.laws.proofs.Same.{same_refl}
 use Rattle.pile.specs.Pile.{record_at, key_in}
-use Rattle.pile_report.specs.declared.Report.{Report}
 use Rattle.check_response.specs.declared.Window.{Window}
 use Rattle.walk.specs.State.{key_at}
 use Rattle.walk.specs.Starting.{servers_in, twice}
@@ -21,7 +22,7 @@ use Rattle.walk.specs.Trace.{Reached, heard}
 use Rattle.walk.specs.Trace.Reached.{begun, took}
 use Rattle.walk.specs.declared.Walk.{Walk}
 use Rattle.walk.specs.declared.Heard.{Heard}
-use Rattle.walk.specs.declared.Said.TheVariants.{Next, Ended, Refused}
+use Rattle.walk.specs.declared.Said.TheVariants.{Next, Ended}
 use Rattle.walk.proofs.Accepting as accepting
 use Rattle.walk.proofs.Accepting.{accepted}
 use Rattle.walk.proofs.Codes.{twice-exactly}
@@ -34,9 +35,9 @@ use Rattle.walk_laws.specs.Rounds.{TwoRounds}
 none-twice : {keys nonce : List ℕ} {most : ℕ} {w : Walk} {b : List ℕ} → Reached keys nonce most w b
     → twice keys (servers_in keys) ≡ false
 none-twice {keys} (begun b e) = (accepting.begun keys (length b) refl e).differ
-none-twice (took w b h response (Next o) way l t) = none-twice way
-none-twice (took w b h response (Ended o r) way l t) = none-twice way
-none-twice (took w b h response (Refused why) way l t) = none-twice way
+none-twice (took w b h response (Ok (Next o)) way l t) = none-twice way
+none-twice (took w b h response (Ok (Ended o r)) way l t) = none-twice way
+none-twice (took w b h response (Err why) way l t) = none-twice way
 
 -- so that a key is of one server only
 module _ (keys : List ℕ) (n : ℕ) (once : twice keys n ≡ false) where
@@ -65,7 +66,7 @@ first-or-second m n = by (ltb m n) refl
 module _
     (keys nonce : List ℕ) (most : ℕ) (n32 : length nonce ≡ 32) (w : Walk) (b : List ℕ)
     (way : Reached keys nonce most w b) (h : Heard) (response : List ℕ) (rl : length h.rand ≡ 32) (o : Window)
-    (r : Report) (t : Takes w h response b (Ended o r)) where
+    (r : Result (ℕ × ℕ) (Refusal × ℕ)) (t : Takes w h response b (Ok (Ended o r))) where
   abbrev left : List ℕ
   left = pile_of (2 * w.count) (recorded w response b)
 
@@ -106,17 +107,17 @@ module _
   }
 
   -- of as many responses as were accepted,
-  pub all-heard : length (heard (took w b h response (Ended o r) way rl t)) ≡ 2 * w.count
+  pub all-heard : length (heard (took w b h response (Ok (Ended o r)) way rl t)) ≡ 2 * w.count
   unfolding moved_on
   all-heard =
       let a = accepted w h response (length b) refl t.0 in
       (holds keys nonce most n32 (moved_on w h response) (recorded w response b)
-      (took w b h response (Ended o r) way rl t)).many
+      (took w b h response (Ok (Ended o r)) way rl t)).many
       ∙ omega (arith, a.goes.inside, t.1.0)
 
   -- and with 8 servers, whose keys are 256 bytes, they are 16
   pub sixteen-for-eight : length keys ≡ 256
-      → (length (heard (took w b h response (Ended o r) way rl t)) ≡ 16)
+      → (length (heard (took w b h response (Ok (Ended o r)) way rl t)) ≡ 16)
       × (pile_of (2 * w.count) (recorded w response b) ≡ take 65536 (recorded w response b))
       × TwoRounds keys 8 (take 65536 (recorded w response b))
   sixteen-for-eight l =

@@ -1,5 +1,6 @@
 -- Where the signatures of a walk verify, they do so by the keys that stand in its records: our own Ed25519 answers yes
 -- to all of the pile.
+use Rattle.std.specs.Prelude.{Err, Ok}
 use Prim.Native.Nat.{ℕ, ◌+◌, ◌*◌, ◌/◌, ◌%◌, ◌≤◌, ◌<◌}
 use mathlib.Core.Path.{◌≡◌, refl, sym, subst, ap, ◌∙◌}
 use mathlib.Core.Bool.{Bool, true, false, cond}
@@ -21,7 +22,7 @@ use Rattle.walk.specs.Trace.{Reached}
 use Rattle.walk.specs.Trace.Reached.{begun, took}
 use Rattle.walk.specs.declared.Walk.{Walk}
 use Rattle.walk.specs.declared.Heard.{Heard}
-use Rattle.walk.specs.declared.Said.TheVariants.{Next, Ended, Refused}
+use Rattle.walk.specs.declared.Said.TheVariants.{Next, Ended}
 use Rattle.walk.proofs.Accepting.{Accepted, accepted}
 use Rattle.walk.proofs.Standing.{standing, before, here, stands-long, stands-more, now-response}
 use Rattle.walk_laws.specs.Verified.{Verifies, AllVerify}
@@ -57,13 +58,13 @@ module _ (keys nonce : List ℕ) (most : ℕ) (n32 : length nonce ≡ 32) where
       → (k : ℕ) → k < w.step → InRecord (record_at b k)
   unfolding AllVerify begun_walk moved_on
   in-records w b (begun c e) v k l = absurd (omega arith)
-  in-records w b (took u c h x (Next o) way rl t) v k l =
+  in-records w b (took u c h x (Ok (Next o)) way rl t) v k l =
       these-more u c (standing keys nonce most n32 u c way) h x (accepted u h x (length c) refl t.0) rl v.1
       (λ m g. in-records u c way v.0 m g) k l
-  in-records w b (took u c h x (Ended o r) way rl t) v k l =
+  in-records w b (took u c h x (Ok (Ended o r)) way rl t) v k l =
       these-more u c (standing keys nonce most n32 u c way) h x (accepted u h x (length c) refl t.0) rl v.1
       (λ m g. in-records u c way v.0 m g) k l
-  in-records w b (took u c h x (Refused why) way rl t) v k l = in-records u c way v k l
+  in-records w b (took u c h x (Err why) way rl t) v k l = in-records u c way v k l
 
 -- ---- the answers of a pile whose n records all verify
 

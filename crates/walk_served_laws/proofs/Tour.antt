@@ -1,5 +1,7 @@
 -- There is a walk among servers that sign with their own seeds, from its start to its end: every signature on it
 -- verifies, and where an earlier window lies wholly after a later one, the pile that it leaves convicts.
+use Rattle.refusal.specs.declared.Refusal.{Refusal}
+use Rattle.std.specs.Prelude.{Ok, Result}
 use Prim.Native.Nat.{ℕ, zero, suc, ◌+◌, ◌-◌, ◌*◌, ◌<◌}
 use mathlib.Core.Path.{◌≡◌, refl, subst}
 use mathlib.Core.List.{List, []}
@@ -11,7 +13,6 @@ use Rattle.check_response.specs.declared.Window.{Window}
 use Rattle.laws.specs.Bytes.{Bytes}
 use Rattle.pile_report.specs.Meaning.{Sound}
 use Rattle.pile_report.specs.Report.{Reports}
-use Rattle.pile_report.specs.declared.Report.{Report}
 use Rattle.pile_runs.specs.Clash.{clash}
 use Rattle.walk.specs.Starting.{servers_in, start_code, begun_walk}
 use Rattle.walk.specs.Taking.{recorded, moved_on, pile_of, all_yes, Takes}
@@ -66,12 +67,12 @@ module _ {keys nonce : List ℕ} {most : ℕ} (t : Tour keys most) (n32 : length
         (stands-sound keys nonce most (moved_on w (heard_in t w) x) (recorded w x b) a.stands (omega arith))
 
     -- and the call ends the walk with it, whichever it is
-    module _ (r : Report) (told : Reports pile (all_yes (2 * w.count)) r) where
-      ends : Takes w (heard_in t w) x b (Ended o r)
+    module _ (r : Result (ℕ × ℕ) (Refusal × ℕ)) (told : Reports pile (all_yes (2 * w.count)) r) where
+      ends : Takes w (heard_in t w) x b (Ok (Ended o r))
       ends = (a.code, (omega (arith, full), told, refl))
 
       abbrev whole : Reached keys nonce most (moved_on w (heard_in t w) x) (recorded w x b)
-      whole = took w b (heard_in t w) x (Ended o r) way (t.rand-long w.step) ends
+      whole = took w b (heard_in t w) x (Ok (Ended o r)) way (t.rand-long w.step) ends
 
       said : (k : ℕ) → k < 2 * servers_in keys → Says t k (get_or (heard whole) k [])
       unfolding moved_on heard
@@ -130,12 +131,12 @@ module _ {keys nonce : List ℕ} {most : ℕ} (t : Tour keys most) (n32 : length
         let x = answer_in t e.w in
         let a = answered t e.w e.b e.way n32 e.so (omega (arith, e.is)) in
         let o = window_in (body x) in
-        let takes : Takes e.w (heard_in t e.w) x e.b (Next o) =
+        let takes : Takes e.w (heard_in t e.w) x e.b (Ok (Next o)) =
         (a.code, (omega (arith, e.is, a.counted), refl)) in
         record {
           w = moved_on e.w (heard_in t e.w) x;
           b = recorded e.w x e.b;
-          way = took e.w e.b (heard_in t e.w) x (Next o) e.way (t.rand-long e.w.step) takes;
+          way = took e.w e.b (heard_in t e.w) x (Ok (Next o)) e.way (t.rand-long e.w.step) takes;
           so = among-more t e.w e.b (heard e.way) e.so a;
           verified = (e.verified, a.verifies);
           is = omega (arith, e.is);

@@ -1,11 +1,11 @@
 -- A walk among servers that sign with their own seeds (requests P10 and P11; draft 19, 8.2): who they are, what is said
 -- at each step, when it is heard, and what comes of it.
-use Rattle.std.specs.Prelude.{ℕ, ◌+◌, ◌-◌, ◌*◌, ◌%◌, ◌≤◌, ◌<◌, ◌≡◌, List, [], T, length, get_or}
+use Rattle.refusal.specs.declared.Refusal.{Refusal}
+use Rattle.std.specs.Prelude.{ℕ, ◌+◌, ◌-◌, ◌*◌, ◌%◌, ◌≤◌, ◌<◌, ◌≡◌, List, [], T, length, get_or, Ok, Result}
 use Rattle.check_response.specs.Check.{window_in}
 use Rattle.check_response.specs.declared.Window.{Window}
 use Rattle.ed25519_sign.specs.Signing.{public_of}
 use Rattle.laws.specs.Bytes.{Bytes}
-use Rattle.pile_report.specs.declared.Report.{Report}
 use Rattle.pile_runs.specs.Clash.{clash}
 use Rattle.server_response.specs.Response.{response_bytes}
 use Rattle.server_signed_laws.specs.Signer.{Signer, InTime, alone_reply}
@@ -61,15 +61,15 @@ module _ {keys : List ℕ} {most : ℕ} (t : Tour keys most) where
     pub buffer : List ℕ
     pub way : Reached keys nonce most w buffer
     pub o : Window
-    pub r : Report
-    pub ends : Takes w (heard_in w) (answer_in w) buffer (Ended o r)
+    pub r : Result (ℕ × ℕ) (Refusal × ℕ)
+    pub ends : Takes w (heard_in w) (answer_in w) buffer (Ok (Ended o r))
     pub full : w.step + 1 ≡ 2 * servers_in keys
     -- They say what is said at each step,
     pub said : (k : ℕ) → k < 2 * servers_in keys
         → Says t k
-        (get_or (heard (took w buffer (heard_in w) (answer_in w) (Ended o r) way (t.rand-long w.step) ends)) k [])
+        (get_or (heard (took w buffer (heard_in w) (answer_in w) (Ok (Ended o r)) way (t.rand-long w.step) ends)) k [])
     -- every signature on it verifies,
-    pub verified : AllVerify (took w buffer (heard_in w) (answer_in w) (Ended o r) way (t.rand-long w.step) ends)
+    pub verified : AllVerify (took w buffer (heard_in w) (answer_in w) (Ok (Ended o r)) way (t.rand-long w.step) ends)
     -- and where a time that was said lies wholly after a later one, with their radii, the pile convicts.
     pub convicts : Bytes (recorded w (answer_in w) buffer) → (i j : ℕ) → i < j → j < 2 * servers_in keys
         → T (clash (t.midp i) (t.radi i) (t.midp j) (t.radi j))

@@ -17,7 +17,7 @@ pub take-signed-fed : (κs : _) (a : _) (x : _) (u : _) (ιs : _) (b : _) (y : _
     → take-reads.Learnt κs a x (at_exit (ended_of _ take-kinds.ps take-kinds.r) κs a u)
     → take-signed-reads.Learnt ιs b y (at_exit (ended_of _ take-signed-kinds.ps take-signed-kinds.r) ιs b v)
     → a.0 ≡ b.0
-    → a.1.0 ≡ own_heard b.0 b.1.0 b.1.1.0 b.1.1.1.0 b.1.1.1.1.0.now
-    → a.1.1.0.now ≡ b.1.1.1.1.0.now → a.1.1.1.0.now ≡ b.1.1.1.1.1.0.now
-    → (x ≡ y) × (u.1.1.1.0 ≡ v.1.1.1.1.1.0)
+    → a.1.0 ≡ own_heard b.0 b.1.0.sent b.1.0.received b.1.0.rand b.1.1.0.now
+    → a.1.1.0.now ≡ b.1.1.0.now → a.1.1.1.0.now ≡ b.1.1.1.0.now
+    → (x ≡ y) × (u.1.1.1.0 ≡ v.1.1.1.0)
 take-signed-fed κs a x u ιs b y v p q e f g h = took-once _ _ _ _ x y _ _ (rw (e, f, g, h) at p) q

@@ -1,4 +1,6 @@
 -- Signatures are judged last by the walk's taker, too.
+use Rattle.refusal.specs.declared.Refusal.{Refusal}
+use Rattle.std.specs.Prelude.{Result}
 use Prim.Native.Nat.{ℕ}
 use mathlib.Core.Path.{◌≡◌, refl, subst}
 use mathlib.Core.Bool.{Bool, true}
@@ -7,8 +9,8 @@ use Rattle.check_signatures.proofs.Verdicts.{Until, until-more, until-last, unti
 use Rattle.check_response.specs.Check.{answers_code}
 use Rattle.walk.specs.State.{request_now}
 use Rattle.walk.specs.Taking.{clock_wrong, step_code, response_code_now, take_code}
+use Rattle.walk.specs.declared.Said.{Said}
 use Rattle.walk.specs.declared.Heard.{Heard}
-use Rattle.walk.specs.declared.Stepped.{Stepped}
 use Rattle.walk.specs.declared.Walk.{Walk}
 use Rattle.walk.proofs.Taken.{Took}
 
@@ -32,7 +34,7 @@ module _ (w : Walk) (sent received : ℕ) (rand : List ℕ) (room : ℕ) (d s : 
   until-take x = until-more _ _ _ _ _ (until-last (until-check (request_now w) x d s))
 
 -- what a call said and left, by what was heard
-pub took-as : (w : Walk) {g : Heard} (h : Heard) (x pile : List ℕ) (m : Stepped) {after : List ℕ} → g ≡ h
-    → Took w g x pile m.said m.walk after → Took w h x pile m.said m.walk after
-took-as w h x pile m {after} e t =
-    subst (λ (y : Heard). Took w y x pile m.said m.walk after) e t
+pub took-as : (w : Walk) {g : Heard} (h : Heard) (x pile : List ℕ) (s : Result Said Refusal) (v : Walk) {after : List ℕ}
+    → g ≡ h → Took w g x pile s v after → Took w h x pile s v after
+took-as w h x pile s v {after} e t =
+    subst (λ (y : Heard). Took w y x pile s v after) e t

@@ -10,7 +10,7 @@ use Rattle.walk_signed.proofs.taking.take_signed.Reads as take-signed-reads
 
 pub take-signed-once : Settles take-signed-kinds.ps take-signed-kinds.r take-signed-reads.Learnt
 take-signed-once κs a x u y v p q =
-    let r = a.1.1.1.1.0.now in
-    let h = own_heard a.0 a.1.0 a.1.1.0 a.1.1.1.0 r in
-    let same = took-once a.0 h r a.1.1.1.1.1.0.now x y _ _ p q in
-    (same.0, ap (λ (l : List ℕ). (tt, (tt, (tt, (tt, (tt, (l, tt))))))) same.1)
+    let r = a.1.1.0.now in
+    let h = own_heard a.0 a.1.0.sent a.1.0.received a.1.0.rand r in
+    let same = took-once a.0 h r a.1.1.1.0.now x y _ _ p q in
+    (same.0, ap (λ (l : List ℕ). (tt, (tt, (tt, (l, tt))))) same.1)

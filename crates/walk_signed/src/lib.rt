@@ -6,3 +6,12 @@
 mod taking;
 
 pub use taking::take_signed;
+
+// What the host has of a response beside its packet, where it lends no answers: the local seconds at which its request
+// was sent and it was received, and the rand for the next nonce.
+#[derive(Clone, Copy)]
+pub struct Exchange {
+    pub sent: u64,
+    pub received: u64,
+    pub rand: [u8; 32],
+}

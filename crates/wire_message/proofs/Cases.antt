@@ -7,7 +7,8 @@ use Rattle.laws.proofs.First.{first-keeps, when-keeps, end-keeps, test-quiet}
 use Rattle.refusal.specs.Refusal.{refusals, refusal_at, passed}
 use Rattle.refusal.specs.declared.Refusal.{Refusal}
 use Rattle.wire_message.specs.Frame.{length_bad, count_bad, offsets_bad, tags_bad, bad_offset_place, low_tag_place, frame_code}
-use Rattle.wire_message.specs.Rules.{TagRule, some_absent, some_broken, broken_place, message_code}
+use Rattle.wire_message.specs.Rules.{some_absent, some_broken, broken_place, message_code}
+use Rattle.wire_message.specs.declared.rules.TagRule.{TagRule}
 use Rattle.wire_message.specs.Sentences.{LengthGood, CountGood, OffsetsGood}
 use Rattle.wire_message.proofs.Tests.{length-test, count-test, offsets-test}
 

@@ -11,11 +11,14 @@ use Rattle.laws.specs.Any.{any}
 use Rattle.laws.specs.First.{first_of, when_of}
 use Rattle.laws.proofs.Any.{any-not, any_none, any-parts}
 use Rattle.laws.proofs.First.{quiet_of}
-use Rattle.refusal.specs.Refusal.{refusals, first, when_at, passed}
+use Rattle.std.specs.Prelude.{Result, Ok}
+use Rattle.refusal.specs.Refusal.{refusals, first, when_at, passed, passes}
+use Rattle.refusal.proofs.Passing.{goes-on}
 use Rattle.refusal.specs.declared.Refusal.{Refusal}
 use Rattle.wire_message.specs.Frame.{length_bad, count_bad, offsets_bad, tags_bad, bad_offset_place, low_tag_place}
 use Rattle.wire_message.specs.Frame.{frame_code}
-use Rattle.wire_message.specs.Rules.{TagRule, row, some_absent, some_broken, broken_place, message_code}
+use Rattle.wire_message.specs.Rules.{row, some_absent, some_broken, broken_place, message_code}
+use Rattle.wire_message.specs.declared.rules.TagRule.{TagRule}
 use Rattle.wire_message.specs.Sentences.{Good, TagsRise, TagsThere, KeepsRule, ValuesRight}
 use Rattle.wire_message.specs.Values.{has, value_of}
 use Rattle.wire_message.proofs.Cases.{frame-by, message-by}
@@ -173,6 +176,10 @@ module _ (m : List ℕ) where
   pub frame-good : (x : Refusal) → x ≡ frame_code m → x.code ≡ 0 → Good m
   frame-good x e z = (frame-0.0 (quiet_of refusals e z)).0
 
+  -- the same of what a check answered
+  pub frame-passes : {r : Result (Unit {0}) Refusal} {u : Unit {0}} → r ≡ passes (frame_code m) → r ≡ Ok u → Good m
+  frame-passes e f = (frame-0.0 (goes-on (frame_code m) e f)).0
+
 module _ (m : List ℕ) (rows : List TagRule) where
   code-told : (message_code m rows).code ≡ told (frame_bad m) (tags_bad m) (some_absent m rows) (some_broken m rows)
   unfolding message_code
@@ -204,6 +211,11 @@ module _ (m : List ℕ) (rows : List TagRule) where
   -- the same of a code that a check gave
   pub message-good : (x : Refusal) → x ≡ message_code m rows → x.code ≡ 0 → Good m
   message-good x e z = (code-0.0 (quiet_of refusals e z)).0
+
+  -- the same of what a check answered
+  pub message-passes : {r : Result (Unit {0}) Refusal} {u : Unit {0}} → r ≡ passes (message_code m rows) → r ≡ Ok u
+      → Good m
+  message-passes e f = (code-0.0 (goes-on (message_code m rows) e f)).0
 
   -- the value of a needed tag keeps its rule, and so does that of any tag that is there
   pub kept : (message_code m rows).code ≡ 0 → (k : ℕ) → T (ltb k (length rows)) → (row rows k).needed ≡ true

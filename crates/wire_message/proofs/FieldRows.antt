@@ -10,7 +10,9 @@ use lib.ListN.{length}
 use Rattle.laws.proofs.First.{none-quiet}
 use Rattle.refusal.specs.Refusal.{passed, refusals}
 use Rattle.wire_message.specs.Encode.{Field, Fields, encode, among, value_among}
-use Rattle.wire_message.specs.Rules.{Rule, TagRule, row, value_bad, message_code}
+use Rattle.wire_message.specs.Rules.{row, value_bad, message_code}
+use Rattle.wire_message.specs.declared.rules.Rule.{Rule}
+use Rattle.wire_message.specs.declared.rules.TagRule.{TagRule}
 use Rattle.wire_message.specs.Sentences.{Holds, MayHold, KeepsRule, TagsThere, ValuesRight}
 use Rattle.wire_message.proofs.Codes.{frame-0, code-0, code-passed}
 use Rattle.wire_message.proofs.Encoded.{encode-good, has-encoded, value-encoded}

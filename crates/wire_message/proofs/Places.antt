@@ -16,13 +16,14 @@ use Rattle.refusal.specs.declared.Refusal.{Refusal}
 use Rattle.wire_message.specs.Frame.{not_above, count, tag_at, edge, offset_bad, first_bad_offset, first_low_tag, frame_code}
 use Rattle.wire_message.specs.Places.{FirstWrong, OffsetRight, Wrong4, by_length, by_count, by-offset, TagAbove}
 use Rattle.wire_message.specs.Places.{Wrong5, Wrong6, RowsRise, Wrong7, WrongAt}
-use Rattle.wire_message.specs.Rules.{TagRule, row, absent, broken, row_absent, row_broken, some_absent, some_broken}
+use Rattle.wire_message.specs.Rules.{row, absent, broken, row_absent, row_broken, some_absent, some_broken}
+use Rattle.wire_message.specs.declared.rules.TagRule.{TagRule}
 use Rattle.wire_message.specs.Rules.{first_broken, message_code}
-use Rattle.wire_message.specs.Scans.{first_absent}
 use Rattle.wire_message.specs.Values.{is_tag, index_of, has, value_at, value_of, value_start}
 use Rattle.wire_message.proofs.Cases.{frame-by, message-by}
 use Rattle.wire_message.proofs.Codes.{frame-good}
-use Rattle.wire_message.proofs.Edges.{offset_word, start-in}
+use Rattle.wire_message.specs.Sentences.{Good}
+use Rattle.wire_message.proofs.Edges.{offset_word, start-in, value-ends}
 use Rattle.wire_message.proofs.Tests.{length-test, count-test, offset-test, first-right, and-test, value-test}
 
 -- a test decides each of n things: the least at which it holds is the first that is not right
@@ -175,10 +176,10 @@ module _ (m : List ℕ) (rows : List TagRule) where
           let b = both _ _ f.1 in
           record {
             is = refl;
-            place = first_absent m rows;
+            place = least (row_absent m rows) (length rows);
             inside = f.0;
             needed = b.0;
-            missing = has-none m (row rows (first_absent m rows)).tag (not-true _ b.1);
+            missing = has-none m (row rows (least (row_absent m rows) (length rows))).tag (not-true _ b.1);
           }
 
   -- 7: the value at its place breaks its rule, and no value of a smaller tag does
@@ -215,3 +216,8 @@ module _ (m : List ℕ) (rows : List TagRule) where
   place_in =
       message-by m (λ r. r.at ≤ length m) zero-le rows (frame-in m) (λ a t. zero-le)
       (λ a t. start-in m (frame-good m _ refl a) _)
+
+-- the place of a value's refusal, told of the message around it, is within that message too
+pub value-fits : (m : List ℕ) → Good m → (tag : ℕ) (rows : List TagRule) {r : Refusal} {s : ℕ}
+    → r ≡ message_code (value_of m tag) rows → s ≡ value_start m tag → r.at + s ≤ length m
+value-fits m g tag rows e f = rw (e, f) (omega (arith, place_in (value_of m tag) rows, value-ends m g tag))

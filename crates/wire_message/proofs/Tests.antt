@@ -16,7 +16,10 @@ use Rattle.laws.proofs.Least.{nowhere, nowhere-at}
 use Rattle.wire_message.specs.Frame.{word, not_above, count, offset, length_bad, count_bad, offset_bad}
 use Rattle.wire_message.specs.Frame.{offsets_bad, tags_bad}
 use Rattle.wire_message.specs.Places.{OffsetRight}
-use Rattle.wire_message.specs.Rules.{Rule, bytes, nonzero, versions, siblings, message, TagRule, nonzero_bad, versions_bad}
+use Rattle.wire_message.specs.declared.rules.Rule.TheVariants.{Length, Nonzero, Versions, Siblings, Message}
+use Rattle.wire_message.specs.Rules.{nonzero_bad, versions_bad}
+use Rattle.wire_message.specs.declared.rules.Rule.{Rule}
+use Rattle.wire_message.specs.declared.rules.TagRule.{TagRule}
 use Rattle.wire_message.specs.Rules.{siblings_bad, value_bad, absent, broken, row_absent, row_broken, some_absent}
 use Rattle.wire_message.specs.Rules.{some_broken}
 use Rattle.wire_message.specs.Sentences.{LengthGood, CountGood, OffsetsGood, TagsRise, TagsThere, NonzeroNumber}
@@ -170,11 +173,11 @@ siblings-test v = (
 
 pub value-test : (rule : Rule) (v : List ℕ) → value_bad rule v ≡ false ↔ KeepsRule rule v
 unfolding value_bad
-value-test (bytes n) v = (λ e. eqb-true _ _ (not-false _ e), λ g. ap not (eq-eqb _ _ g))
-value-test nonzero v = nonzero-test v
-value-test versions v = versions-test v
-value-test siblings v = siblings-test v
-value-test message v = (λ e. record {}, λ g. refl)
+value-test (Length n) v = (λ e. eqb-true _ _ (not-false _ e), λ g. ap not (eq-eqb _ _ g))
+value-test Nonzero v = nonzero-test v
+value-test Versions v = versions-test v
+value-test Siblings v = siblings-test v
+value-test Message v = (λ e. record {}, λ g. refl)
 
 -- a && b is false exactly where b is, if a is true
 pub and-test : (a b : Bool) → (a && b) ≡ false ↔ (a ≡ true → b ≡ false)

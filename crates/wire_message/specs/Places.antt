@@ -4,7 +4,8 @@ use Rattle.std.specs.Prelude.{ℕ, ◌+◌, ◌-◌, ◌*◌, ◌%◌, ◌≤◌
 use Rattle.laws.specs.Numbers.{le}
 use Rattle.refusal.specs.declared.Refusal.{Refusal}
 use Rattle.wire_message.specs.Frame.{count, offset, tag_at, section}
-use Rattle.wire_message.specs.Rules.{TagRule, row}
+use Rattle.wire_message.specs.Rules.{row}
+use Rattle.wire_message.specs.declared.rules.TagRule.{TagRule}
 use Rattle.wire_message.specs.Sentences.{LengthGood, CountGood, Good, KeepsRule}
 use Rattle.wire_message.specs.Values.{has, value_of, value_start}
 

@@ -7,21 +7,28 @@ use Rattle.refusal.specs.Refusal.{first, when_at}
 use Rattle.refusal.specs.declared.Refusal.{Refusal}
 use Rattle.wire_message.specs.Frame.{not_above, message_start, frame_code}
 use Rattle.wire_message.specs.Values.{has, value_of, value_start}
+use Rattle.wire_message.specs.declared.rules.Rule.{Rule}
+use Rattle.wire_message.specs.declared.rules.Rule.TheVariants.{Length, Nonzero, Versions, Siblings, Message}
+use Rattle.wire_message.specs.declared.rules.TagRule.{TagRule}
 
--- the rule of a value: that it has so many bytes, is a number that is not 0, is a list of versions, is a list of
--- siblings, or is a message
-pub data Rule : Type 0 where
-  bytes : ℕ → Rule
-  nonzero : Rule
-  versions : Rule
-  siblings : Rule
-  message : Rule
+-- the rules of a value in few words: that it has so many bytes, is a number that is not 0, is a list of versions, is a
+-- list of siblings, or is a message
+abbrev pub bytes : ℕ → Rule
+bytes n = Length n
 
--- a row of a table: a tag, whether it must be there, and the rule of its value. A table is a list of rows.
-pub record TagRule : Type 0 where
-  pub tag : ℕ
-  pub needed : Bool
-  pub rule : Rule
+abbrev pub nonzero : Rule
+nonzero = Nonzero
+
+abbrev pub versions : Rule
+versions = Versions
+
+abbrev pub siblings : Rule
+siblings = Siblings
+
+abbrev pub message : Rule
+message = Message
+
+-- A row of a table is a tag, whether it must be there, and the rule of its value; a table is a list of rows.
 
 -- a row whose tag must be there, and one whose tag may be absent
 abbrev pub must : ℕ → Rule → TagRule
@@ -51,11 +58,11 @@ siblings_bad v = any (ltb 1024 (length v) ∷ not (eqb (length v % 32) 0) ∷ []
 
 -- a value breaks its rule; a message may have any length here, since its own codes are told after this one's
 unfoldable pub value_bad : Rule → List ℕ → Bool
-value_bad (bytes n) v = not (eqb (length v) n)
-value_bad nonzero v = nonzero_bad v
-value_bad versions v = versions_bad v
-value_bad siblings v = siblings_bad v
-value_bad message v = false
+value_bad (Length n) v = not (eqb (length v) n)
+value_bad Nonzero v = nonzero_bad v
+value_bad Versions v = versions_bad v
+value_bad Siblings v = siblings_bad v
+value_bad Message v = false
 
 -- a needed tag is absent
 unfoldable pub absent : List ℕ → ℕ → Bool → Bool

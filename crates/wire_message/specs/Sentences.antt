@@ -5,7 +5,10 @@ use Rattle.std.specs.Prelude.{ℕ, ◌+◌, ◌*◌, ◌/◌, ◌%◌, ◌≤◌
 use Rattle.laws.specs.Numbers.{le}
 use Rattle.wire_message.specs.Encode.{Field, Fields, encode, among, value_among}
 use Rattle.wire_message.specs.Frame.{word, count, offset, tag_at, section}
-use Rattle.wire_message.specs.Rules.{Rule, bytes, nonzero, versions, siblings, message, TagRule, row}
+use Rattle.wire_message.specs.Rules.{row}
+use Rattle.wire_message.specs.declared.rules.Rule.TheVariants.{Length, Nonzero, Versions, Siblings, Message}
+use Rattle.wire_message.specs.declared.rules.Rule.{Rule}
+use Rattle.wire_message.specs.declared.rules.TagRule.{TagRule}
 use Rattle.wire_message.specs.Values.{has, value_of}
 
 -- ---- code 4
@@ -66,11 +69,11 @@ pub record SiblingList (v : List ℕ) : Type 0 where
 
 -- a value keeps its rule; of a message, its own sentences say more
 abbrev pub KeepsRule : Rule → List ℕ → Type 0
-KeepsRule (bytes n) v = length v ≡ n
-KeepsRule nonzero v = NonzeroNumber v
-KeepsRule versions v = VersionList v
-KeepsRule siblings v = SiblingList v
-KeepsRule message v = record {}
+KeepsRule (Length n) v = length v ≡ n
+KeepsRule Nonzero v = NonzeroNumber v
+KeepsRule Versions v = VersionList v
+KeepsRule Siblings v = SiblingList v
+KeepsRule Message v = record {}
 
 -- the value of each tag of the table that is there keeps its rule
 abbrev pub ValuesRight : List ℕ → List TagRule → Type 0

@@ -40,20 +40,14 @@ pub fn value_start(m: &[u8], tag: u32) -> usize
     8 * n + edge_at(m, k)
 }
 
-// The place of a tag among the tags of a message, and their number where it is absent.
+// The place of a tag among the tags of a message, and their number where it is absent: no Option, since `value_start`
+// goes on with that number, whose edge is the message's end.
 fn index_of(m: &[u8], tag: u32) -> usize
     requires { Good m.now }
     ensures { result ≡ index_of m.now tag }
 {
     let n = le32(m, 0) as usize;
-    let mut k = 0;
-    while k < n {
-        if tag_at(m, k) == tag {
-            return k;
-        }
-        k += 1;
-    }
-    k
+    (0..n).position(|k| tag_at(m, k) == tag).unwrap_or(n)
 }
 
 // Tag k of a message of n tags.

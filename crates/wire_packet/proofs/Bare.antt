@@ -9,7 +9,8 @@ use borrow.Author.Tests.{leb-true}
 use Rattle.laws.proofs.First.{first-keeps, when-keeps, end-keeps}
 use Rattle.refusal.specs.Refusal.{refusal_at, refusals, first, when, shifted}
 use Rattle.refusal.specs.declared.Refusal.{Refusal}
-use Rattle.wire_message.specs.Rules.{TagRule, message_code}
+use Rattle.wire_message.specs.Rules.{message_code}
+use Rattle.wire_message.specs.declared.rules.TagRule.{TagRule}
 use Rattle.wire_message.proofs.Cases.{frame-by, message-by}
 use Rattle.wire_packet.specs.Packet.{packet_code, body_start, body}
 use Rattle.wire_packet.specs.Places.{Bare}

@@ -13,7 +13,8 @@ use Rattle.laws.proofs.First.{says-0, is_last, test-false, equal, is-empty, none
 use Rattle.laws.proofs.First.{test-quiet}
 use Rattle.refusal.specs.Refusal.{passed, shifted, refusals}
 use Rattle.wire_message.specs.Encode.{Field, Fields, encode, among, value_among}
-use Rattle.wire_message.specs.Rules.{TagRule, message_code, message}
+use Rattle.wire_message.specs.Rules.{message_code, message}
+use Rattle.wire_message.specs.declared.rules.TagRule.{TagRule}
 use Rattle.wire_message.specs.Sentences.{Holds, HoldsMessage}
 use Rattle.wire_message.specs.Tags.{VER, DELE, TYPE, SREP, VERS, CERT}
 use Rattle.wire_message.specs.Values.{value_of}

@@ -10,7 +10,8 @@ use Rattle.laws.proofs.First.{says-0, is_last, none-quiet}
 use Rattle.refusal.specs.Refusal.{passed, refusals, first}
 use Rattle.refusal.specs.declared.Refusal.{Refusal}
 use Rattle.wire_message.specs.Encode.{Field, Fields, Encoded, values, encode, value_among}
-use Rattle.wire_message.specs.Rules.{TagRule, message_code}
+use Rattle.wire_message.specs.Rules.{message_code}
+use Rattle.wire_message.specs.declared.rules.TagRule.{TagRule}
 use Rattle.wire_message.specs.Values.{value_of}
 use Rattle.wire_message.proofs.Codes.{frame-0, code-0}
 use Rattle.wire_message.proofs.Decoded.{good-encoded}

@@ -12,7 +12,8 @@ use Rattle.laws.proofs.First.{first-keeps, when-keeps, end-keeps}
 use Rattle.refusal.specs.Refusal.{refusal, passed, refusals, first, when, shifted}
 use Rattle.refusal.specs.declared.Refusal.{Refusal}
 use Rattle.wire_message.specs.Places.{RowsRise}
-use Rattle.wire_message.specs.Rules.{TagRule, message_code}
+use Rattle.wire_message.specs.Rules.{message_code}
+use Rattle.wire_message.specs.declared.rules.TagRule.{TagRule}
 use Rattle.wire_message.specs.Tags.{DELE, SREP, CERT}
 use Rattle.wire_message.specs.Sentences.{Good}
 use Rattle.wire_message.specs.Values.{value_start}

@@ -6,15 +6,18 @@ use mathlib.Core.Bool.{Bool, true, false, cond}
 use native.Mathlib.Omega.{arith}
 use lib.ListN.{length, length-drop}
 use Rattle.laws.proofs.First.{first-keeps, when-keeps, end-keeps}
-use Rattle.refusal.specs.Refusal.{refusals, carries, shifted}
+use Rattle.std.specs.Prelude.{Result, Err}
+use Rattle.refusal.specs.Refusal.{refusals, carries, passes, shifted}
+use Rattle.refusal.proofs.Passing.{error-is}
 use Rattle.refusal.specs.declared.Refusal.{Refusal}
-use Rattle.wire_message.specs.Rules.{TagRule, message_code}
+use Rattle.wire_message.specs.Rules.{message_code}
+use Rattle.wire_message.specs.declared.rules.TagRule.{TagRule}
 use Rattle.wire_message.specs.Sentences.{Good}
 use Rattle.wire_message.specs.Tags.{DELE, SREP, CERT}
 use Rattle.wire_message.specs.Values.{value_of, value_start}
 use Rattle.wire_message.proofs.Codes.{message-good}
 use Rattle.wire_message.proofs.Edges.{value-ends}
-use Rattle.wire_message.proofs.Places.{place_in}
+use Rattle.wire_message.proofs.Places.{place_in, value-fits}
 use Rattle.wire_packet.specs.Packet.{body_start, body}
 use Rattle.wire_packet.specs.Request.{request_message_code}
 use Rattle.wire_packet.specs.Response.{srep, cert, dele, srep_start, cert_start, dele_start, shape_code}
@@ -32,11 +35,6 @@ shifted_in by n r h = go (carries r.code)
     go : (t : Bool) → cond t (r.at + by) r.at ≤ n
     go true = h
     go false = omega arith
-
--- the refusal of a value, which code has as r, and where the value starts, which code has as s
-pub value-fits : (m : List ℕ) → Good m → (tag : ℕ) (rows : List TagRule) {r : Refusal} {s : ℕ}
-    → r ≡ message_code (value_of m tag) rows → s ≡ value_start m tag → r.at + s ≤ length m
-value-fits m g tag rows e f = rw (e, f) (omega (arith, place_in (value_of m tag) rows, value-ends m g tag))
 
 -- DELE starts in the message, and the same of its refusal
 pub dele-in : (m : List ℕ) → Good m → Good (cert m) → dele_start m + length (dele m) ≤ length m
@@ -83,3 +81,22 @@ response-in m =
 pub body-fits : (f : List ℕ → Refusal) → ((m : List ℕ) → (f m).at ≤ length m) → (p : List ℕ) → 12 ≤ length p
     → {m : List ℕ} {r : Refusal} → r ≡ f m → m ≡ body p → r.at + body_start ≤ length p
 body-fits f fits p h e b = rw (e, b) (omega (arith, fits (body p), length-drop 12 p))
+
+-- the refusal of DELE in CERT, which code has as r, told of the message around CERT
+pub dele-in-cert : (m : List ℕ) → Good m → Good (cert m) → {r : Refusal} {s : ℕ}
+    → r ≡ shifted (value_start (cert m) DELE) (message_code (dele m) dele_table) → s ≡ value_start m CERT
+    → r.at + s ≤ length m
+dele-in-cert m g h e f =
+    rw (e, f)
+    (omega (
+      arith,
+      shifted_in (value_start (cert m) DELE) (length (cert m)) (message_code (dele m) dele_table)
+          (value-fits (cert m) h DELE dele_table refl refl),
+      value-ends m g CERT,
+    ))
+
+-- the refusal of a packet's message, which a check gave, told of the packet
+pub told-fits : (f : List ℕ → Refusal) → ((m : List ℕ) → (f m).at ≤ length m) → (p : List ℕ) → 12 ≤ length p
+    → {m : List ℕ} {r : Result (Unit {0}) Refusal} → r ≡ passes (f m) → m ≡ body p → (e : Refusal) → r ≡ Err e
+    → e.at + body_start ≤ length p
+told-fits f fits p h {m} told b e is = body-fits f fits p h (error-is (f m) told is) b

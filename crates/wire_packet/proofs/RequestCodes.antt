@@ -1,24 +1,32 @@
 -- What the codes of a packet and of a request say where they are 0.
 use Prim.Native.Nat.{ℕ, ◌≤◌}
-use mathlib.Core.Path.{◌≡◌, refl, sym, ◌∙◌}
+use mathlib.Core.Path.{◌≡◌, refl, sym, ap, ◌∙◌}
 use mathlib.Core.Bool.{Bool, false}
-use mathlib.Core.List.{List}
+use mathlib.Core.List.{List, [], ◌∷◌}
 use borrow.Author.Tests.{eqb-true, not-false}
 use lib.ListN.{length}
-use Rattle.laws.proofs.First.{quiet_of, row-quiet, chosen-says}
-use Rattle.refusal.specs.Refusal.{refusals}
+use Rattle.laws.proofs.First.{quiet_of, row-quiet}
+use Rattle.std.specs.Prelude.{Result}
+use Rattle.refusal.specs.Refusal.{refusals, first, passes, shifted, number_of}
+use Rattle.refusal.proofs.Passing.{answer-number, passed-by, last-is}
 use Rattle.refusal.specs.declared.Refusal.{Refusal}
 use Rattle.wire_message.proofs.Codes.{message-good, kept, kept_if}
 use Rattle.wire_packet.specs.Facts.{Asks}
-use Rattle.wire_packet.specs.Packet.{packet_code, body}
-use Rattle.wire_packet.specs.Request.{request_message_code, request_code, request_bad, no_request, request_in, request_of}
+use Rattle.wire_packet.specs.Packet.{packet_code, body_start, body}
+use Rattle.wire_packet.specs.Request.{request_message_code, request_code, request_bad, request_in, request_of}
 use Rattle.wire_packet.specs.Tables.{request_table}
-use Rattle.wire_packet.specs.declared.Request.{Request}
 use Rattle.wire_packet.proofs.Packets.{packet-0}
 
 -- a packet has at least its header
 pub packet-long : (p : List ℕ) (x : Refusal) → x ≡ packet_code p → x.code ≡ 0 → 12 ≤ length p
 packet-long p x e z = (packet-0 p (quiet_of refusals e z)).least
+
+-- the answer to a packet whose message a check of f is asked about, which code has as m
+pub message-answers : (f : List ℕ → Refusal) (p : List ℕ) {m : List ℕ} {s : Result (Unit {0}) Refusal}
+    → (packet_code p).code ≡ 0 → m ≡ body p → s ≡ passes (shifted body_start (f m))
+    → s ≡ passes (first (packet_code p ∷ shifted body_start (f (body p)) ∷ []))
+message-answers f p z b told =
+    passed-by _ _ _ z (last-is _ (told ∙ ap (λ (m : List ℕ). passes (shifted body_start (f m))) b))
 
 -- the message of a good request
 pub asks : (m : List ℕ) → (request_message_code m).code ≡ 0 → Asks m
@@ -48,8 +56,6 @@ pub lent-body : (q : List ℕ) {t : Bool} → t ≡ request_bad q → t ≡ fals
 lent-body q e f = let b = request-body q (lent-good q e f) in (b.0, asks (body q) b.1)
 
 -- the answer says the packet's code, in document 01's numbers
-pub request-says : (p : List ℕ) → (request_of p).refusal.code ≡ (request_code p).code
-unfolding request_of request_in
-request-says p =
-    chosen-says (λ (r : Request). r.refusal.code) (request_in (body p)) (no_request (request_code p))
-    (request_code p).code refl refl
+pub request-says : (p : List ℕ) → number_of (request_of p) ≡ (request_code p).code
+unfolding request_of
+request-says p = answer-number (request_code p) (request_in (body p))

@@ -3,16 +3,17 @@ use Prim.Native.Nat.{ℕ, ◌≤◌}
 use mathlib.Core.Path.{◌≡◌, refl}
 use mathlib.Core.List.{List}
 use lib.ListN.{length}
-use Rattle.laws.proofs.First.{quiet_of, row-quiet, chosen-says}
-use Rattle.refusal.specs.Refusal.{refusals}
+use Rattle.laws.proofs.First.{quiet_of, row-quiet}
+use Rattle.std.specs.Prelude.{Result, Ok}
+use Rattle.refusal.specs.Refusal.{refusals, passes, number_of}
+use Rattle.refusal.proofs.Passing.{answer-number, goes-on}
 use Rattle.refusal.specs.declared.Refusal.{Refusal}
 use Rattle.wire_message.proofs.Codes.{message-good, kept}
 use Rattle.wire_packet.specs.Facts.{Shaped}
 use Rattle.wire_packet.specs.Packet.{body}
 use Rattle.wire_packet.specs.Response.{srep, cert, dele, shape_code, signed_code, response_message_code, response_code}
-use Rattle.wire_packet.specs.Response.{no_response, response_in, response_of}
+use Rattle.wire_packet.specs.Response.{response_in, response_of}
 use Rattle.wire_packet.specs.Tables.{root_table, srep_table, cert_table, dele_table}
-use Rattle.wire_packet.specs.declared.Response.{Response}
 use Rattle.wire_packet.proofs.RequestCodes.{packet-long}
 
 pub shaped : (m : List ℕ) (x : Refusal) → x ≡ shape_code m → x.code ≡ 0 → Shaped m
@@ -41,6 +42,11 @@ shaped m x e z =
       maxt-long = kept (dele m) dele_table d.0 2 tt refl;
     }
 
+-- the same of what a check answered
+pub shaped-passes : {m : List ℕ} {r : Result (Unit {0}) Refusal} {u : Unit {0}} → r ≡ passes (shape_code m) → r ≡ Ok u
+    → Shaped m
+shaped-passes {m} e f = shaped m _ refl (goes-on (shape_code m) e f)
+
 -- a good packet's message has the right shape
 pub response-body : (p : List ℕ) (x : Refusal) → x ≡ response_code p → x.code ≡ 0 → (12 ≤ length p) × Shaped (body p)
 unfolding response_code response_message_code
@@ -57,8 +63,6 @@ signed-body p x e z =
     (packet-long p _ refl a.0, shaped (body p) _ refl (row-quiet refusals _ _ a.1).0)
 
 -- the answer says the packet's code, in document 01's numbers
-pub response-says : (p : List ℕ) → (response_of p).refusal.code ≡ (response_code p).code
-unfolding response_of response_in
-response-says p =
-    chosen-says (λ (r : Response). r.refusal.code) (response_in (body p)) (no_response (response_code p))
-    (response_code p).code refl refl
+pub response-says : (p : List ℕ) → number_of (response_of p) ≡ (response_code p).code
+unfolding response_of
+response-says p = answer-number (response_code p) (response_in (body p))

@@ -4,7 +4,8 @@
 use Rattle.std.specs.Prelude.{ℕ, ◌+◌, ◌≤◌, ◌≡◌, List, length, take, drop}
 use Rattle.refusal.specs.declared.Refusal.{Refusal}
 use Rattle.wire_message.specs.Places.{WrongAt}
-use Rattle.wire_message.specs.Rules.{TagRule, message_code}
+use Rattle.wire_message.specs.Rules.{message_code}
+use Rattle.wire_message.specs.declared.rules.TagRule.{TagRule}
 use Rattle.wire_packet.specs.Packet.{body_start, body}
 use Rattle.wire_packet.specs.Response.{srep, cert, dele, srep_start, cert_start, dele_start}
 use Rattle.wire_packet.specs.Tables.{root_table, srep_table, cert_table, dele_table}

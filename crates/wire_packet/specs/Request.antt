@@ -1,13 +1,12 @@
 -- Reading a request (draft 19, 5.1): codes 1 to 8 in order, and what a good one says.
-use Rattle.std.specs.Prelude.{ℕ, List, [], ◌∷◌, Bool, false, not, cond, eqb}
+use Rattle.std.specs.Prelude.{ℕ, List, [], ◌∷◌, Bool, not, cond, eqb, Option, None, Some, Result}
 use Rattle.laws.specs.Numbers.{le}
-use Rattle.refusal.specs.Refusal.{passed, shifted, first, when}
+use Rattle.refusal.specs.Refusal.{answer, shifted, first, when}
 use Rattle.refusal.specs.declared.Refusal.{Refusal}
 use Rattle.wire_message.specs.Rules.{message_code}
 use Rattle.wire_message.specs.Tags.{VER, SRV, NONC, TYPE}
 use Rattle.wire_message.specs.Values.{has, value_of}
 use Rattle.wire_packet.specs.Packet.{packet_code, body_start, body}
-use Rattle.wire_packet.specs.Blank.{zeros32}
 use Rattle.wire_packet.specs.Tables.{request_table}
 use Rattle.wire_packet.specs.Versions.{lacks_version}
 use Rattle.wire_packet.specs.declared.Request.{Request}
@@ -29,20 +28,14 @@ request_code p = first (packet_code p ∷ shifted body_start (request_message_co
 unfoldable pub request_bad : List ℕ → Bool
 request_bad p = not (eqb (request_code p).code 0)
 
--- the answer to a refused request
-abbrev pub no_request : Refusal → Request
-no_request refusal = record { refusal = refusal; nonc = zeros32; with_srv = false; srv = zeros32 }
+-- the SRV value of a good one, of its message, where it has one
+unfoldable pub srv_in : List ℕ → Option (List ℕ)
+srv_in m = cond (has m SRV) (Some (value_of m SRV)) None
 
--- the answer to a good one, of its message
+-- what a good one says, of its message
 unfoldable pub request_in : List ℕ → Request
-request_in m =
-    record {
-      refusal = passed;
-      nonc = value_of m NONC;
-      with_srv = has m SRV;
-      srv = cond (has m SRV) (value_of m SRV) zeros32;
-    }
+request_in m = record { nonc = value_of m NONC; srv = srv_in m }
 
 -- what reading a request packet answers
-unfoldable pub request_of : List ℕ → Request
-request_of p = cond (eqb (request_code p).code 0) (request_in (body p)) (no_request (request_code p))
+unfoldable pub request_of : List ℕ → Result Request Refusal
+request_of p = answer (request_code p) (request_in (body p))

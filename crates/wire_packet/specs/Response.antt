@@ -1,13 +1,12 @@
 -- Reading a response (draft 19, 5.2; request P4): codes 1 to 8 in order, and what a good one says.
-use Rattle.std.specs.Prelude.{ℕ, ◌+◌, List, [], ◌∷◌, Bool, not, cond, eqb}
+use Rattle.std.specs.Prelude.{ℕ, ◌+◌, List, [], ◌∷◌, Bool, not, eqb, Result}
 use Rattle.laws.specs.Numbers.{le}
-use Rattle.refusal.specs.Refusal.{passed, shifted, first, when}
+use Rattle.refusal.specs.Refusal.{answer, shifted, first, when}
 use Rattle.refusal.specs.declared.Refusal.{Refusal}
 use Rattle.wire_message.specs.Rules.{message_code}
 use Rattle.wire_message.specs.Tags.{VER, NONC, DELE, TYPE, RADI, MIDP, SREP, VERS, MINT, ROOT, CERT, MAXT, INDX}
 use Rattle.wire_message.specs.Values.{value_of, value_start}
 use Rattle.wire_packet.specs.Packet.{packet_code, body_start, body}
-use Rattle.wire_packet.specs.Blank.{zeros32}
 use Rattle.wire_packet.specs.Tables.{root_table, srep_table, cert_table, dele_table}
 use Rattle.wire_packet.specs.Versions.{lacks_version}
 use Rattle.wire_packet.specs.declared.Response.{Response}
@@ -89,15 +88,10 @@ response_message_code m =
 unfoldable pub response_code : List ℕ → Refusal
 response_code p = first (packet_code p ∷ shifted body_start (response_message_code (body p)) ∷ [])
 
--- the answer to a refused response
-abbrev pub no_response : Refusal → Response
-no_response refusal = record { refusal = refusal; nonc = zeros32; indx = 0; midp = 0; radi = 0; root = zeros32 }
-
--- the answer to a good one, of its message
+-- what a good one says, of its message
 unfoldable pub response_in : List ℕ → Response
 response_in m =
     record {
-      refusal = passed;
       nonc = value_of m NONC;
       indx = indx_in m;
       midp = midp_in m;
@@ -106,5 +100,5 @@ response_in m =
     }
 
 -- what reading a response packet answers
-unfoldable pub response_of : List ℕ → Response
-response_of p = cond (eqb (response_code p).code 0) (response_in (body p)) (no_response (response_code p))
+unfoldable pub response_of : List ℕ → Result Response Refusal
+response_of p = answer (response_code p) (response_in (body p))

@@ -1,7 +1,8 @@
 -- The tags that each of the five messages holds, and the rules of their values (document 01, "Bytes of a message";
 -- draft 19, 5.1 and 5.2; request P4). The rows stand in the order of the tags.
 use Rattle.std.specs.Prelude.{List, [], ◌∷◌}
-use Rattle.wire_message.specs.Rules.{TagRule, must, may, bytes, nonzero, versions, siblings, message}
+use Rattle.wire_message.specs.Rules.{must, may, bytes, nonzero, versions, siblings, message}
+use Rattle.wire_message.specs.declared.rules.TagRule.{TagRule}
 use Rattle.wire_message.specs.Tags.{SIG, VER, SRV, NONC, DELE, TYPE, PATH, RADI, PUBK, MIDP, SREP, VERS, MINT, ROOT, CERT}
 use Rattle.wire_message.specs.Tags.{MAXT, INDX}
 

@@ -54,12 +54,8 @@ pub fn lacks_version(m: &[u8], tag: u32, x: u32) -> bool
 pub fn lacks(v: &[u8], x: u32) -> bool
     ensures { result ≡ lacks_version v.now x }
 {
-    let mut k = 0;
-    while k < v.len() / 4 {
-        if le32(v, 4 * k) == x {
-            return false;
-        }
-        k += 1;
-    }
-    true
+    let (versions, _) = v.as_chunks::<4>();
+    !versions
+        .iter()
+        .any(|version| u32::from_le_bytes(*version) == x)
 }

@@ -1,9 +1,12 @@
-// Packets: codes 1 to 3, and the message within.
-ghost use Rattle.std.specs.Prelude.{◌≡◌, ◌≤◌, length};
+// Packets: codes 1 to 3, and the message within. That a packet has its 12 bytes is asked by a clause, and not kept by a
+// type: callers learn it from a code, as of `request_bad` or `response_code`, which hands back no packet, so that a
+// value of that type would be made by testing the length once more.
+ghost use Rattle.std.specs.Prelude.{◌≡◌, ◌≤◌, Err, MatchResult, length};
+ghost use Rattle.refusal.specs.Refusal.{passes};
 ghost use Rattle.wire_packet.specs.Packet.{mark_wrong, length_wrong, packet_code, body};
 
 use octets::{equal, le32};
-use refusal::{PASSED, Refusal, codes, refuse};
+use refusal::{Refusal, codes, refuse};
 
 // Where the message of a packet starts.
 pub const BODY_START: usize = 12;
@@ -12,22 +15,32 @@ pub const BODY_START: usize = 12;
 pub const MARK: [u8; 8] = *b"ROUGHTIM";
 
 // Codes 1 to 3 of a packet.
-pub fn packet_code(p: &[u8]) -> Refusal
-    ensures { result ≡ packet_code p.now }
+pub fn packet_code(p: &[u8]) -> Result<(), Refusal>
+    ensures { result ≡ passes (packet_code p.now) }
 {
     if p.len() < 12 {
-        return refuse(codes::PACKET_SIZE);
+        return Err(refuse(codes::PACKET_SIZE));
     }
     if 2000 < p.len() {
-        return refuse(codes::PACKET_SIZE);
+        return Err(refuse(codes::PACKET_SIZE));
     }
     if mark_wrong(p) {
-        return refuse(codes::MARK);
+        return Err(refuse(codes::MARK));
     }
     if length_wrong(p) {
-        return refuse(codes::PACKET_LENGTH);
+        return Err(refuse(codes::PACKET_LENGTH));
     }
-    PASSED
+    Ok(())
+}
+
+// The message of a packet that has none of the codes 1 to 3.
+pub(crate) fn message_in(p: &[u8]) -> Result<&[u8], Refusal>
+    ensures { MatchResult result
+        (λ m. ((packet_code p.now).code ≡ 0) × (m.now ≡ body p.now))
+        (λ why. Err why ≡ passes (packet_code p.now)) }
+{
+    packet_code(p)?;
+    Ok(body_of(p))
 }
 
 // The first eight bytes are not the mark.

@@ -1,73 +1,59 @@
 // Reading a response: codes 1 to 8, and what a good one says.
 ghost use Rattle.std.specs.Prelude.{◌≡◌};
 ghost use Rattle.laws.specs.Numbers.{le};
+ghost use Rattle.refusal.specs.Refusal.{passes};
 ghost use Rattle.wire_message.specs.Tags.{VER};
 ghost use Rattle.wire_message.specs.Values.{value_of};
 ghost use Rattle.wire_packet.specs.Facts.{Shaped};
 ghost use Rattle.wire_packet.specs.Response.{srep, signed_code, version_unlisted, response_message_code, response_code};
-ghost use Rattle.wire_packet.specs.Response.{no_response, response_in, response_of};
+ghost use Rattle.wire_packet.specs.Response.{response_in, response_of};
 
 use super::Response;
 use super::fields::{lacks_version, number32, number64, value32};
-use super::packet::{BODY_START, body_of, packet_code};
+use super::packet::{BODY_START, body_of, message_in};
 use super::shape::shape_code;
-use refusal::{PASSED, Refusal, codes, refuse, shifted};
+use refusal::{Refusal, codes, refuse};
 use wire_message::tags::{INDX, MIDP, NONC, RADI, ROOT, SREP, TYPE, VER, VERS};
 use wire_message::value_of;
 
 // Reads a response packet.
-pub fn read_response(p: &[u8]) -> Response
+pub fn read_response(p: &[u8]) -> Result<Response, Refusal>
     ensures { result ≡ response_of p.now }
 {
-    let c = response_code(p);
-    if c.code != 0 {
-        return refused_response(c);
-    }
-    good_response(body_of(p))
+    response_code(p)?;
+    Ok(good_response(body_of(p)))
 }
 
-// Codes 1 to 8 of a response packet, with their place in it.
-pub fn response_code(p: &[u8]) -> Refusal
-    ensures { result ≡ response_code p.now }
+// Codes 1 to 8 of a response packet, with their place in it. As in `request_code`, the check of the message is what differs.
+pub fn response_code(p: &[u8]) -> Result<(), Refusal>
+    ensures { result ≡ passes (response_code p.now) }
 {
-    let c = packet_code(p);
-    if c.code != 0 {
-        return c;
-    }
-    let r = response_message_code(body_of(p));
-    shifted(r, BODY_START)
+    response_message_code(message_in(p)?).map_err(|why| why.shifted(BODY_START))
 }
 
-// Codes 1 to 7 of a response packet, with their place in it, PASSED where none applies: what the signed texts ask.
-pub fn signed_code(p: &[u8]) -> Refusal
-    ensures { result ≡ signed_code p.now }
+// Codes 1 to 7 of a response packet, with their place in it: what the signed texts ask. As in `request_code`, the check of
+// the message is what differs.
+pub fn signed_code(p: &[u8]) -> Result<(), Refusal>
+    ensures { result ≡ passes (signed_code p.now) }
 {
-    let c = packet_code(p);
-    if c.code != 0 {
-        return c;
-    }
-    let r = shape_code(body_of(p));
-    shifted(r, BODY_START)
+    shape_code(message_in(p)?).map_err(|why| why.shifted(BODY_START))
 }
 
 // Codes 4 to 8 of a response's message.
-fn response_message_code(m: &[u8]) -> Refusal
-    ensures { result ≡ response_message_code m.now }
+fn response_message_code(m: &[u8]) -> Result<(), Refusal>
+    ensures { result ≡ passes (response_message_code m.now) }
 {
-    let c = shape_code(m);
-    if c.code != 0 {
-        return c;
-    }
+    shape_code(m)?;
     if number32(m, TYPE) != 1 {
-        return refuse(codes::TYPE_OR_VERSION);
+        return Err(refuse(codes::TYPE_OR_VERSION));
     }
     if srep_version(m) != 1 {
-        return refuse(codes::TYPE_OR_VERSION);
+        return Err(refuse(codes::TYPE_OR_VERSION));
     }
     if version_unlisted(m) {
-        return refuse(codes::TYPE_OR_VERSION);
+        return Err(refuse(codes::TYPE_OR_VERSION));
     }
-    PASSED
+    Ok(())
 }
 
 // VERS does not hold SREP's version.
@@ -86,19 +72,6 @@ pub fn srep_version(m: &[u8]) -> u32
     number32(value_of(m, SREP), VER)
 }
 
-fn refused_response(refusal: Refusal) -> Response
-    ensures { result ≡ no_response refusal }
-{
-    Response {
-        refusal: refusal,
-        nonc: [0u8; 32],
-        indx: 0,
-        midp: 0,
-        radi: 0,
-        root: [0u8; 32],
-    }
-}
-
 fn good_response(m: &[u8]) -> Response
     requires { Shaped m.now }
     ensures { result ≡ response_in m.now }
@@ -110,7 +83,6 @@ fn good_response(m: &[u8]) -> Response
     let radi = number32(srep, RADI);
     let root = value32(srep, ROOT);
     Response {
-        refusal: PASSED,
         nonc: nonc,
         indx: indx,
         midp: midp,

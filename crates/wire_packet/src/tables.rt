@@ -1,25 +1,63 @@
-// The tables of the five messages: of each tag that a message needs or may have, the tag, MUST or MAY, and the rule of
-// its value, in the order of the tags. A rule is a name or a length in bytes.
+// The tables of the five messages: of each tag that a message must or may have, in the order of the tags, a row with the
+// rule of its value.
 use wire_message::tags::{
     CERT, DELE, INDX, MAXT, MIDP, MINT, NONC, PATH, PUBK, RADI, ROOT, SIG, SREP, SRV, TYPE, VER,
     VERS,
 };
-use wire_message::{MAY, MESSAGE, MUST, NONZERO, SIBLINGS, VERSIONS};
+use wire_message::{Rule, TagRule};
 
-pub const REQUEST_TABLE: [u32; 12] = [
-    VER, MUST, VERSIONS, SRV, MAY, 32, NONC, MUST, 32, TYPE, MUST, 4,
+// A row whose tag must be there.
+macro_rules! must {
+    ($tag:expr, $rule:expr) => {
+        TagRule {
+            tag: $tag,
+            needed: true,
+            rule: $rule,
+        }
+    };
+}
+
+// A row whose tag may be absent.
+macro_rules! may {
+    ($tag:expr, $rule:expr) => {
+        TagRule {
+            tag: $tag,
+            needed: false,
+            rule: $rule,
+        }
+    };
+}
+
+pub const REQUEST_TABLE: [TagRule; 4] = [
+    must!(VER, Rule::Versions),
+    may!(SRV, Rule::Length(32)),
+    must!(NONC, Rule::Length(32)),
+    must!(TYPE, Rule::Length(4)),
 ];
 
 // Of a response: the root message, SREP and CERT in it, and DELE in CERT.
-pub const ROOT_TABLE: [u32; 21] = [
-    SIG, MUST, 64, NONC, MUST, 32, TYPE, MUST, 4, PATH, MUST, SIBLINGS, SREP, MUST, MESSAGE, CERT,
-    MUST, MESSAGE, INDX, MUST, 4,
+pub const ROOT_TABLE: [TagRule; 7] = [
+    must!(SIG, Rule::Length(64)),
+    must!(NONC, Rule::Length(32)),
+    must!(TYPE, Rule::Length(4)),
+    must!(PATH, Rule::Siblings),
+    must!(SREP, Rule::Message),
+    must!(CERT, Rule::Message),
+    must!(INDX, Rule::Length(4)),
 ];
 
-pub const SREP_TABLE: [u32; 15] = [
-    VER, MUST, 4, RADI, MUST, NONZERO, MIDP, MUST, 8, VERS, MUST, VERSIONS, ROOT, MUST, 32,
+pub const SREP_TABLE: [TagRule; 5] = [
+    must!(VER, Rule::Length(4)),
+    must!(RADI, Rule::Nonzero),
+    must!(MIDP, Rule::Length(8)),
+    must!(VERS, Rule::Versions),
+    must!(ROOT, Rule::Length(32)),
 ];
 
-pub const CERT_TABLE: [u32; 6] = [SIG, MUST, 64, DELE, MUST, MESSAGE];
+pub const CERT_TABLE: [TagRule; 2] = [must!(SIG, Rule::Length(64)), must!(DELE, Rule::Message)];
 
-pub const DELE_TABLE: [u32; 9] = [PUBK, MUST, 32, MINT, MUST, 8, MAXT, MUST, 8];
+pub const DELE_TABLE: [TagRule; 3] = [
+    must!(PUBK, Rule::Length(32)),
+    must!(MINT, Rule::Length(8)),
+    must!(MAXT, Rule::Length(8)),
+];

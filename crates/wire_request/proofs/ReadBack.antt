@@ -1,4 +1,6 @@
 -- Reading our request gives its nonce and the SRV value of its server, by the reader's own definition.
+use Rattle.refusal.specs.declared.Refusal.{Refusal}
+use Rattle.std.specs.Prelude.{Ok, Result, Some}
 use Prim.Native.Nat.{ℕ, zero, suc, ◌+◌, ◌%◌, ◌^◌, ◌<◌}
 use mathlib.Core.Path.{◌≡◌, refl, sym, ap, ◌∙◌}
 use mathlib.Core.Bool.{true, false}
@@ -18,22 +20,20 @@ use Rattle.wire_message.specs.Tags.{VER, SRV, NONC, TYPE}
 use Rattle.wire_message.specs.Values.{value_of}
 use Rattle.wire_message.proofs.Encoded.{has-encoded, value-encoded}
 use Rattle.wire_message.proofs.FieldRows.{Keeps, encode-kept}
-use Rattle.refusal.specs.Refusal.{passed, shifted, refusals}
-use Rattle.wire_packet.specs.Request.{request_message_code, request_code, request_in, request_of}
+use Rattle.refusal.specs.Refusal.{answer, passed, shifted, refusals}
+use Rattle.wire_packet.specs.Request.{request_message_code, request_code, srv_in, request_in, request_of}
 use Rattle.wire_packet.specs.declared.Request.{Request}
 use Rattle.wire_packet.specs.Tables.{request_table}
 use Rattle.wire_packet.specs.Versions.{lacks_version}
 use Rattle.wire_packet.specs.Packet.{body, body_start}
 use Rattle.wire_packet.proofs.Packets.{body-packed, packet-packed}
 use Rattle.wire_request.specs.Request.{request_fields, request_bytes}
-use Rattle.wire_request.specs.declared.Wrote.{Wrote}
-use Rattle.wire_request.specs.declared.Wrote.TheVariants.{Done}
 use Rattle.wire_request.proofs.Answered.{Writes, done-front}
 use Rattle.wire_request.proofs.RequestPieces.{length-message}
 
 -- what reading a request to the server with this key, with this nonce, is to answer
 abbrev pub asked : List ℕ → List ℕ → Request
-asked key nonce = record { refusal = passed; nonc = nonce; with_srv = true; srv = srv_of key }
+asked key nonce = record { nonc = nonce; srv = Some (srv_of key) }
 
 module _ (key nonce : List ℕ) (n32 : length nonce ≡ 32) where
   abbrev fs : List Field
@@ -124,8 +124,8 @@ module _ (key nonce : List ℕ) (n32 : length nonce ≡ 32) where
   nonce-reads = rw (body-packed, value-encoded fs kept NONC)
 
   -- what is written is read back
-  pub read_back : request_of (request_bytes key nonce) ≡ asked key nonce
-  unfolding request_of request_in request_bytes among value_among
+  pub read_back : request_of (request_bytes key nonce) ≡ Ok (asked key nonce)
+  unfolding request_of answer request_in srv_in request_bytes among value_among
   read_back =
       rw (
         eq-eqb (request_code (request_bytes key nonce)).code 0 request-passes,
@@ -136,6 +136,6 @@ module _ (key nonce : List ℕ) (n32 : length nonce ≡ 32) where
       )
 
   -- and so are the first n bytes of what `write_request` leaves, where it answers n
-  pub front-reads-back : {r : Wrote} {d : List ℕ} (out : List ℕ) (n : ℕ)
-      → Writes passed (request_bytes key nonce) out r d → r ≡ Done n → request_of (take n d) ≡ asked key nonce
+  pub front-reads-back : {r : Result ℕ Refusal} {d : List ℕ} (out : List ℕ) (n : ℕ)
+      → Writes passed (request_bytes key nonce) out r d → r ≡ Ok n → request_of (take n d) ≡ Ok (asked key nonce)
   front-reads-back out n w e = ap request_of (done-front passed (request_bytes key nonce) out n w e) ∙ read_back

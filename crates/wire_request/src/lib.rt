@@ -5,13 +5,5 @@
 mod request;
 mod texts;
 
-use refusal::Refusal;
 pub use request::write_request;
 pub use texts::{DELEGATION, RESPONSE, delegation_text, response_text};
-
-// How many bytes stand at the front of the buffer, or why nothing was written.
-#[derive(Clone, Copy)]
-pub enum Wrote {
-    Done(usize),
-    Refused(Refusal),
-}

@@ -45,7 +45,7 @@ const SHOWN: [(&str, Kind); 38] = [
     ("a larger step limit", Kind::Bound),
     // rt tells no more than the first letters of an error, and may end within these words.
     ("from what it read. All", Kind::False),
-    ("the facts known there allow values at which this goal", Kind::False),
+    ("the facts known there allow", Kind::False),
     ("computed as far as they go, the two ", Kind::False),
     ("as printed, the two ", Kind::False),
     ("must be a path whose two ends are equal", Kind::False),

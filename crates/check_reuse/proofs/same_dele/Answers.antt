@@ -1,31 +1,27 @@
--- `check_reuse::same_dele` meets its contract.
-use native.Mathlib.Omega.{arith}
-use borrow.Author.Tests.{eq-eqb, ne_eqb}
+-- `check_reuse::same_dele` meets its contract: the derived `==` compares the fields in their order.
+use Prim.Native.Nat.{ℕ}
+use mathlib.Core.Bool.{Bool, true, false, cond, ◌&&◌}
+use mathlib.Core.List.{List, [], ◌∷◌}
+use mathlib.Core.Path.{◌≡◌, refl, ap, ◌∙◌}
+use lib.Dec.{eqb}
+use Rattle.laws.specs.Same.{same}
+use Rattle.laws.proofs.Same.{pointwise_same}
 use Rattle.check_reuse.specs.Reuse.{same_dele}
-use borrow.Author.Rules.{rules}
 use Rattle.check_reuse.proofs.same_dele.Goals as goal
 
-pub returns-then-first-second : goal.returns-then-first-second
-unfolding same_dele
-returns-then-first-second c =
-    let a = c.args in
-    rw (ne_eqb a.first.mint a.second.mint c.if-first-second.true)
-
-pub returns-then-first-second-2 : goal.returns-then-first-second-2
-unfolding same_dele
-returns-then-first-second-2 c =
-    let a = c.args in
-    rw (
-      eq-eqb a.first.mint a.second.mint (omega (arith, c.if-first-second.false)),
-      ne_eqb a.first.maxt a.second.maxt c.if-first-second-2.true,
-    )
+last-first : (a b c : Bool) → (a && (b && c)) ≡ (b && (c && a))
+last-first true true true = refl
+last-first true true false = refl
+last-first true false c = refl
+last-first false true true = refl
+last-first false true false = refl
+last-first false false c = refl
 
 pub returns : goal.returns
 unfolding same_dele
 returns c =
-    let a = c.args in
-    rw (
-      eq-eqb a.first.mint a.second.mint (omega (arith, c.if-first-second.false)),
-      eq-eqb a.first.maxt a.second.maxt (omega (arith, c.if-first-second-2.false)),
-    )
-    c.equal.ensures
+    let a = c.args.first in
+    let b = c.args.second in
+    c.eq.ensures
+    ∙ ap (λ t. t && (eqb a.mint b.mint && eqb a.maxt b.maxt)) (pointwise_same a.pubk b.pubk)
+    ∙ last-first (same a.pubk b.pubk) (eqb a.mint b.mint) (eqb a.maxt b.maxt)

@@ -1,6 +1,4 @@
 use Rattle.choices.proofs.Masks.{apart, alike}
-use Rattle.choices.proofs.same.Reads as reads
-use Rattle.choices.proofs.same.Lts as lts
 use Rattle.choices.proofs.same.Goals as goal
 
 pub overflow_sub-result : goal.overflow_sub-result

@@ -1,9 +1,6 @@
 use Rattle.choices.proofs.Masks.{mask_fits, by-masks}
 use mathlib.Core.Path.{refl}
-use borrow.Author.Rules.{rules}
 use native.Mathlib.Omega.{arith}
-use Rattle.choices.proofs.word.Reads as reads
-use Rattle.choices.proofs.word.Lts as lts
 use Rattle.choices.proofs.word.Goals as goal
 
 pub overflow_mul-m : goal.overflow_mul-m

@@ -2,7 +2,6 @@
 use mathlib.Core.Path.{ap, ◌∙◌}
 use lib.ListN.{take}
 use Rattle.hash.specs.Hashes.{H32, empty_place}
-use borrow.Author.Rules.{rules}
 use Rattle.hash.proofs.empty_place.Goals as goal
 
 pub returns : goal.returns

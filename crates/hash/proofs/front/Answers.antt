@@ -1,5 +1,4 @@
 -- `hash::front` meets its contract.
-use borrow.Author.Rules.{rules}
 use Rattle.hash.proofs.front.Goals as goal
 
 pub returns : goal.returns

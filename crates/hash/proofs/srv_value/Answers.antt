@@ -1,10 +1,7 @@
 -- `hash::srv_value` meets its contract.
-use mathlib.Core.Path.{ap, ◌∙◌}
-use lib.ListN.{take}
-use Rattle.hash.specs.Hashes.{H32, srv_of}
-use borrow.Author.Rules.{rules}
+use Rattle.hash.specs.Hashes.{srv_of}
 use Rattle.hash.proofs.srv_value.Goals as goal
 
 pub returns : goal.returns
-unfolding srv_of H32
-returns c = c.front.ensures ∙ ap (take 32) c.sha512_tagged.ensures
+unfolding srv_of
+returns c = c.tagged.ensures

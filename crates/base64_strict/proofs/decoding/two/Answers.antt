@@ -3,10 +3,6 @@ use Rattle.base64_strict.specs.Decode.{two_of}
 use borrow.Author.Rules.{rules}
 use Rattle.base64_strict.proofs.decoding.two.Goals as goal
 
-pub returns-then-r-eq64 : goal.returns-then-r-eq64
-unfolding two_of
-returns-then-r-eq64 c = search (choices, rules)
-
 pub returns-then-r-eq0 : goal.returns-then-r-eq0
 unfolding two_of
 returns-then-r-eq0 c = search (choices, rules)

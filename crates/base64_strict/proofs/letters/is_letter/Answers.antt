@@ -1,4 +1,3 @@
-use mathlib.Core.Path.{refl}
 use Rattle.base64_strict.proofs.Tables.{ranged-letter}
 use native.Mathlib.Omega.{arith}
 use Rattle.base64_strict.proofs.letters.is_letter.Goals as goal

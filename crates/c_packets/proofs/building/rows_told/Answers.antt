@@ -1,16 +1,17 @@
 -- `c_packets::building::rows_told` meets its contract.
+use Rattle.refusal.specs.declared.Refusal.{Refusal}
+use Rattle.std.specs.Prelude.{Result, ℕ}
 use mathlib.Core.Path.{sym, ap}
-use Rattle.tree_build.specs.declared.RowsAnswer.{RowsAnswer}
 use Rattle.c_packets.specs.Building.{tb_laid}
 use borrow.Author.Rules.{rules}
 use Rattle.c_packets.proofs.building.rows_told.Goals as goal
 
-pub returns-in-Written : goal.returns-in-Written
-returns-in-Written c =
+pub returns-in-Ok : goal.returns-in-Ok
+returns-in-Ok c =
     let length = c.args.length in
-    sym (ap (λ (l : RowsAnswer). tb_laid l length) c.in-Written.is)
+    sym (ap (λ (l : Result ℕ Refusal). tb_laid l length) c.in-Ok.is)
 
-pub returns-in-Refused : goal.returns-in-Refused
-returns-in-Refused c =
+pub returns-in-Err : goal.returns-in-Err
+returns-in-Err c =
     let length = c.args.length in
-    sym (ap (λ (l : RowsAnswer). tb_laid l length) c.in-Refused.is)
+    sym (ap (λ (l : Result ℕ Refusal). tb_laid l length) c.in-Err.is)

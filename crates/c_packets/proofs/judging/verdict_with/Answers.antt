@@ -1,16 +1,18 @@
 -- `c_packets::judging::verdict_with` meets its contract.
+use Rattle.check_response.specs.declared.Window.{Window}
+use Rattle.refusal.specs.declared.Refusal.{Refusal}
+use Rattle.std.specs.Prelude.{Result}
 use mathlib.Core.Path.{sym, ap}
-use Rattle.check_response.specs.declared.Verdict.{Verdict}
 use Rattle.c_packets.specs.Judging.{verdict_with}
 use borrow.Author.Rules.{rules}
 use Rattle.c_packets.proofs.judging.verdict_with.Goals as goal
 
-pub returns-in-Valid : goal.returns-in-Valid
-returns-in-Valid c =
+pub returns-in-Ok : goal.returns-in-Ok
+returns-in-Ok c =
     let key = c.args.key in
-    sym (ap (λ (v : Verdict). verdict_with v key) c.in-Valid.is)
+    sym (ap (λ (v : Result Window Refusal). verdict_with v key) c.in-Ok.is)
 
-pub returns-in-Refused : goal.returns-in-Refused
-returns-in-Refused c =
+pub returns-in-Err : goal.returns-in-Err
+returns-in-Err c =
     let key = c.args.key in
-    sym (ap (λ (v : Verdict). verdict_with v key) c.in-Refused.is)
+    sym (ap (λ (v : Result Window Refusal). verdict_with v key) c.in-Err.is)

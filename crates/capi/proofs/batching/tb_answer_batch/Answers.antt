@@ -8,4 +8,4 @@ use Rattle.capi.proofs.batching.tb_answer_batch.Goals as goal
 pub returns : goal.returns
 returns c =
     let called = c.answer_batch in
-    let is = c.batch_told.ensures in record { value = is ∙ ap tb_batch called.ensures.value; left_by = rw (is, batch-code called.result) called.ensures.left_by }
+    let is = c.into.ensures in record { value = is ∙ ap tb_batch called.ensures.value; left_by = rw (is, batch-code called.result) called.ensures.left_by }

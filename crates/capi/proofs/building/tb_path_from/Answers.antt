@@ -8,4 +8,4 @@ use Rattle.capi.proofs.building.tb_path_from.Goals as goal
 pub returns : goal.returns
 returns c =
     let called = c.path_from in
-    let is = c.path_told.ensures in record { value = is ∙ ap tb_placed called.ensures.value; out_after = rw (is, path-code called.result) called.ensures.out_after }
+    let is = c.into.ensures in record { value = is ∙ ap tb_placed called.ensures.value; out_after = rw (is, path-code called.result) called.ensures.out_after }

@@ -5,4 +5,4 @@ use borrow.Author.Rules.{rules}
 use Rattle.capi.proofs.building.tb_root.Goals as goal
 
 pub returns : goal.returns
-returns c = c.root_told.ensures ∙ ap tb_rooted c.root.ensures
+returns c = c.into.ensures ∙ ap tb_rooted c.root.ensures

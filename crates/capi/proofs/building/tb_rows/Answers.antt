@@ -1,8 +1,9 @@
 -- `capi::building::tb_rows` meets its contract.
+use Rattle.refusal.specs.declared.Refusal.{Refusal}
+use Rattle.std.specs.Prelude.{Result, ℕ}
 use mathlib.Core.Path.{ap, ◌∙◌}
 use lib.ListN.{length}
 use Rattle.tree_build.specs.Building.{rows_bytes}
-use Rattle.tree_build.specs.declared.RowsAnswer.{RowsAnswer}
 use Rattle.c_packets.specs.Building.{tb_laid}
 use Rattle.capi.proofs.Numbers.{rows_code}
 use Rattle.capi.proofs.Rows.{told-length}
@@ -18,6 +19,6 @@ returns c =
       value = is
           ∙ ap (tb_laid called.result) size.ensures
           ∙ told-length a.leaves.now (length a.out.now) called.result called.ensures.value
-          ∙ ap (λ (x : RowsAnswer). tb_laid x (length (rows_bytes a.leaves.now))) called.ensures.value;
+          ∙ ap (λ (x : Result ℕ Refusal). tb_laid x (length (rows_bytes a.leaves.now))) called.ensures.value;
       out_after = rw (is, rows_code called.result size.result) called.ensures.out_after;
     }

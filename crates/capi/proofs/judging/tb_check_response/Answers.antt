@@ -8,4 +8,4 @@ use Rattle.capi.proofs.judging.tb_check_response.Goals as goal
 pub returns : goal.returns
 returns c =
     let answers = ap₂ (checked_of _ _) c.yes.ensures c.yes-2.ensures in
-    c.verdict_told.ensures ∙ ap tb_verdict (c.check_response.ensures.value ∙ answers)
+    c.into.ensures ∙ ap tb_verdict (c.check_response.ensures.value ∙ answers)

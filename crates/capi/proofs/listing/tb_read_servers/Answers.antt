@@ -8,4 +8,4 @@ use Rattle.capi.proofs.listing.tb_read_servers.Goals as goal
 pub returns : goal.returns
 returns c =
     let called = c.read_servers in
-    let is = c.servers_told.ensures in record { value = is ∙ ap tb_servers called.ensures.value; out_after = rw (is, servers-code called.result) called.ensures.out_after }
+    let is = c.into.ensures in record { value = is ∙ ap tb_servers called.ensures.value; out_after = rw (is, servers-code called.result) called.ensures.out_after }

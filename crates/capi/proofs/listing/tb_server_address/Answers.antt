@@ -8,4 +8,4 @@ use Rattle.capi.proofs.listing.tb_server_address.Goals as goal
 pub returns : goal.returns
 returns c =
     let called = c.server_address in
-    let is = c.addressed_told.ensures in record { value = is ∙ ap tb_addressed called.ensures.value; out_after = rw (is, addressed-code called.result) called.ensures.out_after }
+    let is = c.into.ensures in record { value = is ∙ ap tb_addressed called.ensures.value; out_after = rw (is, addressed-code called.result) called.ensures.out_after }

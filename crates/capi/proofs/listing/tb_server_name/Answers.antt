@@ -1,6 +1,6 @@
 -- `capi::listing::tb_server_name` meets its contract.
 use mathlib.Core.Path.{ap, ◌∙◌}
-use Rattle.c_lists.specs.Listing.{tb_part}
+use Rattle.c_packets.specs.Writing.{tb_wrote}
 use Rattle.capi.proofs.Numbers.{part-code}
 use borrow.Author.Rules.{rules}
 use Rattle.capi.proofs.listing.tb_server_name.Goals as goal
@@ -8,4 +8,4 @@ use Rattle.capi.proofs.listing.tb_server_name.Goals as goal
 pub returns : goal.returns
 returns c =
     let called = c.server_name in
-    let is = c.part_told.ensures in record { value = is ∙ ap tb_part called.ensures.value; out_after = rw (is, part-code called.result) called.ensures.out_after }
+    let is = c.into.ensures in record { value = is ∙ ap tb_wrote called.ensures.value; out_after = rw (is, part-code called.result) called.ensures.out_after }

@@ -1,6 +1,6 @@
 -- `capi::listing::tb_write_servers` meets its contract.
 use mathlib.Core.Path.{ap, ◌∙◌}
-use Rattle.c_lists.specs.Listing.{tb_listing}
+use Rattle.c_packets.specs.Writing.{tb_wrote}
 use Rattle.capi.proofs.Numbers.{listing-code}
 use borrow.Author.Rules.{rules}
 use Rattle.capi.proofs.listing.tb_write_servers.Goals as goal
@@ -8,4 +8,4 @@ use Rattle.capi.proofs.listing.tb_write_servers.Goals as goal
 pub returns : goal.returns
 returns c =
     let called = c.write_servers in
-    let is = c.listing_told.ensures in record { value = is ∙ ap tb_listing called.ensures.value; out_after = rw (is, listing-code called.result) called.ensures.out_after }
+    let is = c.into.ensures in record { value = is ∙ ap tb_wrote called.ensures.value; out_after = rw (is, listing-code called.result) called.ensures.out_after }

@@ -5,4 +5,4 @@ use Rattle.capi.proofs.piling.tb_cut_run.Goals as goal
 pub returns : goal.returns
 returns c =
     let cut = c.cut_run in
-    record { answer = cut.result; right = cut.ensures.takes; same = c.run_told.ensures; left = cut.ensures.out_after }
+    record { answer = cut.result; right = cut.ensures.takes; same = c.into.ensures; left = cut.ensures.out_after }

@@ -6,4 +6,4 @@ use Rattle.capi.proofs.piling.tb_judge.Goals as goal
 
 pub returns : goal.returns
 returns c =
-    c.judgement_told.ensures ∙ ap tb_judged c.judge.ensures.value
+    c.into.ensures ∙ ap tb_judged c.judge.ensures.value

@@ -8,6 +8,6 @@ returns c =
     record {
       answer = cut.result;
       right = cut.ensures.forwards;
-      same = c.forwarded_told.ensures;
+      same = c.into.ensures;
       left = cut.ensures.out_after;
     }

@@ -8,4 +8,4 @@ use Rattle.capi.proofs.publishing.tb_read_report.Goals as goal
 pub returns : goal.returns
 returns c =
     let read = c.read_report in
-    let is = c.read_told.ensures in record { value = is ∙ ap tb_records read.ensures.value; out_after = rw (is, read-code read.result) read.ensures.out_after }
+    let is = c.into.ensures in record { value = is ∙ ap tb_records read.ensures.value; out_after = rw (is, read-code read.result) read.ensures.out_after }

@@ -8,6 +8,6 @@ returns c =
     record {
       answer = wrote.result;
       right = wrote.ensures.publishes;
-      same = c.published_told.ensures;
+      same = c.into.ensures;
       left = wrote.ensures.out_after;
     }

@@ -6,4 +6,4 @@ use Rattle.capi.proofs.reading.tb_read_request.Goals as goal
 
 pub returns : goal.returns
 returns c =
-    c.request_told.ensures ∙ ap tb_request c.read_request.ensures
+    c.into.ensures ∙ ap tb_request c.read_request.ensures

@@ -6,4 +6,4 @@ use Rattle.capi.proofs.reading.tb_read_response.Goals as goal
 
 pub returns : goal.returns
 returns c =
-    c.response_told.ensures ∙ ap tb_response c.read_response.ensures
+    c.into.ensures ∙ ap tb_response c.read_response.ensures

@@ -6,4 +6,4 @@ use Rattle.capi.proofs.reading.tb_signed_parts.Goals as goal
 
 pub returns : goal.returns
 returns c =
-    c.parts_told.ensures ∙ ap tb_parts c.read_signed_parts.ensures
+    c.into.ensures ∙ ap tb_parts c.read_signed_parts.ensures

@@ -6,4 +6,4 @@ use Rattle.capi.proofs.signing.tb_check_signed.Goals as goal
 
 pub returns : goal.returns
 returns c =
-    c.verdict_told.ensures ∙ ap tb_verdict c.check_signed.ensures.value
+    c.into.ensures ∙ ap tb_verdict c.check_signed.ensures.value

@@ -5,4 +5,4 @@ use Rattle.capi.proofs.signing.tb_check_signed_report.Goals as goal
 pub returns : goal.returns
 returns c =
     let checked = c.check_signed_report in
-    record { answer = checked.result; right = checked.ensures; same = c.report_told.ensures }
+    record { answer = checked.result; right = checked.ensures; same = c.into.ensures }

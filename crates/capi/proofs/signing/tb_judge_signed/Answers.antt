@@ -6,4 +6,4 @@ use Rattle.capi.proofs.signing.tb_judge_signed.Goals as goal
 
 pub returns : goal.returns
 returns c =
-    c.judgement_told.ensures ∙ ap tb_judged c.judge_signed.ensures.value
+    c.into.ensures ∙ ap tb_judged c.judge_signed.ensures.value

@@ -5,4 +5,4 @@ use borrow.Author.Rules.{rules}
 use Rattle.capi.proofs.stamping.tb_old_window.Goals as goal
 
 pub returns : goal.returns
-returns c = c.old_told.ensures ∙ ap tb_old c.old_window.ensures.value
+returns c = c.into.ensures ∙ ap tb_old c.old_window.ensures.value

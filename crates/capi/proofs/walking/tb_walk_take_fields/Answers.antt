@@ -13,4 +13,4 @@ returns c =
     c.take-m.result
     (heard-by a.delegation a.signature a.sent a.received a.next.now c.yes.ensures
     c.yes-2.ensures)
-    (c.take-m.ensures.said_value, (c.take-m.ensures.takes, (c.take-m.ensures.walk_value, c.take-m.ensures.pile_after))) c.took_told.ensures
+    (c.take-m.ensures.said_value, (c.take-m.ensures.takes, (c.take-m.ensures.walk_value, c.take-m.ensures.pile_after))) c.next_in-v.ensures c.into.ensures

@@ -12,4 +12,4 @@ returns c =
     let w =
     walk_of a.keys.now a.count a.step.now a.nonce.now a.rand.now a.last.now a.most in
     took_of w (own_heard w a.sent a.received a.next.now a.response.now) a.response.now a.pile.now
-    c.take_signed-m.result refl (c.take_signed-m.ensures.said_value, (c.take_signed-m.ensures.takes, (c.take_signed-m.ensures.walk_value, c.take_signed-m.ensures.pile_after))) c.took_told.ensures
+    c.take_signed-m.result refl (c.take_signed-m.ensures.said_value, (c.take_signed-m.ensures.takes, (c.take_signed-m.ensures.walk_value, c.take_signed-m.ensures.pile_after))) c.next_in-v.ensures c.into.ensures

@@ -7,4 +7,4 @@ use Rattle.capi.proofs.writing.tb_delegation_text.Goals as goal
 pub returns : goal.returns
 returns c =
     let e = c.delegation_text.ensures in
-    let is = c.wrote_told.ensures in record { value = is ∙ ap tb_wrote e.value; out_after = rw is e.out_after }
+    let is = c.into.ensures in record { value = is ∙ ap tb_wrote e.value; out_after = rw is e.out_after }

@@ -1,6 +1,5 @@
 -- `check_response::agreement::nonce_differs` meets its contract.
 use Rattle.check_response.specs.Check.{nonce_differs}
-use borrow.Author.Rules.{rules}
 use Rattle.check_response.proofs.agreement.nonce_differs.Goals as goal
 
 pub returns : goal.returns

@@ -1,6 +1,5 @@
 -- `check_response::agreement::path_misses` meets its contract.
 use Rattle.check_response.specs.Check.{path_misses}
-use borrow.Author.Rules.{rules}
 use Rattle.check_response.proofs.agreement.path_misses.Goals as goal
 
 pub value32-root-requires : goal.value32-root-requires

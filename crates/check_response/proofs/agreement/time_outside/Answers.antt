@@ -10,7 +10,6 @@ use Rattle.wire_message.specs.Tags.{MIDP, MINT, MAXT}
 use Rattle.wire_message.specs.Values.{value_of}
 use Rattle.wire_packet.specs.Response.{midp_in, mint_in, maxt_in}
 use Rattle.check_response.specs.Check.{time_outside}
-use borrow.Author.Rules.{rules}
 use Rattle.check_response.proofs.agreement.time_outside.Goals as goal
 
 pub number64-midp-requires : goal.number64-midp-requires

@@ -1,6 +1,5 @@
 -- `check_response::agreement::version_unasked` meets its contract.
 use Rattle.check_response.specs.Check.{version_unasked}
-use borrow.Author.Rules.{rules}
 use Rattle.check_response.proofs.agreement.version_unasked.Goals as goal
 
 pub returns : goal.returns

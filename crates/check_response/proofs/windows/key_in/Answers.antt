@@ -1,5 +1,4 @@
 -- `check_response::windows::key_in` meets its contract.
-use borrow.Author.Rules.{rules}
 use Rattle.check_response.proofs.windows.key_in.Goals as goal
 
 pub value32-requires : goal.value32-requires

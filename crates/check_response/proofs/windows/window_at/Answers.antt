@@ -1,5 +1,4 @@
 -- `check_response::windows::window_at` meets its contract.
-use borrow.Author.Rules.{rules}
 use Rattle.check_response.proofs.windows.window_at.Goals as goal
 
 pub returns : goal.returns

@@ -1,7 +1,6 @@
 -- `check_response::windows::window_in` meets its contract.
 use native.Mathlib.Omega.{arith}
 use Rattle.check_response.specs.Check.{window_in}
-use borrow.Author.Rules.{rules}
 use Rattle.check_response.proofs.windows.window_in.Goals as goal
 
 pub number64-midp-requires : goal.number64-midp-requires

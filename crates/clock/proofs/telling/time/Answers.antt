@@ -1,5 +1,4 @@
 -- `clock::telling::time` meets its contract.
-use borrow.Author.Rules.{rules}
 use mathlib.Core.Path.{refl}
 use Rattle.clock.proofs.telling.time.Goals as goal
 

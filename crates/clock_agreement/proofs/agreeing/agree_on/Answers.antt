@@ -1,5 +1,6 @@
 -- `clock_agreement::agreeing::agree_on` meets its contract.
 use Rattle.clock_agreement.proofs.AnswerLaws.{too_few, no-agreement, agreement}
+use Rattle.clock_agreement.specs.Count.{meets, misses}
 use borrow.Author.Rules.{rules}
 use native.Mathlib.Omega.{arith}
 use Rattle.clock_agreement.proofs.agreeing.agree_on.Goals as goal
@@ -15,4 +16,5 @@ returns-then-depth-n c =
 pub returns : goal.returns
 returns c =
     agreement _ _ c.count-k.ensures c.if-k-f.false c.lowest-from.ensures c.depth.ensures
-    c.if-depth-n.false c.highest-to.ensures c.agree-with.ensures c.suspects-without.ensures
+    c.if-depth-n.false c.highest-to.ensures (c.set_of-with.ensures (meets c.lowest-from.result c.highest-to.result) (λ r b e. search rules))
+    (c.set_of-without.ensures (misses c.lowest-from.result c.highest-to.result) (λ r b e. search rules))

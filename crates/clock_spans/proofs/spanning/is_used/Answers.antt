@@ -1,10 +1,8 @@
 -- `clock_spans::spanning::is_used` meets its contract.
-use Rattle.clock_spans.proofs.Used.{no-window, by-maxt}
 use borrow.Author.Rules.{rules}
+use Rattle.clock_spans.specs.Spans.{used_at}
 use Rattle.clock_spans.proofs.spanning.is_used.Goals as goal
 
-pub returns-then-w-eq0 : goal.returns-then-w-eq0
-returns-then-w-eq0 c = no-window _ _ _ c.if-w-eq0.true
-
-pub returns : goal.returns
-returns c = by-maxt _ _ _ c.if-w-eq0.false c.high_at.ensures
+pub returns-then-w-ne0 : goal.returns-then-w-ne0
+unfolding used_at
+returns-then-w-ne0 c = search rules

@@ -1,10 +1,12 @@
 -- `console::verdicts::put_lines` meets its contract. The lines of the records that were passed are put, each of 108
 -- bytes at most.
+use Rattle.check_response.specs.declared.Window.{Window}
+use Rattle.refusal.specs.declared.Refusal.{Refusal}
+use Rattle.std.specs.Prelude.{Result}
 use mathlib.Core.Path.{◌≡◌, ap}
 use mathlib.Core.List.{◌++◌}
 use Prim.Native.Nat.{ℕ, suc, ◌+◌, ◌*◌, ◌-◌, ◌≤◌}
 use native.Mathlib.Omega.{arith}
-use Rattle.check_response.specs.declared.Verdict.{Verdict}
 use Rattle.pile.specs.declared.Judgement.{Judgement}
 use Rattle.pile_report.specs.Report.{judged}
 use Rattle.laws.specs.Written.{Puts}
@@ -16,7 +18,7 @@ use Rattle.console.proofs.verdicts.put_lines.Goals as goal
 
 -- one record more
 
-lines_more : (v : ℕ → Verdict) (k : ℕ) → record_lines v k ++ record_line k (v k) ≡ record_lines v (k + 1)
+lines_more : (v : ℕ → Result Window Refusal) (k : ℕ) → record_lines v k ++ record_line k (v k) ≡ record_lines v (k + 1)
 unfolding record_lines
 lines_more v k =
     let e : suc k ≡ k + 1 = omega arith in

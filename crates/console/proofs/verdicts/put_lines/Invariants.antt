@@ -4,7 +4,6 @@ use mathlib.Core.Path.{◌≡◌, ap}
 use mathlib.Core.List.{◌++◌}
 use Prim.Native.Nat.{ℕ, suc, ◌+◌, ◌*◌, ◌-◌, ◌≤◌}
 use native.Mathlib.Omega.{arith}
-use Rattle.check_response.specs.declared.Verdict.{Verdict}
 use Rattle.pile.specs.declared.Judgement.{Judgement}
 use Rattle.pile_report.specs.Report.{judged}
 use Rattle.laws.specs.Written.{Puts}

@@ -2,7 +2,6 @@
 use Prim.Native.Nat.{ℕ, ◌%◌}
 use mathlib.Core.Path.{ap, ◌∙◌}
 use mathlib.Core.List.{List, ◌++◌}
-use borrow.Author.Rules.{rules}
 use Rattle.ed25519_scalar.specs.Order.{L}
 use Rattle.ed25519.specs.Verification.{k_of}
 use Rattle.ed25519.proofs.Ways.{digest-number}

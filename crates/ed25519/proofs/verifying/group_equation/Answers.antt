@@ -1,5 +1,4 @@
 -- `ed25519::verifying::group_equation` meets its contract.
-use borrow.Author.Rules.{rules}
 use Rattle.ed25519.proofs.Equation.{equation-is, digits_low}
 use Rattle.ed25519.proofs.verifying.group_equation.Goals as goal
 

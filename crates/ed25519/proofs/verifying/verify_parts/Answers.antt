@@ -1,12 +1,10 @@
 -- `ed25519::verifying::verify_parts` meets its contract.
 use Prim.Native.Nat.{ℕ, ◌+◌, ◌-◌, ◌*◌, ◌^◌, ◌≤◌, ◌<◌}
-use mathlib.Core.Path.{◌≡◌, sym, ap, ◌∙◌}
-use mathlib.Core.List.{List, ◌++◌}
+use mathlib.Core.Path.{◌≡◌, ◌∙◌}
+use mathlib.Core.List.{List}
 use native.Mathlib.Omega.{arith}
-use borrow.Author.Rules.{rules}
-use lib.ListN.{length, take, drop, length-take, length-drop}
-use lib.Seq.{length-take-le, take_all}
-use Rattle.ed25519.specs.Verification.{accepts}
+use lib.ListN.{length, drop, length-drop}
+use lib.Seq.{take_all}
 use Rattle.ed25519.proofs.Ways.{parts-1, parts-2, parts-3, parts-4}
 use Rattle.ed25519.proofs.verifying.verify_parts.Goals as goal
 
@@ -34,26 +32,19 @@ returns-then-signature-ne64 c =
     parts-3 g.key.now g.context.now g.value.now g.signature.now
     (fits g.context.now g.value.now c.well_formed.1.0.1 c.if-value-context.false) c.if-key-ne32.false c.if-signature-ne64.true
 
-pub slice_bounds-check-end : goal.slice_bounds-check-end
-slice_bounds-check-end c = sym (length-take-le 32 c.args.signature.now (omega arith))
-
 pub check-requires : goal.check-requires
 check-requires c =
     let g = c.args in
-    let s = g.signature.now in (
-      c.if-key-ne32.false,
-      length-take-le 32 s (omega arith),
-      simp (length-take, length-drop) (omega arith),
-      fits g.context.now g.value.now c.well_formed.1.0.1 c.if-value-context.false,
-    )
+    fits g.context.now g.value.now c.well_formed.1.0.1 c.if-value-context.false
 
 pub returns : goal.returns
 returns c =
     let g = c.args in
     let s = g.signature.now in
-    let e : take (length s - 32) (drop 32 s) ≡ drop 32 s =
-    take_all (length s - 32) (drop 32 s) (rw length-drop (omega arith)) in
+    let a-is : c.copy32-a.result ≡ g.key.now = c.copy32-a.ensures ∙ take_all 32 g.key.now (omega (arith, c.if-key-ne32.false)) in
+    let s-is : c.copy32-s.result ≡ drop 32 s =
+    c.copy32-s.ensures ∙ take_all 32 (drop 32 s) (rw length-drop (omega (arith, c.if-signature-ne64.false))) in
     parts-4 g.key.now g.context.now g.value.now s
     (fits g.context.now g.value.now c.well_formed.1.0.1 c.if-value-context.false) _ c.if-key-ne32.false
     c.if-signature-ne64.false
-    (c.check.ensures ∙ ap (accepts g.key.now (g.context.now ++ g.value.now) (take 32 s)) e)
+    (rw (a-is, c.copy32-r.ensures, s-is) at c.check.ensures)

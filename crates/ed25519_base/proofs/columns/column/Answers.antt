@@ -1,5 +1,4 @@
 -- `ed25519_base::columns::column` meets its contract.
-use borrow.Author.Rules.{rules}
 use Rattle.ed25519_base.specs.Comb.{column_of}
 use Rattle.ed25519_base.proofs.columns.column.Goals as goal
 

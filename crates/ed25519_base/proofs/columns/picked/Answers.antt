@@ -1,5 +1,4 @@
 -- `ed25519_base::columns::picked` meets its contract.
-use borrow.Author.Rules.{rules}
 use lib.Dec.{eqb}
 use Rattle.ed25519_base.proofs.Rows.{row-picked}
 use Rattle.ed25519_base.proofs.columns.picked.Goals as goal

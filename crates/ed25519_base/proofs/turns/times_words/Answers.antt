@@ -1,8 +1,5 @@
--- `ed25519_base::turns::times_words` meets its contract. The loop's invariant: the columns from `i` on are in.
-use Prim.Native.Nat.{◌≤◌, ◌-◌, ◌+◌}
-use mathlib.Core.Path.{◌≡◌}
-use native.Mathlib.Omega.{arith}
-use borrow.Author.Rules.{rules}
+-- `ed25519_base::turns::times_words` meets its contract.
+use Rattle.std.proofs.Common.{◌≡◌, ◌+◌, ◌-◌, arith}
 use Rattle.ed25519_curve.specs.Coords.{whole_of}
 use Rattle.ed25519_windows.specs.Windows.{BaseRow}
 use Rattle.ed25519_base.specs.Comb.{comb_of, column_of, teeth_of}
@@ -15,36 +12,24 @@ loop-i-init c =
     let g = c.args in
     let z = c.zero_flat-q.ensures in
     let low = step-first g.a g.b g.c g.d in
-    (omega arith, low _ (omega arith) (omega arith) (omega arith) (omega arith) z.0 z.1)
+    low _ (omega arith) (omega arith) (omega arith) (omega arith) z.0 z.1
 
 pub row-requires : goal.row-requires
-row-requires c =
-    let k = c.column-k in
-    (rw k.ensures (column-low _ _ _ _ _), c.table-t.ensures.long, c.requires)
-
-pub turned-next-requires : goal.turned-next-requires
-turned-next-requires c =
-    let k = c.column-k in
-    let t = c.table-t in (
-      c.loop-i.invariant.1.good,
-      rw (c.row.ensures, k.ensures) (t.ensures.row _ (column-low _ _ _ _ _)).even,
-    )
+row-requires c = (rw c.column-k.ensures (column-low _ _ _ _ _), c.requires)
 
 pub loop-i-preserved : goal.loop-i-preserved
 loop-i-preserved c =
     let l = c.loop-i in
     let g = c.args in
-    let k = c.column-k in
     let z : l.i ≡ l.i - 1 + 1 = omega arith in
-    let h : Multiple (comb_of g.a g.b g.c g.d (l.i - 1 + 1)) l.q = rw z at l.invariant.1 in
+    let h : Multiple (comb_of g.a g.b g.c g.d (l.i - 1 + 1)) l.q = rw z at l.invariant in
     let x : BaseRow (teeth_of (column_of g.a g.b g.c g.d (l.i - 1))) (whole_of c.row.result) =
-    rw (c.row.ensures, k.ensures)
-    (c.table-t.ensures.row _ (column-low g.a g.b g.c g.d (l.i - 1))) in
-    (omega arith, step-next g.a g.b g.c g.d (l.i - 1) l.q _ _ h x c.turned-next.ensures)
+    rw (← c.column-k.ensures) c.row.ensures in
+    step-next g.a g.b g.c g.d (l.i - 1) l.q _ _ h x c.turned-q.ensures
 
 pub returns : goal.returns
 returns c =
     let l = c.loop-i in
     let e : l.i ≡ 0 = omega arith in
-    let m : Multiple (comb_of _ _ _ _ 0) l.q = rw e at l.invariant.1 in
+    let m : Multiple (comb_of _ _ _ _ 0) l.q = rw e at l.invariant in
     (m.good, m.stands)

@@ -1,5 +1,4 @@
 -- `ed25519_base::turns::turned` meets its contract.
-use borrow.Author.Rules.{rules}
 use Rattle.ed25519_windows.proofs.Coordinates.{doubled-stands, summed-stands, flat-for}
 use Rattle.ed25519_base.proofs.turns.turned.Goals as goal
 

@@ -1,5 +1,4 @@
 -- `ed25519_curve::finishing::with_t` meets its contract.
-use borrow.Author.Rules.{rules}
 use Rattle.ed25519_curve.proofs.finishing.with_t.Goals as goal
 
 pub returns : goal.returns

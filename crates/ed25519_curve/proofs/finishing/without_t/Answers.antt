@@ -1,5 +1,4 @@
 -- `ed25519_curve::finishing::without_t` meets its contract.
-use borrow.Author.Rules.{rules}
 use Rattle.ed25519_curve.proofs.finishing.without_t.Goals as goal
 
 pub returns : goal.returns

@@ -1,6 +1,5 @@
 -- `ed25519_curve::rows::opposite_thin` meets its contract.
 use mathlib.Core.Path.{refl}
-use borrow.Author.Rules.{rules}
 use Rattle.ed25519_curve.proofs.Joining.{opposed}
 use Rattle.ed25519_curve.proofs.rows.opposite_thin.Goals as goal
 

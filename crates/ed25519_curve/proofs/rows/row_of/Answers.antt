@@ -1,6 +1,5 @@
 -- `ed25519_curve::rows::row_of` meets its contract.
 use mathlib.Core.Path.{ap, ◌∙◌}
-use borrow.Author.Rules.{rules}
 use Rattle.ed25519_field.specs.Limbs.{num}
 use Rattle.ed25519_field.specs.Field.{mul_f}
 use Rattle.ed25519_field.proofs.Raise.{up, up3}

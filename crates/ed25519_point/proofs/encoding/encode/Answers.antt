@@ -1,6 +1,5 @@
 -- `ed25519_point::encoding::encode` meets its contract.
 use native.Mathlib.Omega.{arith}
-use borrow.Author.Rules.{rules}
 use Rattle.ed25519_field.specs.Limbs.{num}
 use Rattle.ed25519_field.proofs.Reducing.{num-lt}
 use Rattle.ed25519_point.proofs.LastByte.{sign_fits, signed}

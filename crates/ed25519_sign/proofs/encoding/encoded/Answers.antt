@@ -1,5 +1,4 @@
 -- `ed25519_sign::encoding::encoded` meets its contract.
-use borrow.Author.Rules.{rules}
 use Rattle.ed25519_field.proofs.Raise.{up}
 use Rattle.ed25519_sign.proofs.Dividing.{coded}
 use Rattle.ed25519_sign.proofs.encoding.encoded.Goals as goal

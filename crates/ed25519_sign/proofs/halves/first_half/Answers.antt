@@ -1,6 +1,5 @@
 -- `ed25519_sign::halves::first_half` meets its contract.
 use mathlib.Core.Path.{ap, ◌∙◌}
-use borrow.Author.Rules.{rules}
 use Rattle.ed25519_sign.specs.Signing.{encoded_times}
 use Rattle.ed25519_sign.proofs.Numbers.{rest_below, below-fits, number-again}
 use Rattle.ed25519_sign.proofs.halves.first_half.Goals as goal

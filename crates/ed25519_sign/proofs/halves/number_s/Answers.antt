@@ -6,7 +6,7 @@ use Rattle.ed25519_sign.proofs.halves.number_s.Goals as goal
 pub times-t-requires : goal.times-t-requires
 times-t-requires c =
     let l = c.limbs_of.ensures in
-    (l.1, rw l.0 c.requires.3)
+    (l.1, rw l.0 c.requires.2)
 
 pub plus-requires : goal.plus-requires
 plus-requires c = let low = rest_below _ c.times-t.ensures.0 in search rules

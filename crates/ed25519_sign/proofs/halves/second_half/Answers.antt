@@ -2,7 +2,6 @@
 use Prim.Native.Nat.{ℕ, ◌+◌, ◌*◌, ◌%◌}
 use mathlib.Core.Path.{ap, ◌∙◌}
 use mathlib.Core.List.{List, ◌++◌}
-use borrow.Author.Rules.{rules}
 use Rattle.laws.specs.Numbers.{le_bytes}
 use Rattle.digits.specs.Digits.{value}
 use Rattle.ed25519_field.specs.Limbs.{radix}
@@ -15,7 +14,7 @@ pub returns : goal.returns
 unfolding k_of
 returns c =
     let g = c.args in
-    let m : List ℕ = g.first.now ++ (g.a.now ++ (g.context.now ++ g.text.now)) in
+    let m : List ℕ = g.first.string ++ (g.a.now ++ (g.context.now ++ g.text.now)) in
     c.number_s.ensures
-    ∙ ap (λ (k : ℕ). le_bytes 32 ((value radix g.r + k % L * value 256 g.s.now) % L))
+    ∙ ap (λ (k : ℕ). le_bytes 32 ((value radix g.first.number + k % L * value 256 g.s.now) % L))
     (digest-number m c.digest-k.result c.digest-k.ensures)

@@ -1,5 +1,4 @@
 -- `ed25519_sign::multiplying::encoded_times` meets its contract.
-use borrow.Author.Rules.{rules}
 use Rattle.ed25519_sign.specs.Signing.{encoded_times}
 use Rattle.ed25519_sign.proofs.multiplying.encoded_times.Goals as goal
 

@@ -1,5 +1,4 @@
 -- `ed25519_sign::signing::public_key` meets its contract.
-use borrow.Author.Rules.{rules}
 use Rattle.ed25519_sign.proofs.Steps.{public-is}
 use Rattle.ed25519_sign.proofs.signing.public_key.Goals as goal
 

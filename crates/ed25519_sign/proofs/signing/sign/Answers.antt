@@ -2,7 +2,6 @@
 use mathlib.Core.Path.{◌∙◌}
 use mathlib.Core.List.{[]}
 use native.Mathlib.Omega.{arith}
-use borrow.Author.Rules.{rules}
 use Rattle.ed25519_sign.proofs.Steps.{parts_whole}
 use Rattle.ed25519_sign.proofs.signing.sign.Goals as goal
 

@@ -1,7 +1,6 @@
 -- `ed25519_sign::signing::sign_parts_with` meets its contract.
 use mathlib.Core.Path.{sym, ◌∙◌}
 use native.Mathlib.Omega.{arith}
-use borrow.Author.Rules.{rules}
 use Rattle.ed25519_sign.proofs.Steps.{too_long, parts_whole}
 use Rattle.ed25519_sign.proofs.signing.sign_parts_with.Goals as goal
 

@@ -1,22 +1,14 @@
 -- `ed25519_sign::signing::signed` meets its contract.
-use Rattle.std.proofs.Common.{◌≡◌, ◌++◌, length, rules}
+use Rattle.std.proofs.Common.{◌++◌}
 use Rattle.ed25519_sign.proofs.Steps.{signature-is}
 use Rattle.ed25519_sign.proofs.Numbers.{rest_below}
 use Rattle.ed25519_sign.proofs.signing.signed.Goals as goal
 
-pub second_half-requires : goal.second_half-requires
-second_half-requires c =
+pub second_half-s-requires : goal.second_half-s-requires
+second_half-s-requires c =
     let secret = c.secret_expand-e.ensures in
     let r = c.first_half-f.ensures.number in
-    let string-ok = c.first_half-f.type_inv in (
-      r.low,
-      rest_below _ r.is,
-      secret.long,
-      secret.low,
-      search rules,
-      search rules,
-      c.requires.1,
-    )
+    (r.low, rest_below _ r.is, secret.low, c.requires.1)
 
 pub returns : goal.returns
 returns c =
@@ -24,5 +16,5 @@ returns c =
     let secret = c.secret_expand-e in
     let begun = c.first_half-f in
     signature-is g.seed secret.result g.key secret.ensures c.requires.0
-    (g.context.now ++ g.value.now) begun.result _ _ begun.ensures c.second_half.ensures
+    (g.context.now ++ g.value.now) begun.result _ _ begun.ensures c.second_half-s.ensures
     c.joined.ensures

@@ -1,20 +1,9 @@
 -- `ed25519_windows::multiples::multiples` meets its contract.
-use borrow.Author.Rules.{rules}
-use Prim.Native.Nat.{ℕ, ◌+◌, ◌*◌, ◌≤◌, ◌-◌}
+use Prim.Native.Nat.{ℕ, ◌+◌, ◌*◌, ◌-◌}
 use mathlib.Core.Path.{◌≡◌, refl}
 use native.Mathlib.Omega.{arith}
-use Rattle.ed25519_curve.specs.Coords.{Good}
-use Rattle.ed25519_windows.specs.Windows.{Rows, Multiple, at}
 use Rattle.ed25519_windows.proofs.Tables.{Fold, fold-first, fold-sum, itself, multiple, first-row, next_row}
 use Rattle.ed25519_windows.proofs.multiples.multiples.Goals as goal
-
--- the first row of the table is P's own from the start
-
-pub summed-requires : goal.summed-requires
-summed-requires c = (c.zero_point.ensures.1, c.requires)
-
-pub summed-requires-2 : goal.summed-requires-2
-summed-requires-2 c = (c.with_t-q.ensures.1, c.requires)
 
 pub loop-i-init : goal.loop-i-init
 loop-i-init c =
@@ -29,16 +18,11 @@ loop-i-init c =
     s1.ensures.0 q1.ensures.0 refl in
     let f2 = fold-sum r q1.result q2.result r s2.result 1 1 2 f1 one s2.ensures.0 q2.ensures.0
     refl in (
-      omega arith,
-      omega arith,
       q1.ensures.1,
       f1,
       first-row r _ refl refl c.requires,
       multiple r q2.result c.row_of-two.result 2 c.row_of-two.ensures f2,
     )
-
-pub summed-requires-in-loop-i : goal.summed-requires-in-loop-i
-summed-requires-in-loop-i c = let v = c.loop-i.invariant in (v.2, v.5.even)
 
 pub loop-i-preserved : goal.loop-i-preserved
 loop-i-preserved c =
@@ -49,19 +33,11 @@ loop-i-preserved c =
     let n = c.with_t-n in
     let s = c.summed-in-loop-i in
     let f : (k : ℕ) → k ≡ 2 * l.i - 1 + 2 → Fold r n.result k =
-    λ k. fold-sum r l.q n.result two s.result (2 * l.i - 1) 2 k v.3 v.5 s.ensures.0
+    λ k. fold-sum r l.q n.result two s.result (2 * l.i - 1) 2 k v.1 v.3 s.ensures.0
     n.ensures.0 in (
-      omega arith,
-      omega arith,
       n.ensures.1,
       f _ (omega arith),
-      next_row r c.row_of-w.result l.t l.i c.loop-i-test.true v.4
-          (multiple r n.result c.row_of-w.result (2 * l.i + 1) c.row_of-w.ensures (f _ (omega arith))),
-      v.5,
+      next_row r c.row_of.result l.t l.i c.loop-i-test.true v.2
+          (multiple r n.result c.row_of.result (2 * l.i + 1) c.row_of.ensures (f _ (omega arith))),
+      v.3,
     )
-
-pub returns : goal.returns
-returns c =
-    let l = c.loop-i in
-    let e : l.i ≡ 8 = omega arith in
-    rw e at l.invariant.4

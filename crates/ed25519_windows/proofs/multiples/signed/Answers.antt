@@ -1,5 +1,4 @@
 -- `ed25519_windows::multiples::signed` meets its contract.
-use borrow.Author.Rules.{rules}
 use Rattle.ed25519_windows.proofs.Coordinates.{turned_on, turned-off}
 use Rattle.ed25519_windows.proofs.multiples.signed.Goals as goal
 

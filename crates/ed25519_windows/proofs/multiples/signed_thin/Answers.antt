@@ -1,5 +1,4 @@
 -- `ed25519_windows::multiples::signed_thin` meets its contract.
-use borrow.Author.Rules.{rules}
 use Rattle.ed25519_curve.specs.Coords.{whole_of}
 use Rattle.ed25519_windows.proofs.Coordinates.{turned_on, turned-off}
 use Rattle.ed25519_windows.proofs.multiples.signed_thin.Goals as goal

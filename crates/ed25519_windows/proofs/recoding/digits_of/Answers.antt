@@ -1,23 +1,21 @@
 -- `ed25519_windows::recoding::digits_of` meets its contract. The loop's invariant: the digits below bit `i`, the bits
 -- from there on and the carry are the scalar.
-use Prim.Native.Nat.{◌+◌, ◌-◌}
+use Prim.Native.Nat.{◌+◌}
 use mathlib.Core.Path.{◌≡◌, ap}
 use native.Mathlib.Omega.{arith}
 use borrow.Author.Rules.{rules}
 use lib.ListN.{length}
-use Rattle.digits.specs.Digits.{value}
-use Rattle.ed25519_field.specs.Limbs.{radix, Digits}
-use Rattle.ed25519_windows.proofs.OddDigits.{Going, going-first, going-skip, going-plus, going_less, going-last}
+use Rattle.ed25519_windows.proofs.OddDigits.{going-first, going-skip, going-plus, going_less, going-last}
 use Rattle.ed25519_windows.proofs.recoding.digits_of.Goals.{then-w-lt16, else-w-lt16}
 use Rattle.ed25519_windows.proofs.recoding.digits_of.Goals as goal
 
 pub loop-i-init : goal.loop-i-init
 loop-i-init c = (going-first _, c.requires)
 
-pub loop-i-preserved-then-bit_at-carry : goal.loop-i-preserved-then-bit_at-carry
-loop-i-preserved-then-bit_at-carry c =
+pub loop-i-preserved-then-bit-carry : goal.loop-i-preserved-then-bit-carry
+loop-i-preserved-then-bit-carry c =
     let v = c.loop-i.invariant in
-    (going-skip _ _ _ _ _ v.0 c.bit_at.ensures c.if-bit_at-carry.true, v.1)
+    (going-skip _ _ _ _ _ v.0 c.bit.ensures c.if-bit-carry.true, v.1)
 
 pub five_bits-requires : goal.five_bits-requires
 five_bits-requires c = (c.loop-i-test.true, c.loop-i.invariant.1)
@@ -32,8 +30,8 @@ pub loop-i-preserved : goal.loop-i-preserved
 loop-i-preserved c =
     let l = c.loop-i in
     let h = c.loop-i-test.true in
-    let b = c.bit_at in
-    let n = c.if-bit_at-carry.false in
+    let b = c.bit in
+    let n = c.if-bit-carry.false in
     let e = ap (λ k. k + l.carry) c.five_bits.ensures in (
       elim c.if-w-lt16.branch [
         | then-w-lt16 w ↦
@@ -51,8 +49,8 @@ returns c =
     let h : length a.s ≡ 5 = search rules in
     going-last a.s l.t l.i l.carry h l.invariant.1 l.invariant.0 c.loop-i-test.false
 
-pub bit_at-requires : goal.bit_at-requires
-bit_at-requires c = c.loop-i.invariant.1
+pub bit-requires : goal.bit-requires
+bit-requires c = c.loop-i.invariant.1
 
 pub overflow_cast-t-else-w-lt16 : goal.overflow_cast-t-else-w-lt16
 overflow_cast-t-else-w-lt16 c = omega arith

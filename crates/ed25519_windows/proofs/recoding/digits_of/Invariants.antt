@@ -1,14 +1,9 @@
 -- `ed25519_windows::recoding::digits_of` meets its contract. The loop's invariant: the digits below bit `i`, the bits
 -- from there on and the carry are the scalar.
-use Prim.Native.Nat.{◌+◌, ◌-◌}
-use mathlib.Core.Path.{◌≡◌, ap}
-use mathlib.Core.Logic.{⊎_elim}
-use native.Mathlib.Omega.{arith}
-use borrow.Author.Rules.{rules}
-use lib.ListN.{length}
+use Prim.Native.Nat.{◌-◌}
 use Rattle.digits.specs.Digits.{value}
 use Rattle.ed25519_field.specs.Limbs.{radix, Digits}
-use Rattle.ed25519_windows.proofs.OddDigits.{Going, going-first, going-skip, going-plus, going_less, going-last}
+use Rattle.ed25519_windows.proofs.OddDigits.{Going}
 use Rattle.ed25519_windows.proofs.recoding.digits_of.Given as goal
 
 abbrev pub invariant-loop-i : goal.invariant-loop-i

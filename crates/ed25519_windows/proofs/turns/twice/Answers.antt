@@ -1,5 +1,4 @@
 -- `ed25519_windows::turns::twice` meets its contract.
-use borrow.Author.Rules.{rules}
 use Rattle.ed25519_windows.proofs.Coordinates.{doubled-stands}
 use Rattle.ed25519_windows.proofs.turns.twice.Goals as goal
 

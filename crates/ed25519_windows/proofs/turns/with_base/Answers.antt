@@ -1,5 +1,4 @@
 -- `ed25519_windows::turns::with_base` meets its contract.
-use borrow.Author.Rules.{rules}
 use Rattle.ed25519_curve.specs.Coords.{whole_of}
 use Rattle.ed25519_windows.proofs.Coordinates.{summed-stands}
 use Rattle.ed25519_windows.proofs.Pairs.{no_digit, odd-digit}

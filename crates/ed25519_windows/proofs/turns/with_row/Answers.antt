@@ -1,5 +1,4 @@
 -- `ed25519_windows::turns::with_row` meets its contract.
-use borrow.Author.Rules.{rules}
 use Rattle.ed25519_windows.proofs.Coordinates.{summed-stands}
 use Rattle.ed25519_windows.proofs.turns.with_row.Goals as goal
 

@@ -1,4 +1,3 @@
-use borrow.Author.Rules.{rules}
 use mathlib.Core.Path.{refl}
 use Rattle.json_strings.proofs.Content.{content-code, content-close, content-ill}
 use Rattle.json_base64.proofs.groups.at_end.Goals as goal

@@ -1,4 +1,3 @@
-use borrow.Author.Rules.{rules}
 use Rattle.json_strings.proofs.Content.{content-code, content-close, content-ill, content-falls}
 use Rattle.json_base64.proofs.groups.letter_at.Goals as goal
 

@@ -1,10 +1,7 @@
-use borrow.Author.Rules.{rules}
-use native.Mathlib.Omega.{arith}
 use Prim.Native.Nat.{◌+◌, ◌*◌, ◌-◌}
 use mathlib.Core.Path.{◌≡◌}
 use lib.ListN.{length}
 use Rattle.json_base64.specs.Sized.{Lettered}
-use Rattle.json_base64.proofs.Lettered.{lettered-none, lettered-next}
 use Rattle.json_base64.proofs.letters.groups.Given as goal
 
 abbrev pub invariant-loop-k : goal.invariant-loop-k

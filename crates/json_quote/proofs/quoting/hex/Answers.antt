@@ -1,5 +1,4 @@
 -- `json_quote::quoting::hex` meets its contract.
-use borrow.Author.Rules.{rules}
 use mathlib.Core.Path.{refl}
 use Rattle.json_quote.specs.Quoted.{hex_of}
 use Rattle.laws.proofs.Picks.{hit-below, miss-below}

@@ -1,5 +1,4 @@
 -- `json_quote::quoting::put_octet` meets its contract.
-use borrow.Author.Rules.{rules}
 use mathlib.Core.Path.{sym}
 use Rattle.laws.proofs.Written.{puts-as}
 use Rattle.json_quote.proofs.Quotes.{escaped-quote, escaped-slash, escaped-low, escaped-plain}

@@ -1,13 +1,10 @@
 -- `json_quote::spending::spend` meets its contract.
-use borrow.Author.Rules.{rules}
-use Rattle.json_quote.proofs.Rooms.{spent-short, spent-left, spent-none}
+use mathlib.Core.Path.{◌∙◌}
+use Rattle.json_quote.proofs.Rooms.{spent-checked, spent-none}
 use Rattle.json_quote.proofs.spending.spend.Goals as goal
 
-pub returns-then-left-n : goal.returns-then-left-n
-returns-then-left-n c = spent-short _ c.in-Left.is c.if-left-n.true
+pub returns-in_err-room : goal.returns-in_err-room
+returns-in_err-room c = c.from_residual.ensures ∙ spent-none _ c.in_err-room.was
 
-pub returns-else-left-n : goal.returns-else-left-n
-returns-else-left-n c = spent-left _ c.in-Left.is c.if-left-n.false
-
-pub returns-in-Short : goal.returns-in-Short
-returns-in-Short c = spent-none _ c.in-Short.is
+pub returns : goal.returns
+returns c = spent-checked c.args.n _ c.in_ok-room.was c.checked_sub.ensures

@@ -1,20 +1,15 @@
 -- `json_quote::spending::width` meets its contract.
-use mathlib.Core.Path.{sym, ap}
-use lib.ListN.{length}
-use Rattle.json_quote.proofs.Quotes.{escaped-quote, escaped-slash, escaped-low, escaped-plain}
+use borrow.Author.Rules.{rules}
+use mathlib.Core.Path.{◌∙◌}
+use Rattle.laws.proofs.Picks.{choices}
+use Rattle.json_quote.proofs.Quotes.{width-of}
 use Rattle.json_quote.proofs.spending.width.Goals as goal
 
-pub returns-then-b-eq34 : goal.returns-then-b-eq34
-returns-then-b-eq34 c = sym (ap length (escaped-quote _ c.if-b-eq34.true))
+pub returns-in-34 : goal.returns-in-34
+returns-in-34 c = search (choices, rules) ∙ width-of c.args.b
 
-pub returns-then-b-eq92 : goal.returns-then-b-eq92
-returns-then-b-eq92 c =
-    sym (ap length (escaped-slash _ c.if-b-eq34.false c.if-b-eq92.true))
+pub returns-in-0-to-31 : goal.returns-in-0-to-31
+returns-in-0-to-31 c = search (choices, rules) ∙ width-of c.args.b
 
-pub returns-then-b-lt32 : goal.returns-then-b-lt32
-returns-then-b-lt32 c =
-    sym (ap length (escaped-low _ c.if-b-eq34.false c.if-b-eq92.false c.if-b-lt32.true))
-
-pub returns-else-b-lt32 : goal.returns-else-b-lt32
-returns-else-b-lt32 c =
-    sym (ap length (escaped-plain _ c.if-b-eq34.false c.if-b-eq92.false c.if-b-lt32.false))
+pub returns-in_default : goal.returns-in_default
+returns-in_default c = search (choices, rules) ∙ width-of c.args.b

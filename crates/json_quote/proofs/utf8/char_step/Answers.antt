@@ -1,5 +1,4 @@
 -- `json_quote::utf8::char_step` meets its contract.
-use borrow.Author.Rules.{rules}
 use mathlib.Core.Path.{refl, sym, ◌∙◌, ap}
 use Rattle.json_strings.specs.Text.{step_of, unit_step}
 use Rattle.json_quote.specs.Utf8.{char_step}

@@ -1,13 +1,9 @@
 -- `json_quote::utf8::is_utf8` meets its contract: the walk from k on says what the whole one does.
-use borrow.Author.Rules.{rules}
 use Prim.Native.Nat.{◌-◌}
-use mathlib.Core.Path.{◌≡◌, refl, ◌∙◌}
-use mathlib.Core.Bool.{true, false}
+use mathlib.Core.Path.{◌≡◌}
 use lib.ListN.{length}
 use Rattle.json_tokens.specs.Walk.{walked}
-use Rattle.json_tokens.proofs.Turns.{walked_more, turn-falls, walked_end, walked-wrong}
 use Rattle.json_quote.specs.Utf8.{char_step}
-use Rattle.json_quote.proofs.Chars.{forth-char, reached-as}
 use Rattle.json_quote.proofs.utf8.is_utf8.Given as goal
 
 abbrev pub invariant-loop-j : goal.invariant-loop-j

@@ -3,6 +3,7 @@ use native.Mathlib.Omega.{arith}
 use mathlib.Core.Path.{sym}
 use Rattle.json_strings.specs.Text.{escape_at}
 use Rattle.json_tokens.proofs.Picks.{inside}
+use Rattle.json_strings.proofs.Content.{told-none, told-some}
 use Rattle.json_strings.proofs.Units.{units}
 use Rattle.json_strings.proofs.escapes.escape.Goals as goal
 
@@ -18,10 +19,14 @@ pub returns-then-b-eq117 : goal.returns-then-b-eq117
 unfolding escape_at
 returns-then-b-eq117 c = search (units, rules)
 
-pub returns-then-e-eq0 : goal.returns-then-e-eq0
+pub returns-in_default : goal.returns-in_default
 unfolding escape_at
-returns-then-e-eq0 c = rw (sym c.byte-b.ensures) (search (units, rules))
+returns-in_default c =
+    let z = told-none _ c.escape_of.ensures c.in_default.is in
+    rw (sym c.byte-b.ensures) (search (units, rules))
 
 pub returns : goal.returns
 unfolding escape_at
-returns c = rw (sym c.byte-b.ensures) (search (units, rules))
+returns c =
+    let z = told-some _ c.escape_of.ensures c.in-Some.is in
+    rw (sym c.byte-b.ensures) (search (units, rules))

@@ -1,5 +1,4 @@
 -- `json_strings::letters::four` meets its contract.
-use borrow.Author.Rules.{rules}
 use mathlib.Core.Path.{refl}
 use Rattle.json_strings.specs.Text.{four_at}
 use Rattle.json_strings.proofs.letters.four.Goals as goal

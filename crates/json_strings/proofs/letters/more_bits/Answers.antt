@@ -1,5 +1,4 @@
 -- `json_strings::letters::more_bits` meets its contract.
-use borrow.Author.Rules.{rules}
 use mathlib.Core.Path.{refl}
 use native.Mathlib.Omega.{arith}
 use Rattle.json_strings.specs.Text.{more_bits}

@@ -1,5 +1,4 @@
 -- `json_strings::letters::three` meets its contract.
-use borrow.Author.Rules.{rules}
 use mathlib.Core.Path.{refl}
 use Rattle.json_strings.specs.Text.{three_at}
 use Rattle.json_strings.proofs.letters.three.Goals as goal

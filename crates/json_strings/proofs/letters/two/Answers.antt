@@ -1,5 +1,4 @@
 -- `json_strings::letters::two` meets its contract.
-use borrow.Author.Rules.{rules}
 use mathlib.Core.Path.{refl}
 use Rattle.json_strings.specs.Text.{two_at}
 use Rattle.json_strings.proofs.letters.two.Goals as goal

@@ -3,34 +3,33 @@ use native.Mathlib.Omega.{arith}
 use Prim.Native.Nat.{◌+◌, ◌-◌}
 use mathlib.Core.Path.{◌≡◌, refl, sym, ◌∙◌, ap}
 use mathlib.Core.Bool.{true, true≢false}
-use lib.ListN.{length, drop, get_or}
-use borrow.Author.Tests.{not-false, not-true}
-use Rattle.json_strings.specs.Text.{content_at, same_list, unescaped}
+use lib.ListN.{get_or}
+use Rattle.json_strings.specs.Text.{unescaped}
 use Rattle.json_strings.proofs.Content.{name-more, name-differs, name-longer}
 use Rattle.json_strings.proofs.Runs.{unit-unescaped, run_inside}
 use Rattle.json_strings.proofs.strings.alike.Goals as goal
 
-pub loop-i-init : goal.loop-i-init
-loop-i-init c =
+pub loop-x-init : goal.loop-x-init
+loop-x-init c =
     let z : c.args.at - c.args.at ≡ 0 = omega arith in (rw z refl, omega arith)
 
-pub returns-then-b-w : goal.returns-then-b-w
-returns-then-b-w c =
+pub returns-then-b-x : goal.returns-then-b-x
+returns-then-b-x c =
     let s = c.args.s.now in
     let w = c.args.w.now in
-    let l = c.loop-i in
+    let l = c.loop-x in
     let at = c.args.at in
     let b = c.byte-b.ensures in
-    let q : l.k - at ≡ l.i = omega (arith, l.invariant.1) in record {
+    let q : l.k - at ≡ l.x-index = omega (arith, l.invariant.1) in record {
       rest = l.invariant.0;
       on = omega (arith, l.invariant.1);
-      another = λ u. rw q (name-differs s w l.k l.i refl (unit-unescaped s l.k u) (omega arith)
-          (λ h. c.if-b-w.true (b ∙ h)));
+      another = λ u. rw q (name-differs s w l.k l.x-index refl (unit-unescaped s l.k u) (omega arith)
+          (λ h. c.if-b-x.true (b ∙ h)));
     }
 
 pub returns-then-not-is_unescaped : goal.returns-then-not-is_unescaped
 returns-then-not-is_unescaped c =
-    let l = c.loop-i.invariant in
+    let l = c.loop-x.invariant in
     let b = c.byte-b.ensures in record {
       rest = l.0;
       on = omega (arith, l.1);
@@ -42,23 +41,23 @@ pub overflow_add-k : goal.overflow_add-k
 overflow_add-k c =
     let s = c.args.s.now in
     let i =
-    run_inside s c.loop-i.k
+    run_inside s c.loop-x.k
     c.byte-b.ensures c.is_unescaped.ensures c.if-not-is_unescaped.false in
     search rules
 
-pub loop-i-preserved : goal.loop-i-preserved
-loop-i-preserved c =
+pub loop-x-preserved : goal.loop-x-preserved
+loop-x-preserved c =
     let s = c.args.s.now in
     let w = c.args.w.now in
-    let l = c.loop-i in
+    let l = c.loop-x in
     let at = c.args.at in
     let b = c.byte-b.ensures in
     let u : unescaped (get_or s l.k 0) ≡ true = ap unescaped (sym b) ∙ sym c.is_unescaped.ensures
     ∙ c.if-not-is_unescaped.false in
-    let p : l.k + 1 - at ≡ l.i + 1 = omega (arith, l.invariant.1) in
-    let q : l.k - at ≡ l.i = omega (arith, l.invariant.1) in (
-      rw p (name-more s w l.k l.i refl (unit-unescaped s l.k u) (omega arith)
-          (sym b ∙ c.if-b-w.false) ∙ rw q at l.invariant.0),
+    let p : l.k + 1 - at ≡ l.x-index + 1 = omega (arith, l.invariant.1) in
+    let q : l.k - at ≡ l.x-index = omega (arith, l.invariant.1) in (
+      rw p (name-more s w l.k l.x-index refl (unit-unescaped s l.k u) (omega arith)
+          (sym b ∙ c.if-b-x.false) ∙ rw q at l.invariant.0),
       omega (arith, l.invariant.1),
     )
 
@@ -66,10 +65,10 @@ pub returns : goal.returns
 returns c =
     let s = c.args.s.now in
     let w = c.args.w.now in
-    let l = c.loop-i in
+    let l = c.loop-x in
     let at = c.args.at in
-    let q : l.k - at ≡ l.i = omega (arith, l.invariant.1) in record {
+    let q : l.k - at ≡ l.x-index = omega (arith, l.invariant.1) in record {
       rest = l.invariant.0;
       on = omega (arith, l.invariant.1);
-      another = λ u. rw q (name-longer s w l.k l.i refl (unit-unescaped s l.k u) (omega arith));
+      another = λ u. rw q (name-longer s w l.k l.x-index refl (unit-unescaped s l.k u) (omega arith));
     }

@@ -1,10 +1,6 @@
-use borrow.Author.Rules.{rules}
 use native.Mathlib.Omega.{arith}
-use Prim.Native.Nat.{◌+◌, ◌-◌, ◌≤◌}
-use mathlib.Core.Path.{◌≡◌, refl, sym, ◌∙◌, ap}
+use mathlib.Core.Path.{refl, sym, ◌∙◌, ap}
 use lib.ListN.{length}
-use Rattle.json_strings.specs.Text.{unit_step, content_at}
-use Rattle.json_tokens.specs.Walk.{walked}
 use Rattle.json_strings.proofs.Content.{content-code, content-close, content-ill, content-falls, walked-code}
 use Rattle.json_strings.proofs.Content.{walked-close, walked-ill}
 use Rattle.json_strings.proofs.strings.counted.Goals as goal

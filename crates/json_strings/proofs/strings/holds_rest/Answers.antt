@@ -1,10 +1,6 @@
-use borrow.Author.Rules.{rules}
 use native.Mathlib.Omega.{arith}
-use Prim.Native.Nat.{◌-◌}
-use mathlib.Core.Path.{◌≡◌, refl, sym, ◌∙◌}
-use lib.ListN.{length, drop}
-use Rattle.json_strings.specs.Text.{content_at, same_list}
-use Rattle.json_strings.proofs.Content.{content-close, content-ill, content-falls, name-more, name-differs, name-longer}
+use mathlib.Core.Path.{refl, sym, ◌∙◌}
+use Rattle.json_strings.proofs.Content.{content-other, content-falls, name-more, name-differs, name-longer}
 use Rattle.json_strings.proofs.Content.{name-end}
 use Rattle.json_strings.proofs.strings.holds_rest.Goals as goal
 
@@ -19,16 +15,16 @@ returns-then-w-i c =
     c.unit_of.ensures c.in-Code.is c.if-w-i.true
     ∙ c.loop-c.invariant
 
-pub returns-then-c-word : goal.returns-then-c-word
-returns-then-c-word c =
+pub returns-then-c-from : goal.returns-then-c-from
+returns-then-c-from c =
     name-differs
     c.args.s.now
     c.args.w.now
     c.loop-c.k
     c.loop-c.i
     c.unit_of.ensures
-    c.in-Code.is (omega arith) (λ q. c.if-c-word.true (q
-    ∙ sym c.word.ensures)) ∙ c.loop-c.invariant
+    c.in-Code.is (omega arith) (λ q. c.if-c-from.true (q
+    ∙ sym c.from.ensures)) ∙ c.loop-c.invariant
 
 pub loop-c-smaller : goal.loop-c-smaller
 loop-c-smaller c =
@@ -46,23 +42,14 @@ loop-c-preserved c =
     c.loop-c.k
     c.loop-c.i
     c.unit_of.ensures
-    c.in-Code.is (omega arith) (c.if-c-word.false ∙ c.word.ensures)
+    c.in-Code.is (omega arith) (c.if-c-from.false ∙ c.from.ensures)
     ∙ c.loop-c.invariant
 
-pub returns-in-Close : goal.returns-in-Close
-returns-in-Close c =
+pub returns : goal.returns
+returns c =
     name-end c.args.s.now
     c.args.w.now c.loop-c.k
     c.loop-c.i c.unit_of.ensures
-    (content-close c.args.s.now
-    c.loop-c.k c.unit_of.ensures c.in-Close.is)
-    ∙ c.loop-c.invariant
-
-pub returns-in-Ill : goal.returns-in-Ill
-returns-in-Ill c =
-    name-end c.args.s.now
-    c.args.w.now c.loop-c.k
-    c.loop-c.i c.unit_of.ensures
-    (content-ill c.args.s.now
-    c.loop-c.k c.unit_of.ensures c.in-Ill.is)
+    (content-other c.args.s.now
+    c.loop-c.k c.unit_of.ensures c.in_default.not-Code)
     ∙ c.loop-c.invariant

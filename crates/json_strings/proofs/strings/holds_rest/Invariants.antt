@@ -1,11 +1,7 @@
-use borrow.Author.Rules.{rules}
-use native.Mathlib.Omega.{arith}
 use Prim.Native.Nat.{◌-◌}
-use mathlib.Core.Path.{◌≡◌, refl, sym, ◌∙◌}
+use mathlib.Core.Path.{◌≡◌}
 use lib.ListN.{length, drop}
 use Rattle.json_strings.specs.Text.{content_at, same_list}
-use Rattle.json_strings.proofs.Content.{content-close, content-ill, content-falls, name-more, name-differs, name-longer}
-use Rattle.json_strings.proofs.Content.{name-end}
 use Rattle.json_strings.proofs.strings.holds_rest.Given as goal
 
 abbrev pub invariant-loop-c : goal.invariant-loop-c

@@ -1,4 +1,3 @@
-use borrow.Author.Rules.{rules}
 use native.Mathlib.Omega.{arith}
 use Rattle.json_strings.specs.Text.{unescaped}
 use Rattle.json_tokens.proofs.While.{while-ahead}

@@ -1,10 +1,8 @@
 use borrow.Author.Rules.{rules}
 use native.Mathlib.Omega.{arith}
-use Prim.Native.Nat.{◌-◌}
-use mathlib.Core.Path.{◌≡◌, sym, ◌∙◌}
+use mathlib.Core.Path.{sym, ◌∙◌}
 use lib.ListN.{length}
 use Rattle.json_strings.specs.Text.{unit_step, string_at}
-use Rattle.json_tokens.specs.Walk.{walked}
 use Rattle.json_strings.proofs.Ahead.{forth-unit}
 use Rattle.json_strings.proofs.Runs.{run-begun, run-closed}
 use Rattle.json_strings.proofs.Units.{units}

@@ -1,14 +1,8 @@
-use borrow.Author.Rules.{rules}
-use native.Mathlib.Omega.{arith}
 use Prim.Native.Nat.{◌-◌}
-use mathlib.Core.Path.{◌≡◌, sym, ◌∙◌}
+use mathlib.Core.Path.{◌≡◌}
 use lib.ListN.{length}
 use Rattle.json_strings.specs.Text.{unit_step, string_at}
 use Rattle.json_tokens.specs.Walk.{walked}
-use Rattle.json_strings.proofs.Ahead.{forth-unit}
-use Rattle.json_strings.proofs.Runs.{run-begun, run-closed}
-use Rattle.json_strings.proofs.Units.{units}
-use Rattle.json_tokens.proofs.Turns.{walked_more, turn-ahead, turn-falls, walked_end, walked-wrong}
 use Rattle.json_strings.proofs.strings.string.Given as goal
 
 abbrev pub invariant-loop-n : goal.invariant-loop-n

@@ -1,4 +1,3 @@
-use borrow.Author.Rules.{rules}
 use mathlib.Core.Path.{sym, ◌∙◌, ap}
 use Rattle.json_strings.specs.Text.{step_of, unit_step}
 use Rattle.json_strings.proofs.strings.unit_step.Goals as goal

@@ -1,10 +1,5 @@
-use borrow.Author.Rules.{rules}
-use borrow.Author.Tests.{not-false}
 use native.Mathlib.Omega.{arith}
-use Prim.Native.Nat.{◌-◌}
-use mathlib.Core.Path.{◌≡◌, refl, ◌∙◌}
-use lib.ListN.{length}
-use Rattle.json_tokens.specs.Scan.{past_while}
+use mathlib.Core.Path.{refl, ◌∙◌}
 use Rattle.json_strings.specs.Text.{unescaped}
 use Rattle.json_tokens.proofs.Counted.{while-over}
 use Rattle.json_strings.proofs.unescaped.in_stretches.Goals as goal

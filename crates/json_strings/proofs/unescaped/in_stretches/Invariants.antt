@@ -1,12 +1,8 @@
-use borrow.Author.Rules.{rules}
-use borrow.Author.Tests.{not-false}
-use native.Mathlib.Omega.{arith}
 use Prim.Native.Nat.{◌-◌}
-use mathlib.Core.Path.{◌≡◌, refl, ◌∙◌}
+use mathlib.Core.Path.{◌≡◌}
 use lib.ListN.{length}
 use Rattle.json_tokens.specs.Scan.{past_while}
 use Rattle.json_strings.specs.Text.{unescaped}
-use Rattle.json_tokens.proofs.Counted.{while-over}
 use Rattle.json_strings.proofs.unescaped.in_stretches.Given as goal
 
 abbrev pub invariant-loop-k : goal.invariant-loop-k

@@ -1,7 +1,6 @@
-use borrow.Author.Rules.{rules}
 use native.Mathlib.Omega.{arith}
 use mathlib.Core.Path.{refl}
-use Rattle.json_strings.proofs.Sizes.{steps-two, steps-three, steps-four, steps-none}
+use Rattle.json_strings.proofs.Sizes.{steps-two, steps-three, steps-four}
 use Rattle.json_strings.proofs.wides.byte_size.Goals as goal
 
 pub returns-then-is_two : goal.returns-then-is_two
@@ -15,6 +14,3 @@ returns-then-is_three c =
 pub returns-then-is_four : goal.returns-then-is_four
 returns-then-is_four c =
     steps-four _ _ refl refl (omega arith) refl refl c.is_four.ensures c.if-is_four.true
-
-pub returns-else-is_four : goal.returns-else-is_four
-returns-else-is_four c = steps-none _ _

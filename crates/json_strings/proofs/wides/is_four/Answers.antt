@@ -1,5 +1,4 @@
 use Rattle.json_strings.specs.Sizes.{is_four}
-use borrow.Author.Rules.{rules}
 use Rattle.json_strings.proofs.wides.is_four.Goals as goal
 
 pub returns : goal.returns

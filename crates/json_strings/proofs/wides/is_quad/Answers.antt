@@ -1,5 +1,4 @@
 use Rattle.json_strings.specs.Sizes.{is_quad}
-use borrow.Author.Rules.{rules}
 use Rattle.json_strings.proofs.wides.is_quad.Goals as goal
 
 pub returns : goal.returns

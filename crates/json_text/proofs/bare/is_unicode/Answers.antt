@@ -4,9 +4,3 @@ use Rattle.json_text.proofs.bare.is_unicode.Goals as goal
 
 pub returns-then-b-ne92 : goal.returns-then-b-ne92
 returns-then-b-ne92 c = search (unicode, rules)
-
-pub returns-in-Of : goal.returns-in-Of
-returns-in-Of c = search (unicode, rules)
-
-pub returns-in-Bad : goal.returns-in-Bad
-returns-in-Bad c = search (unicode, rules)

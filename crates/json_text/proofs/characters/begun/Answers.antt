@@ -1,4 +1,3 @@
-use borrow.Author.Rules.{rules}
 use mathlib.Core.Path.{sym, ◌∙◌}
 use Rattle.json_text.proofs.Joins.{text-low}
 use Rattle.json_text.proofs.Letters.{begins-one}

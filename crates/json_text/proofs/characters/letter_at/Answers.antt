@@ -1,4 +1,3 @@
-use borrow.Author.Rules.{rules}
 use Rattle.json_text.proofs.Letters.{letter-begun, letter-close, letter-ill}
 use Rattle.json_text.proofs.characters.letter_at.Goals as goal
 

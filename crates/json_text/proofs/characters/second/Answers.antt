@@ -1,4 +1,3 @@
-use borrow.Author.Rules.{rules}
 use mathlib.Core.Path.{sym, ◌∙◌}
 use Rattle.json_text.proofs.Letters.{begins-pair, lone-other, lone-close, lone-ill}
 use Rattle.json_text.proofs.characters.second.Goals as goal

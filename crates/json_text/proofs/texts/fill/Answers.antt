@@ -1,12 +1,7 @@
 use borrow.Author.Rules.{rules}
-use Prim.Native.Nat.{◌-◌}
-use lib.ListN.{length}
 use Rattle.laws.proofs.Filled.{filled-length}
-use Rattle.json_strings.specs.Text.{content_at}
-use Rattle.json_text.specs.Octets.{text_of, plain}
 use Rattle.json_text.specs.Facts.{Reads}
-use Rattle.json_text.proofs.Fills.{Filling, filling-first, filling-fits, filling-next, filling-end}
-use Rattle.json_text.proofs.Fills.{filling-never}
+use Rattle.json_text.proofs.Fills.{filling-first, filling-fits, filling-next, filling-over}
 use Rattle.json_text.proofs.texts.fill.Goals as goal
 
 pub loop-c-init : goal.loop-c-init
@@ -42,18 +37,8 @@ loop-c-preserved c =
     c.put_letter.ensures
     c.size-n.ensures
 
-pub shape_of-out-in-Stop : goal.shape_of-out-in-Stop
-shape_of-out-in-Stop c = filled-length c.loop-c.invariant.filled
+pub shape_of-out : goal.shape_of-out
+shape_of-out c = filled-length c.loop-c.invariant.filled
 
-pub returns-in-Stop : goal.returns-in-Stop
-returns-in-Stop c =
-    filling-end c.loop-c.invariant
-    (rw c.in-Stop.is at c.letter_at.ensures)
-
-pub shape_of-out-in-Lone : goal.shape_of-out-in-Lone
-shape_of-out-in-Lone c = filled-length c.loop-c.invariant.filled
-
-pub returns-in-Lone : goal.returns-in-Lone
-returns-in-Lone c =
-    absurd (filling-never c.loop-c.invariant
-    (rw c.in-Lone.is at c.letter_at.ensures))
+pub returns : goal.returns
+returns c = filling-over c.loop-c.invariant _ c.letter_at.ensures c.in_default.not-Is

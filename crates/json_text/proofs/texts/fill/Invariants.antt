@@ -1,12 +1,8 @@
-use borrow.Author.Rules.{rules}
 use Prim.Native.Nat.{◌-◌}
 use lib.ListN.{length}
-use Rattle.laws.proofs.Filled.{filled-length}
 use Rattle.json_strings.specs.Text.{content_at}
 use Rattle.json_text.specs.Octets.{text_of, plain}
-use Rattle.json_text.specs.Facts.{Reads}
-use Rattle.json_text.proofs.Fills.{Filling, filling-first, filling-fits, filling-next, filling-end}
-use Rattle.json_text.proofs.Fills.{filling-never}
+use Rattle.json_text.proofs.Fills.{Filling}
 use Rattle.json_text.proofs.texts.fill.Given as goal
 
 abbrev pub invariant-loop-c : goal.invariant-loop-c

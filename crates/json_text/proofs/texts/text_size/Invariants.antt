@@ -1,12 +1,8 @@
-use borrow.Author.Rules.{rules}
-use native.Mathlib.Omega.{arith}
 use Prim.Native.Nat.{◌+◌, ◌-◌, ◌≤◌}
-use mathlib.Core.Path.{◌≡◌, refl, ◌∙◌}
+use mathlib.Core.Path.{◌≡◌}
 use lib.ListN.{length}
 use Rattle.json_strings.specs.Text.{content_at}
 use Rattle.json_text.specs.Octets.{text_of, size_of}
-use Rattle.json_text.specs.Facts.{Reads}
-use Rattle.json_text.proofs.Sizes.{size-next, size-end, size-bad}
 use Rattle.json_text.proofs.texts.text_size.Given as goal
 
 abbrev pub invariant-loop-c : goal.invariant-loop-c

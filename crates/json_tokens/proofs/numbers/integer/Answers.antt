@@ -1,4 +1,3 @@
-use borrow.Author.Rules.{rules}
 use Rattle.json_tokens.specs.Number.{integer_at}
 use Rattle.json_tokens.proofs.numbers.integer.Goals as goal
 

@@ -1,15 +1,13 @@
-use borrow.Author.Rules.{rules}
-use Rattle.json_tokens.proofs.Picks.{picks}
+use mathlib.Core.Bool.{◌||◌}
+use mathlib.Core.Path.{◌∙◌}
+use lib.Dec.{eqb}
+use Rattle.std.proofs.Math.Bool.{or_assoc}
+use Rattle.laws.specs.Pick.{either}
 use Rattle.json_tokens.proofs.scan.is_blank.Goals as goal
 
-pub returns-then-b-eq32 : goal.returns-then-b-eq32
-returns-then-b-eq32 c = search (picks, rules)
-
-pub returns-then-b-eq9 : goal.returns-then-b-eq9
-returns-then-b-eq9 c = search (picks, rules)
-
-pub returns-then-b-eq10 : goal.returns-then-b-eq10
-returns-then-b-eq10 c = search (picks, rules)
-
 pub returns : goal.returns
-returns c = search (picks, rules)
+unfolding either
+returns c =
+    let b = c.args.b in
+    let cr = eqb b 13 in
+    or_assoc (eqb b 32 || eqb b 9) (eqb b 10) cr ∙ or_assoc (eqb b 32) (eqb b 9) (eqb b 10 || cr)

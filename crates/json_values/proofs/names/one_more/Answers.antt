@@ -1,4 +1,5 @@
 use borrow.Author.Rules.{rules}
+use Rattle.laws.specs.Pick.{pick}
 use Rattle.json_values.specs.Members.{count_of}
 use Rattle.json_tokens.proofs.Picks.{picks}
 use Rattle.json_values.proofs.names.one_more.Goals as goal
@@ -10,7 +11,3 @@ returns-then-n-eq0 c = search (picks, rules)
 pub returns-else-n-eq0 : goal.returns-else-n-eq0
 unfolding count_of
 returns-else-n-eq0 c = search (picks, rules)
-
-pub returns-else-named : goal.returns-else-named
-unfolding count_of
-returns-else-named c = search (picks, rules)

@@ -1,4 +1,3 @@
-use borrow.Author.Rules.{rules}
 use mathlib.Core.Path.{refl, sym, ◌∙◌}
 use Rattle.laws.specs.Pick.{pick}
 use Rattle.json_values.proofs.Finds.{noted-not, noted-twice}

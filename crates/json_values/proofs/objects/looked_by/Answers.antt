@@ -1,4 +1,3 @@
-use borrow.Author.Rules.{rules}
 use Rattle.json_values.proofs.Finds.{noted-not, unnamed-long}
 use Rattle.json_values.proofs.objects.looked_by.Goals as goal
 

@@ -1,13 +1,10 @@
 -- Six things go on at once: the walk, and what is seen of each of five names.
 use borrow.Author.Rules.{rules}
-use Prim.Native.Nat.{◌-◌}
-use mathlib.Core.Path.{◌≡◌, ◌∙◌}
-use lib.ListN.{length}
-use Rattle.json_values.specs.Value.{member_step, value_at, object_of}
-use Rattle.json_tokens.specs.Walk.{walked}
+use mathlib.Core.Path.{◌∙◌}
+use Rattle.json_values.specs.Value.{member_step, value_at}
 use Rattle.json_values.proofs.Ahead.{forth-members}
 use Rattle.json_values.proofs.Finds.{members-none, members-some, object-none, object-some}
-use Rattle.json_values.proofs.Finds.{Sofar, sofar-none, sofar-first, sofar-more, sofar-last}
+use Rattle.json_values.proofs.Finds.{sofar-none, sofar-first, sofar-more, sofar-last}
 use Rattle.json_tokens.proofs.Picks.{picks}
 use Rattle.json_tokens.proofs.Turns.{turn-falls, walked_more, walked_end, walked-wrong, starts_more, starts-end}
 use Rattle.json_tokens.proofs.Turns.{starts-wrong}

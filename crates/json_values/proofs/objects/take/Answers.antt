@@ -17,7 +17,7 @@ returns-in_default-colon c =
     record {
       value_value = ap place_of
           (then-past (past_colon _) c.name_end.ensures
-          c.in-Past.is (sym c.in_default-colon.is
+          c.in-Some.is (sym c.in_default-colon.is
           ∙ c.colon.ensures));
       step_value = search (picks, rules) depth 7;
       lettered = c.measured-name.ensures.lettered;
@@ -28,8 +28,8 @@ unfolding value_place place_of member_step
 returns-in_default-value c =
     record {
       value_value = ap place_of
-          (then-past (past_colon _) c.name_end.ensures c.in-Past.is
-          (sym c.in-Past-colon.is ∙ c.colon.ensures));
+          (then-past (past_colon _) c.name_end.ensures c.in-Some.is
+          (sym c.in-Some-colon.is ∙ c.colon.ensures));
       step_value = search (picks, rules) depth 7;
       lettered = c.measured-name.ensures.lettered;
     }
@@ -39,8 +39,8 @@ unfolding value_place place_of member_step
 returns c =
     record {
       value_value = ap place_of
-          (then-past (past_colon _) c.name_end.ensures c.in-Past.is
-          (sym c.in-Past-colon.is ∙ c.colon.ensures));
+          (then-past (past_colon _) c.name_end.ensures c.in-Some.is
+          (sym c.in-Some-colon.is ∙ c.colon.ensures));
       step_value = search (picks, rules) depth 7;
       lettered = c.measured-name.ensures.lettered;
     }

@@ -1,4 +1,3 @@
-use borrow.Author.Rules.{rules}
 use mathlib.Core.Path.{refl, sym}
 use Rattle.json_values.specs.Value.{ends_at, is_text}
 use Rattle.json_values.proofs.values.is_text.Goals as goal
@@ -13,5 +12,5 @@ returns c =
     rw (
       sym c.blanks.ensures,
       sym c.value.ensures,
-      c.in-Past.is,
+      c.in-Some.is,
     ) (rw (sym c.blanks-2.ensures) refl)

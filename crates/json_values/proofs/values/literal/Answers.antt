@@ -1,11 +1,11 @@
-use borrow.Author.Rules.{rules}
 use Prim.Native.Nat.{◌-◌}
-use mathlib.Core.Path.{refl}
+use mathlib.Core.Path.{refl, ◌∙◌}
 use native.Mathlib.Nat.{le_refl}
 use lib.Seq.{take_all}
 use lib.ListN.{length-drop, length, drop}
 use Rattle.json_values.specs.Value.{literal_at}
 use Rattle.laws.proofs.Picks.{hit, miss}
+use Rattle.json_values.proofs.Words.{starts-is}
 use Rattle.json_values.proofs.values.literal.Goals as goal
 
 pub returns-then-starts_with : goal.returns-then-starts_with
@@ -16,7 +16,7 @@ returns-then-starts_with c =
     (length c.args.s.now - c.args.at)
     (drop c.args.at
     c.args.s.now) (simp length-drop (le_refl _))) at
-    c.starts_with.ensures) c.if-starts_with.true refl
+    c.starts_with.ensures.value ∙ starts-is _ _) c.if-starts_with.true refl
 
 pub returns-else-starts_with : goal.returns-else-starts_with
 unfolding literal_at
@@ -26,4 +26,4 @@ returns-else-starts_with c =
     (length c.args.s.now - c.args.at)
     (drop c.args.at
     c.args.s.now) (simp length-drop (le_refl _))) at
-    c.starts_with.ensures) c.if-starts_with.false refl
+    c.starts_with.ensures.value ∙ starts-is _ _) c.if-starts_with.false refl

@@ -1,12 +1,13 @@
-use borrow.Author.Rules.{rules}
-use Rattle.list_address.specs.Chars.{url_char}
-use Rattle.list_address.proofs.Tests.{tests}
+use mathlib.Core.Path.{◌∙◌}
+use lib.Dec.{eqb}
+use Rattle.laws.specs.Ascii.{ascii}
+use Rattle.list_address.specs.Chars.{url_char, one_of}
+use Rattle.list_address.proofs.Scans.{any_somewhere}
+use Rattle.list_address.proofs.Tests.{either-on}
 use Rattle.list_address.proofs.chars.is_url_char.Goals as goal
 
-pub returns-then-is_label_char : goal.returns-then-is_label_char
-unfolding url_char
-returns-then-is_label_char c = search (tests, rules)
-
-pub returns : goal.returns
-unfolding url_char
-returns c = search (tests, rules)
+pub returns-else-is_label_char : goal.returns-else-is_label_char
+unfolding url_char one_of
+returns-else-is_label_char c =
+    either-on c.is_label_char.ensures c.if-is_label_char.false
+    (c.contains.ensures.value ∙ any_somewhere (λ k. eqb k c.args.b) (ascii "._~!$&'()*+,;=:@/?"))

@@ -1,22 +1,12 @@
 use borrow.Author.Rules.{rules}
-use native.Mathlib.Omega.{arith}
-use mathlib.Core.Path.{sym}
-use lib.Seq.{length-take-le}
-use Rattle.laws.proofs.Picks.{hit-eq, miss-eq}
-use Rattle.list_address.specs.Host.{is_domain}
+use Rattle.list_address.proofs.Bracketed.{dotted, undotted, none-dotted}
 use Rattle.list_address.proofs.domain.is_domain.Goals as goal
 
-pub slice_bounds-is_name-end : goal.slice_bounds-is_name-end
-slice_bounds-is_name-end c =
-    sym (length-take-le _ _ (omega (arith, c.last_place-e.ensures)))
+pub returns-in-46 : goal.returns-in-46
+returns-in-46 c = dotted _ (search rules) c.is_name.ensures
 
-pub returns-then-b-eq46 : goal.returns-then-b-eq46
-unfolding is_domain
-returns-then-b-eq46 c =
-    hit-eq _ c.last_byte-b.ensures c.if-b-eq46.true
-    (rw c.last_place-e.ensures at c.is_name.ensures)
-
-pub returns : goal.returns
-unfolding is_domain
-returns c =
-    miss-eq _ c.last_byte-b.ensures c.if-b-eq46.false c.is_name-2.ensures
+pub returns-in_default : goal.returns-in_default
+returns-in_default c = elim c.in_default.branch [
+  | goal.in_default-via-then-s-lt1 w ↦ undotted _ (search (rules, none-dotted)) c.is_name-in_default.ensures
+  | goal.in_default-via-else-s-lt1+in_default-1 w ↦ undotted _ (search rules) c.is_name-in_default.ensures
+]

@@ -1,34 +1,15 @@
-use native.Mathlib.Omega.{arith}
-use Rattle.list_address.specs.Host.{is_bracketed}
-use Rattle.list_address.proofs.Tests.{both-differs, both_equal}
-use Rattle.list_address.proofs.Bracketed.{bracket-room}
+use borrow.Author.Rules.{rules}
+use Rattle.list_address.proofs.Bracketed.{bracketed_in, bracketed_first, bracketed_last, bracketed_short}
 use Rattle.list_address.proofs.host.is_bracketed.Goals as goal
 
-pub returns-then-b-ne91 : goal.returns-then-b-ne91
-unfolding is_bracketed
-returns-then-b-ne91 c = both-differs _ c.byte-b.ensures c.if-b-ne91.true
+pub returns-in-91 : goal.returns-in-91
+returns-in-91 c = bracketed_in _ c.in-91.len_at_least (search rules) (search rules) c.is_ipv6.ensures
 
-pub returns-then-c-ne93 : goal.returns-then-c-ne93
-unfolding is_bracketed
-returns-then-c-ne93 c =
-    both_equal c.byte-b.ensures c.if-b-ne91.false
-    (both-differs _ c.last_byte-c.ensures c.if-c-ne93.true)
+pub returns-in_default : goal.returns-in_default
+returns-in_default c = bracketed_short _ c.in_default.len_below
 
--- the first byte is not the last
-pub slice_bounds-is_ipv6-count : goal.slice_bounds-is_ipv6-count
-slice_bounds-is_ipv6-count c =
-    bracket-room c.args.s.now c.byte-b.ensures c.if-b-ne91.false
-    c.last_byte-c.ensures c.if-c-ne93.false c.last_place-e.ensures
+pub returns-in_default-2 : goal.returns-in_default-2
+returns-in_default-2 c = bracketed_last _ (search rules)
 
-pub slice_bounds-is_ipv6-start : goal.slice_bounds-is_ipv6-start
-slice_bounds-is_ipv6-start c =
-    let r = bracket-room c.args.s.now c.byte-b.ensures c.if-b-ne91.false
-    c.last_byte-c.ensures c.if-c-ne93.false c.last_place-e.ensures in
-    omega arith
-
-pub returns : goal.returns
-unfolding is_bracketed
-returns c =
-    both_equal c.byte-b.ensures c.if-b-ne91.false
-    (both_equal c.last_byte-c.ensures c.if-c-ne93.false
-    (rw c.last_place-e.ensures at c.is_ipv6.ensures))
+pub returns-in_default-3 : goal.returns-in_default-3
+returns-in_default-3 c = bracketed_first _ (search rules)

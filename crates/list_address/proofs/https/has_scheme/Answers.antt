@@ -1,35 +1,26 @@
--- `list_address::https::has_scheme` meets its contract. The loop keeps: no byte before k differs.
+use Prim.Native.Nat.{ℕ}
+use mathlib.Core.Path.{◌∙◌, ap}
+use lib.Dec.{eqb}
 use borrow.Author.Rules.{rules}
-use borrow.Author.Tests.{eq-eqb, ne_eqb}
-use native.Mathlib.Omega.{arith}
-use Prim.Native.Nat.{◌-◌, ◌≤◌}
-use mathlib.Core.Path.{◌≡◌, sym, ◌∙◌, ap}
-use mathlib.Core.Bool.{not}
-use Rattle.laws.specs.Least.{least}
-use Rattle.laws.proofs.Least.{least_zero, least_more, somewhere-found, somewhere-none}
+use borrow.Author.Tests.{tests, lt-leb}
+use Rattle.std.proofs.lemmas.Iterator.{YieldsList-from_slice, YieldsList-from_zip}
+use Rattle.std.proofs.lemmas.Iterator.Search.{all_from_yields_List}
+use Rattle.laws.specs.Ascii.{ascii}
 use Rattle.list_address.specs.Https.{lower, differs_at, has_scheme}
+use Rattle.list_address.proofs.Scans.{zip-all}
+use Rattle.list_address.proofs.Schemes.{scheme-short}
+use Rattle.list_address.proofs.Lower.{lower_of}
 use Rattle.list_address.proofs.https.has_scheme.Goals as goal
 
-pub loop-k-init : goal.loop-k-init
-loop-k-init c = (omega arith, least_zero _)
-
-pub returns-then-to_lower-w : goal.returns-then-to_lower-w
+pub returns-then-s-ge8 : goal.returns-then-s-ge8
 unfolding has_scheme differs_at
-returns-then-to_lower-w c =
-    let l = c.loop-k in
-    let same = c.to_lower.ensures ∙ ap lower c.byte.ensures in
-    let other = ap not (ne_eqb _ _ (λ z. c.if-to_lower-w.true (same ∙ z))) in
-    sym (ap not (somewhere-found _ l.k 8 l.invariant.1 other (omega arith)))
+returns-then-s-ge8 c =
+    let s = c.args.s.now in
+    let w = ascii "https://" in
+    let e = all_from_yields_List {v = λ x. (x.0.now, x.1.now)} (λ (b : ℕ × ℕ). eqb (lower b.0) b.1) c.all.new.self _ c.all.result c.all.ensures.ran
+    (YieldsList-from_zip {s = c.zip.result} (YieldsList-from_slice {s = c.zip.result.a} s (ap (λ i. i.rest.now) c.zip.ensures.first ∙ c.iter.ensures.rest)) (YieldsList-from_slice {s = c.zip.result.b} w (search rules)))
+    (λ x b q k. search (rules, tests, lower_of)) in
+    e ∙ zip-all (λ b w. eqb (lower b) w) s w c.if-s-ge8.true
 
-pub loop-k-preserved : goal.loop-k-preserved
-unfolding differs_at
-loop-k-preserved c =
-    let l = c.loop-k in
-    let same = c.to_lower.ensures ∙ ap lower c.byte.ensures in
-    (omega arith, least_more _ l.k l.invariant.1 (ap not (eq-eqb _ _ (sym same ∙ c.if-to_lower-w.false))))
-
-pub returns : goal.returns
-unfolding has_scheme
-returns c =
-    let l = c.loop-k in
-    sym (ap not (somewhere-none _ l.k 8 l.invariant.1 l.invariant.0 c.loop-k-test.false))
+pub returns-else-s-ge8 : goal.returns-else-s-ge8
+returns-else-s-ge8 c = lt-leb 8 _ c.if-s-ge8.false ∙ scheme-short c.args.s.now c.if-s-ge8.false

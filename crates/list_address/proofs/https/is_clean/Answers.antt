@@ -1,32 +1,17 @@
--- `list_address::https::is_clean` meets its contract. The loop keeps: nothing before k is wrong.
-use borrow.Author.Rules.{rules}
+use mathlib.Core.Path.{◌∙◌, refl}
 use native.Mathlib.Omega.{arith}
-use Prim.Native.Nat.{◌-◌, ◌≤◌}
-use mathlib.Core.Path.{◌≡◌, sym, ◌∙◌, ap}
-use mathlib.Core.Bool.{not}
 use lib.ListN.{length}
-use Rattle.laws.specs.Least.{least}
-use Rattle.laws.proofs.Least.{least_zero, least-miss, somewhere-found, somewhere-none}
+use borrow.Author.Rules.{rules}
+use Rattle.std.proofs.lemmas.Iterator.{YieldsList-from_range}
+use Rattle.std.proofs.lemmas.Iterator.Search.{all_from_yields_List}
 use Rattle.list_address.specs.Https.{clean_at, is_clean}
+use Rattle.laws.proofs.Ranges.{range_nowhere}
 use Rattle.list_address.proofs.https.is_clean.Goals as goal
-
-pub loop-k-init : goal.loop-k-init
-loop-k-init c = (omega arith, least_zero _)
-
-pub returns-then-not-is_clean_at : goal.returns-then-not-is_clean_at
-unfolding is_clean
-returns-then-not-is_clean_at c =
-    let l = c.loop-k in
-    let found = ap not (sym c.is_clean_at.ensures) ∙ (ap not c.if-not-is_clean_at.true) in
-    sym (ap not (somewhere-found _ l.k _ l.invariant.1 found (omega arith)))
-
-pub loop-k-preserved : goal.loop-k-preserved
-loop-k-preserved c =
-    let l = c.loop-k in
-    (omega arith, least-miss _ l.k _ l.invariant.1 (ap not c.is_clean_at.ensures) (ap not c.if-not-is_clean_at.false))
 
 pub returns : goal.returns
 unfolding is_clean
 returns c =
-    let l = c.loop-k in
-    sym (ap not (somewhere-none _ l.k _ l.invariant.1 l.invariant.0 c.loop-k-test.false))
+    let n = length c.args.s.now in
+    all_from_yields_List (clean_at c.args.s.now) _ _ _ c.all.ensures.ran (YieldsList-from_range 0 n n refl (omega arith))
+    (λ x b q k. search rules)
+    ∙ range_nowhere (clean_at c.args.s.now) n

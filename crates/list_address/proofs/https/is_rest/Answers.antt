@@ -1,46 +1,30 @@
-use native.Mathlib.Omega.{arith}
-use mathlib.Core.Bool.{not}
-use mathlib.Core.Path.{sym, ap}
-use lib.Seq.{length-take-le}
+use mathlib.Core.Path.{◌∙◌, sym}
+use lib.Dec.{eqb}
+use borrow.Author.Rules.{rules}
+use borrow.Author.Tests.{tests}
+use Rattle.std.proofs.lemmas.Iterator.{YieldsList-from_slice}
+use Rattle.std.proofs.lemmas.Iterator.Search.{position_from_yields_List}
 use Rattle.list_address.specs.Https.{is_rest}
-use Rattle.list_address.proofs.Tests.{both-stop, both-on}
-use Rattle.list_address.proofs.Split.{end-inside}
-use Rattle.list_address.proofs.Rest.{rest-whole}
+use Rattle.laws.specs.Pick.{both}
 use Rattle.list_address.proofs.Tails.{tail_all}
+use Rattle.list_address.proofs.Rest.{rest-whole, found-fragment, no-fragment}
 use Rattle.list_address.proofs.https.is_rest.Goals as goal
 
-pub returns-then-k-s : goal.returns-then-k-s
-returns-then-k-s c = rest-whole _ c.past-k.ensures c.if-k-s.true c.is_clean.ensures
+pub returns-in-None : goal.returns-in-None
+returns-in-None c =
+    let e = position_from_yields_List (λ b. eqb b 35) _ _ c.position.result c.position.ensures.ran (YieldsList-from_slice c.args.s.now cc) (λ x b q k. search (rules, tests)) in
+    c.is_clean-in-None.ensures ∙ rest-whole _ (no-fragment _ (sym e ∙ c.in-None.is))
 
--- the "#" stands inside
-pub slice_bounds-is_clean-end : goal.slice_bounds-is_clean-end
-slice_bounds-is_clean-end c =
-    let i = end-inside _ _ 0 _ c.past-k.ensures (omega arith) c.if-k-s.false in
-    sym (length-take-le _ _ (omega arith))
+pub returns-then-is_clean : goal.returns-then-is_clean
+unfolding is_rest both
+returns-then-is_clean c =
+    let e = position_from_yields_List (λ b. eqb b 35) _ _ c.position.result c.position.ensures.ran (YieldsList-from_slice c.args.s.now cc) (λ x b q k. search (rules, tests)) in
+    let f = found-fragment c.args.s.now (sym e ∙ c.in-Some.is) in
+    rw (sym f.0) (rw (sym c.is_clean.ensures ∙ c.if-is_clean.true) (rw tail_all at c.is_clean-then-is_clean.ensures))
 
-pub returns-then-not-is_clean : goal.returns-then-not-is_clean
-unfolding is_rest
-returns-then-not-is_clean c =
-    rw (sym c.past-k.ensures)
-    (both-stop _ c.is_clean-2.ensures (ap not c.if-not-is_clean.true))
-
-pub overflow_add-from : goal.overflow_add-from
-overflow_add-from c =
-    let i = end-inside _ _ 0 _ c.past-k.ensures (omega arith) c.if-k-s.false in
-    record { fits = omega arith }
-
-pub slice_bounds-is_clean-count : goal.slice_bounds-is_clean-count
-slice_bounds-is_clean-count c =
-    let i = end-inside _ _ 0 _ c.past-k.ensures (omega arith) c.if-k-s.false in
-    omega arith
-
-pub slice_bounds-is_clean-start : goal.slice_bounds-is_clean-start
-slice_bounds-is_clean-start c =
-    let i = end-inside _ _ 0 _ c.past-k.ensures (omega arith) c.if-k-s.false in
-    omega arith
-
-pub returns : goal.returns
-unfolding is_rest
-returns c =
-    rw (sym c.past-k.ensures)
-    (both-on c.is_clean-2.ensures (ap not c.if-not-is_clean.false) (rw tail_all at c.is_clean-3.ensures))
+pub returns-else-is_clean : goal.returns-else-is_clean
+unfolding is_rest both
+returns-else-is_clean c =
+    let e = position_from_yields_List (λ b. eqb b 35) _ _ c.position.result c.position.ensures.ran (YieldsList-from_slice c.args.s.now cc) (λ x b q k. search (rules, tests)) in
+    let f = found-fragment c.args.s.now (sym e ∙ c.in-Some.is) in
+    rw (sym f.0) (rw (sym c.is_clean.ensures ∙ c.if-is_clean.false) c.if-is_clean.false)

@@ -1,24 +1,34 @@
+use mathlib.Core.Path.{◌∙◌, sym, ap, refl}
+use native.Mathlib.Omega.{arith}
 use borrow.Author.Rules.{rules}
-use mathlib.Core.Path.{◌∙◌, ap}
 use lib.Dec.{eqb}
-use Rattle.laws.proofs.Picks.{hit-eq, miss-eq}
-use Rattle.list_address.specs.Host.{is_shortened, is_ipv6}
-use Rattle.list_address.proofs.Pieces.{exactly-capped, double-inside, double-there}
+use lib.ListN.{length}
+use Rattle.std.specs.Prelude.{Some}
+use Rattle.std.specs.Option.{option_eq}
+use Rattle.std.proofs.lemmas.Iterator.{YieldsList-from_range}
+use Rattle.std.proofs.lemmas.Iterator.Search.{position_from_yields_List}
+use Rattle.list_address.specs.Host.{double_at}
+use Rattle.laws.proofs.Ranges.{found-least, unfound-least}
+use Rattle.list_address.proofs.Pieces.{double-there, whole, shortened}
 use Rattle.list_address.proofs.ipv6.is_ipv6.Goals as goal
-
-pub returns-then-k-s : goal.returns-then-k-s
-unfolding is_ipv6
-returns-then-k-s c =
-    hit-eq _ c.double-k.ensures c.if-k-s.true
-    (ap (λ m. eqb m 8) c.count-n.ensures ∙ exactly-capped _)
 
 pub is_shortened-requires : goal.is_shortened-requires
 is_shortened-requires c =
-    let i = double-inside _ c.double-k.ensures c.if-k-s.false in
-    (i, double-there _ c.double-k.ensures i)
+    let n = length c.args.s.now in
+    let e = position_from_yields_List (double_at c.args.s.now) _ _ c.position.result c.position.ensures.ran (YieldsList-from_range 0 n n refl (omega arith)) (λ x b q k. search rules) in
+    let f = found-least (double_at c.args.s.now) n (sym e ∙ c.in-Some.is) in
+    (f.1, double-there _ f.0 f.1)
 
-pub returns : goal.returns
-unfolding is_ipv6
-returns c =
-    miss-eq _ c.double-k.ensures c.if-k-s.false
-    (c.is_shortened.ensures ∙ ap (is_shortened _) c.double-k.ensures)
+pub returns-in-Some : goal.returns-in-Some
+returns-in-Some c =
+    let n = length c.args.s.now in
+    let e = position_from_yields_List (double_at c.args.s.now) _ _ c.position.result c.position.ensures.ran (YieldsList-from_range 0 n n refl (omega arith)) (λ x b q k. search rules) in
+    let f = found-least (double_at c.args.s.now) n (sym e ∙ c.in-Some.is) in
+    shortened _ f.0 f.1 c.is_shortened.ensures
+
+pub returns-in-None : goal.returns-in-None
+returns-in-None c =
+    let n = length c.args.s.now in
+    let e = position_from_yields_List (double_at c.args.s.now) _ _ c.position.result c.position.ensures.ran (YieldsList-from_range 0 n n refl (omega arith)) (λ x b q k. search rules) in
+    whole _ (unfound-least (double_at c.args.s.now) n (sym e ∙ c.in-None.is))
+    (c.eq.ensures ∙ ap (λ d. option_eq eqb d (Some 8)) c.pieces.ensures.value)

@@ -1,67 +1,40 @@
--- `list_address::parts::line` meets its contract. The loop keeps: n parts before `at` passed, and the others are left.
-use borrow.Author.Rules.{rules}
+use Prim.Native.Nat.{◌+◌, ◌<◌}
+use mathlib.Core.Path.{◌∙◌, sym, refl}
 use native.Mathlib.Omega.{arith}
-use mathlib.Core.Bool.{not}
-use mathlib.Core.Path.{ap}
-use Rattle.laws.proofs.Picks.{tested-no, tested-yes}
-use Rattle.list_address.proofs.Split.{end-from, end-inside}
+use lib.Dec.{eqb}
+use lib.ListN.{length, length-drop}
+use borrow.Author.Rules.{rules}
+use borrow.Author.Tests.{tests}
+use Rattle.std.proofs.lemmas.Iterator.{YieldsList-from_slice}
+use Rattle.std.proofs.lemmas.Iterator.Search.{position_from_yields_List}
+use Rattle.list_address.proofs.Scans.{found-run, unfound-run}
 use Rattle.list_address.proofs.Counts.{kept-first, kept-last, kept-wrong, kept_more}
+use Rattle.list_address.proofs.Tails.{tail_all}
 use Rattle.list_address.proofs.parts.line.Goals as goal
 
-pub loop-each-init : goal.loop-each-init
-loop-each-init c = (omega arith, omega arith, kept-first _ _ _)
+pub loop-k-init : goal.loop-k-init
+loop-k-init g c = record { few = omega arith; kept = λ p t. kept-first p _ _ }
 
-pub returns-then-e-s : goal.returns-then-e-s
-returns-then-e-s c =
-    let l = c.loop-each in
-    kept-last _ _ _ l.n l.at _ c.past-e.ensures l.invariant.2 l.invariant.0 c.if-e-s.true
+pub returns-then-not-passes : goal.returns-then-not-passes
+returns-then-not-passes g c p t =
+    let e = position_from_yields_List (λ b. eqb b c.args.between) _ _ c.position.result c.position.ensures.ran (YieldsList-from_slice c.loop-k.rest.now cc) (λ x b q k. search (rules, tests)) in
+    let f = found-run _ _ (sym e ∙ c.in-Some.is) in
+    let fails = sym (t.tells _ _ record { shown = _; shows = refl; says = record { met = c.passes.ensures } }) ∙ c.if-not-passes.true in
+    kept-wrong p _ _ (c.loop-k.invariant.kept p t) f.0 f.1 fails
 
-pub slice_bounds-is_part-count : goal.slice_bounds-is_part-count
-slice_bounds-is_part-count c = end-from _ _ _ _ c.past-e.ensures
+pub loop-k-preserved : goal.loop-k-preserved
+loop-k-preserved g c =
+    let e = position_from_yields_List (λ b. eqb b c.args.between) _ _ c.position.result c.position.ensures.ran (YieldsList-from_slice c.loop-k.rest.now cc) (λ x b q k. search (rules, tests)) in
+    let f = found-run _ _ (sym e ∙ c.in-Some.is) in
+    let h : c.in-Some.k < length c.loop-k.rest.now = f.1 in
+    record {
+      few = rw (tail_all (c.in-Some.k + 1) c.loop-k.rest.now, length-drop (c.in-Some.k + 1) c.loop-k.rest.now) (omega arith);
+      kept = λ p t.
+          let passed = sym (t.tells _ _ record { shown = _; shows = refl; says = record { met = c.passes.ensures } }) ∙ c.if-not-passes.false in
+          kept_more p _ _ (c.loop-k.invariant.kept p t) f.0 f.1 (tail_all (c.in-Some.k + 1) c.loop-k.rest.now) passed;
+    }
 
-pub slice_bounds-is_part-start : goal.slice_bounds-is_part-start
-slice_bounds-is_part-start c = let a = end-from _ _ _ _ c.past-e.ensures in omega arith
-
-pub slice_bounds-is_part-end : goal.slice_bounds-is_part-end
-slice_bounds-is_part-end c =
-    let l = c.loop-each in
-    let i = end-inside _ _ l.at _ c.past-e.ensures l.invariant.0 c.if-e-s.false in
-    omega arith
-
-pub returns-then-not-is_part : goal.returns-then-not-is_part
-returns-then-not-is_part c =
-    let l = c.loop-each in
-    kept-wrong _ _ _ l.n l.at _ c.past-e.ensures l.invariant.2
-    (end-inside _ _ l.at _ c.past-e.ensures l.invariant.0 c.if-e-s.false)
-    (tested-no c.is_part.ensures (ap not c.if-not-is_part.true))
-
-pub overflow_add-n : goal.overflow_add-n
-overflow_add-n c =
-    let l = c.loop-each in
-    let a = end-from _ _ _ _ c.past-e.ensures in
-    let i = end-inside _ _ l.at _ c.past-e.ensures l.invariant.0 c.if-e-s.false in
-    record { fits = omega arith }
-
-pub overflow_add-at : goal.overflow_add-at
-overflow_add-at c =
-    let l = c.loop-each in
-    let i = end-inside _ _ l.at _ c.past-e.ensures l.invariant.0 c.if-e-s.false in
-    record { fits = omega arith }
-
-pub loop-each-smaller : goal.loop-each-smaller
-loop-each-smaller c =
-    let l = c.loop-each in
-    let a = end-from _ _ _ _ c.past-e.ensures in
-    let i = end-inside _ _ l.at _ c.past-e.ensures l.invariant.0 c.if-e-s.false in
-    omega arith
-
-pub loop-each-preserved : goal.loop-each-preserved
-loop-each-preserved c =
-    let l = c.loop-each in
-    let a = end-from _ _ _ _ c.past-e.ensures in
-    let i = end-inside _ _ l.at _ c.past-e.ensures l.invariant.0 c.if-e-s.false in (
-      omega arith,
-      omega arith,
-      kept_more _ _ _ l.n l.at _ c.past-e.ensures l.invariant.2 i
-          (tested-yes c.is_part.ensures (ap not c.if-not-is_part.false)),
-    )
+pub returns : goal.returns
+returns g c p t =
+    let e = position_from_yields_List (λ b. eqb b c.args.between) _ _ c.position.result c.position.ensures.ran (YieldsList-from_slice c.loop-k.rest.now cc) (λ x b q k. search (rules, tests)) in
+    kept-last p _ _ (c.loop-k.invariant.kept p t) (unfound-run _ _ (sym e ∙ c.in_default.is)) (omega arith)

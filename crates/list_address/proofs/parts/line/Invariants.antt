@@ -1,12 +1,18 @@
--- The loop keeps: n parts before `at` passed, and the others are left.
-use Prim.Native.Nat.{◌-◌, ◌≤◌}
+use Prim.Native.Nat.{ℕ, ◌+◌, ◌≤◌}
+use mathlib.Core.Bool.{Bool}
+use mathlib.Core.List.{List}
 use lib.ListN.{length}
-use Rattle.list_address.specs.Host.{is_part}
+use Rattle.std.specs.Fn.{FnReturnsAt}
+use Rattle.list_address.specs.Facts.{TellsAt}
 use Rattle.list_address.proofs.Counts.{Kept}
 use Rattle.list_address.proofs.parts.line.Given as goal
 
-abbrev pub invariant-loop-each : goal.invariant-loop-each
-invariant-loop-each l = (l.at ≤ length l.s) × (l.n ≤ l.at) × Kept (is_part l.each) l.between l.s l.n l.at
+-- n parts have passed, and the others are left
+abbrev pub invariant-loop-k : goal.invariant-loop-k
+invariant-loop-k g l = record {
+  few : l.n + length l.rest ≤ length l.s;
+  kept : (p : List ℕ → Bool) → TellsAt (FnReturnsAt g.F.Fn l.passes) p → Kept p l.between l.s l.n l.rest;
+}
 
-abbrev pub decreases-loop-each : goal.decreases-loop-each
-decreases-loop-each l = length l.s - l.at
+abbrev pub decreases-loop-k : goal.decreases-loop-k
+decreases-loop-k g l = length l.rest

@@ -1,16 +1,17 @@
+use Prim.Native.Nat.{◌<◌}
+use mathlib.Core.Path.{◌∙◌}
+use lib.ListN.{length}
+use native.Mathlib.Omega.{arith}
 use borrow.Author.Rules.{rules}
-use Rattle.list_address.specs.Runs.{is_run}
-use Rattle.list_address.proofs.Tests.{tests}
+use Rattle.std.proofs.lemmas.Iterator.{YieldsList-from_slice}
+use Rattle.std.proofs.lemmas.Iterator.Search.{all_from_yields_List}
+use Rattle.list_address.proofs.Scans.{every_all}
+use Rattle.list_address.proofs.Sizes.{run-every}
 use Rattle.list_address.proofs.scan.is_run.Goals as goal
 
-pub returns-then-s-lt1 : goal.returns-then-s-lt1
-unfolding is_run
-returns-then-s-lt1 c = search (tests, rules)
-
-pub returns-then-most-s : goal.returns-then-most-s
-unfolding is_run
-returns-then-most-s c = search (tests, rules)
-
 pub returns : goal.returns
-unfolding is_run
-returns c = search (tests, rules)
+returns g c p t =
+    let e = all_from_yields_List p _ _ c.all.result c.all.ensures.ran (YieldsList-from_slice c.args.s.now cc)
+    (λ x b q k. search (rules, t.tells)) in
+    let some : 0 < length c.args.s.now = grind arith in
+    e ∙ every_all p c.args.s.now ∙ run-every p _ _ some c.if-most-s.false

@@ -23,7 +23,7 @@ unfolding of_server
 put_address-requires c =
     item-inside _ _ _ c.find-addresses.ensures
     c.member_item.ensures
-    c.requires c.in-At.is
+    c.requires c.in-Some.is
 
 pub returns : goal.returns
 unfolding of_server
@@ -31,7 +31,7 @@ returns c =
     let a = c.args in
     let p = c.put_address.ensures in
     let r = tells-same a.out.now c.put_address.result
-    (item-tcp _ _ _ c.find-addresses.ensures c.member_item.ensures c.requires c.in-At.is)
-    (item-address _ _ _ c.find-addresses.ensures c.member_item.ensures c.requires c.in-At.is)
+    (item-tcp _ _ _ c.find-addresses.ensures c.member_item.ensures c.requires c.in-Some.is)
+    (item-address _ _ _ c.find-addresses.ensures c.member_item.ensures c.requires c.in-Some.is)
     (p.value, p.out_after) in
     record { value = r.0; out_after = r.1 }

@@ -1,3 +1,6 @@
+use mathlib.Core.Path.{◌≡◌, ◌∙◌}
+use Rattle.std.specs.Prelude.{Err}
+use Rattle.refusal.specs.declared.Refusal.{Refusal}
 use Rattle.list_parts.specs.Parts.{reports_in}
 use Rattle.list_read.specs.Listed.{list_of}
 use borrow.Author.Rules.{rules}
@@ -5,17 +8,19 @@ use Rattle.list_parts.proofs.Lists.{reports-at}
 use Rattle.list_parts.proofs.Given.{given-code, given-put}
 use Rattle.list_parts.proofs.parts.list_reports.Goals as goal
 
-pub returns-then-y-ne0 : goal.returns-then-y-ne0
-returns-then-y-ne0 c =
+pub returns-in_err-y : goal.returns-in_err-y
+returns-in_err-y c =
     let a = c.args in
-    let r = given-code a.text.now c.survey_of-y.ensures (reports_in (list_of a.text.now)) a.out.now c.if-y-ne0.true c.refuse.ensures in
-    record { value = r.0; out_after = r.1 }
+    let e : Refusal = c.in_err-y.field-0.0 in
+    let handed : c.from_residual.result ≡ Err e = search rules in
+    let r = given-code a.text.now (reports_in (list_of a.text.now)) a.out.now c.in_err-y.ensures in
+    record { value = handed ∙ r.0; out_after = rw handed r.1 }
 
 pub returns : goal.returns
 returns c =
     let a = c.args in
     let p = c.put_string.ensures in
-    let r = given-put a.text.now c.survey_of-y.ensures (reports_in (list_of a.text.now)) a.out.now c.if-y-ne0.false
-    (reports-at _ c.survey_of-y.ensures c.if-y-ne0.false)
+    let r = given-put a.text.now (reports_in (list_of a.text.now)) a.out.now c.in_ok-y.ensures
+    (reports-at _ c.in_ok-y.ensures)
     (p.value, p.out_after) in
     record { value = r.0; out_after = r.1 }

@@ -1,3 +1,6 @@
+use mathlib.Core.Path.{◌≡◌, ◌∙◌}
+use Rattle.std.specs.Prelude.{Err}
+use Rattle.refusal.specs.declared.Refusal.{Refusal}
 use Rattle.json_text.specs.Octets.{none}
 use Rattle.list_parts.specs.Parts.{name_in}
 use Rattle.list_read.specs.Listed.{list_of}
@@ -8,39 +11,40 @@ use Rattle.list_parts.proofs.Lists.{asked-most, asked-room, server-good, server-
 use Rattle.list_parts.proofs.Given.{given-code, given-put, puts_none}
 use Rattle.list_parts.proofs.parts.server_name.Goals as goal
 
-pub returns-then-y-ne0 : goal.returns-then-y-ne0
-returns-then-y-ne0 c =
+pub returns-in_err-y : goal.returns-in_err-y
+returns-in_err-y c =
     let a = c.args in
-    let r = given-code a.text.now c.survey_of-y.ensures (name_in (list_of a.text.now) a.i) a.out.now c.if-y-ne0.true c.refuse.ensures in
-    record { value = r.0; out_after = r.1 }
+    let e : Refusal = c.in_err-y.field-0.0 in
+    let handed : c.from_residual.result ≡ Err e = search rules in
+    let r = given-code a.text.now (name_in (list_of a.text.now) a.i) a.out.now c.in_err-y.ensures in
+    record { value = handed ∙ r.0; out_after = rw handed r.1 }
 
 pub server_place-requires : goal.server_place-requires
 server_place-requires c = (
-  asked-most _ c.survey_of-y.ensures c.if-y-ne0.false,
-  asked-room _ c.survey_of-y.ensures c.if-y-ne0.false,
+  asked-most _ c.in_ok-y.ensures,
+  asked-room _ c.in_ok-y.ensures,
 )
 
 pub returns-in_default : goal.returns-in_default
 returns-in_default c =
     let a = c.args in
-    let r = given-put a.text.now c.survey_of-y.ensures (name_in (list_of a.text.now) a.i) a.out.now c.if-y-ne0.false
-    (name-none _ c.survey_of-y.ensures c.if-y-ne0.false _ c.server_place.ensures c.in_default.is)
-    (puts_none none a.out.now refl c.refuse-in_default.ensures) in
+    let r = given-put a.text.now (name_in (list_of a.text.now) a.i) a.out.now c.in_ok-y.ensures
+    (name-none _ c.in_ok-y.ensures _ c.server_place.ensures c.in_default.is)
+    (puts_none none a.out.now refl c.refuse.ensures) in
     record { value = r.0; out_after = r.1 }
 
 pub find-requires : goal.find-requires
 find-requires c =
     server-inside _
-    (server-good _ c.survey_of-y.ensures
-    c.if-y-ne0.false _ c.server_place.ensures
-    c.in-At.is)
+    (server-good _ c.in_ok-y.ensures _ c.server_place.ensures
+    c.in-Some.is)
 
 pub returns : goal.returns
 unfolding of_server
 returns c =
     let a = c.args in
     let p = c.put_string.ensures in
-    let r = given-put a.text.now c.survey_of-y.ensures (name_in (list_of a.text.now) a.i) a.out.now c.if-y-ne0.false
-    (name-at _ c.survey_of-y.ensures c.if-y-ne0.false _ c.server_place.ensures c.in-At.is c.find.ensures)
+    let r = given-put a.text.now (name_in (list_of a.text.now) a.i) a.out.now c.in_ok-y.ensures
+    (name-at _ c.in_ok-y.ensures _ c.server_place.ensures c.in-Some.is c.find.ensures)
     (p.value, p.out_after) in
     record { value = r.0; out_after = r.1 }

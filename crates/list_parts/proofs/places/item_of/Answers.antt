@@ -10,16 +10,16 @@ use Rattle.list_parts.proofs.places.item_of.Goals as goal
 pub loop-at-init : goal.loop-at-init
 loop-at-init c = ap (λ ks. item_in ks c.args.j) c.first_item-at.ensures.all
 
-pub returns-in_default : goal.returns-in_default
-returns-in_default c =
+pub returns : goal.returns
+returns c =
     item-none _ _ (left-done _ _ c.in_default.is) ∙ c.loop-at.invariant
 
 pub returns-then-n-eq0 : goal.returns-then-n-eq0
 returns-then-n-eq0 c =
-    item-here _ (left_here _ _ c.in-At.is) ∙ ap (item_in (left _ _ _)) (sym c.if-n-eq0.true)
+    item-here _ (left_here _ _ c.in-Some.is) ∙ ap (item_in (left _ _ _)) (sym c.if-n-eq0.true)
     ∙ c.loop-at.invariant
 
 pub loop-at-preserved : goal.loop-at-preserved
 loop-at-preserved c =
-    item_on _ _ (left-on _ _ c.in-At.is c.next_item-at.ensures) c.if-n-eq0.false
+    item_on _ _ (left-on _ _ c.in-Some.is c.next_item-at.ensures) c.if-n-eq0.false
     ∙ c.loop-at.invariant

@@ -14,10 +14,10 @@ members-m-requires c = search (inside, rules)
 pub returns-then-not-is_protocol : goal.returns-then-not-is_protocol
 returns-then-not-is_protocol c = search (address, rules)
 
-pub returns-then-is_sort : goal.returns-then-is_sort
+pub returns-then-not-is_sort : goal.returns-then-not-is_sort
 unfolding is_place of_sort
-returns-then-is_sort c = search (address, rules)
+returns-then-not-is_sort c = search (address, rules)
 
-pub returns-else-is_sort : goal.returns-else-is_sort
+pub returns : goal.returns
 unfolding is_place of_sort
-returns-else-is_sort c = search (address, rules)
+returns c = search (address, rules)

@@ -1,22 +1,19 @@
-use borrow.Author.Rules.{rules}
-use Prim.Native.Nat.{◌-◌}
+use native.Mathlib.Omega.{arith}
 use Rattle.list_read.proofs.Records.{Laying, laying-first, laying-done, laying-length, laying-asks, laying-fit, laying-on}
 use Rattle.list_read.proofs.reading.put_all.Goals as goal
 
 pub loop-i-init : goal.loop-i-init
-loop-i-init c =
-    let p = c.requires in laying-first _ _ _ _ (search rules) p.0 p.1.0 p.1.1
+loop-i-init c = laying-first _ _ _ c.requires.0 c.requires.1
 
 pub put_record-requires : goal.put_record-requires
 put_record-requires c =
-    let y = c.loop-i.invariant in let h = c.loop-i-test.true in (laying-asks y h, laying-fit y h)
+    let y = c.loop-i.invariant in (laying-asks y (omega arith), laying-fit y (omega arith))
 
 pub loop-i-preserved : goal.loop-i-preserved
-loop-i-preserved c =
-    laying-on c.loop-i.invariant c.loop-i-test.true c.put_record.ensures
+loop-i-preserved c = laying-on c.loop-i.invariant (omega arith) c.put_record.ensures
 
 pub shape_of-out : goal.shape_of-out
 shape_of-out c = laying-length c.loop-i.invariant
 
 pub returns : goal.returns
-returns c = laying-done c.loop-i.invariant c.loop-i-test.false
+returns c = laying-done c.loop-i.invariant (omega arith)

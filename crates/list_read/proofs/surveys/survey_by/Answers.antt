@@ -13,7 +13,7 @@ pub returns-in_default : goal.returns-in_default
 returns-in_default c = search (members, rules)
 
 pub survey_servers-requires : goal.survey_servers-requires
-survey_servers-requires c = array-inside _ _ c.array_place.ensures c.in-Past.is
+survey_servers-requires c = array-inside _ _ c.array_place.ensures c.in-Some.is
 
 pub returns : goal.returns
 returns c = search (members, rules)

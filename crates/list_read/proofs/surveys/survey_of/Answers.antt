@@ -3,8 +3,8 @@ use Rattle.json_tokens.proofs.Picks.{inside}
 use Rattle.list_read.proofs.Surveying.{surveying}
 use Rattle.list_read.proofs.surveys.survey_of.Goals as goal
 
-pub returns-then-b-ne123 : goal.returns-then-b-ne123
-returns-then-b-ne123 c = search (surveying, rules)
+pub returns-then-byte-ne123 : goal.returns-then-byte-ne123
+returns-then-byte-ne123 c = search (surveying, rules)
 
 pub members-m-requires : goal.members-m-requires
 members-m-requires c = search (inside, rules)

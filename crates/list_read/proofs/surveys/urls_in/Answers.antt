@@ -10,8 +10,8 @@ use Rattle.list_read.proofs.surveys.urls_in.Goals as goal
 pub loop-at-init : goal.loop-at-init
 loop-at-init c = search (urls, rules)
 
-pub returns-in_default : goal.returns-in_default
-returns-in_default c = search (urls, rules)
+pub returns : goal.returns
+returns c = search (urls, rules)
 
 pub returns-then-not-is_sort : goal.returns-then-not-is_sort
 unfolding url_at is_url of_sort

@@ -1,7 +1,7 @@
 use mathlib.Core.Path.{refl}
-use Rattle.list_read.specs.Facts.{blank_of}
+use Rattle.list_read.specs.Facts.{blank_tally}
 use Rattle.list_read.proofs.tallies.blank.Goals as goal
 
 pub returns : goal.returns
-unfolding blank_of
+unfolding blank_tally
 returns c = refl

@@ -1,25 +1,24 @@
 use borrow.Author.Rules.{rules}
-use Rattle.report_read.specs.Entry.{elements_of}
-use Rattle.list_read.specs.Server.{in_servers}
-use Rattle.list_read.proofs.Items.{fuel}
-use Rattle.list_read.proofs.Tallying.{Going, going-low, going-few, going, next-less}
+use Rattle.list_read.proofs.Tallying.{going-first, going-low, going-few, going-stop, going_on, going_done, next-less}
 use Rattle.list_read.proofs.tallies.tally.Goals as goal
 
 pub loop-at-init : goal.loop-at-init
-loop-at-init c = search (going, rules)
+loop-at-init c = going-first c.first_item-at.ensures c.blank-t.ensures
 
-pub returns-in_default : goal.returns-in_default
-returns-in_default c = search (going, rules)
+pub returns-in_err-seen : goal.returns-in_err-seen
+returns-in_err-seen c =
+    rw c.from_residual.ensures (going-stop c.loop-at.invariant c.in-Some.is c.see.ensures c.in_err-seen.was)
 
-pub returns-in_default-see : goal.returns-in_default-see
-returns-in_default-see c = search (going, rules)
-
-pub counted-u-requires : goal.counted-u-requires
-counted-u-requires c =
-    let g = c.loop-at.invariant in let i = c.in-At.is in let h = going-low g i in let m = going-few g i in (search rules, search rules)
+pub counted-t-requires : goal.counted-t-requires
+counted-t-requires c =
+    let g = c.loop-at.invariant in let i = c.in-Some.is in let h = going-low g i in let m = going-few g i in (search rules, search rules)
 
 pub loop-at-smaller : goal.loop-at-smaller
-loop-at-smaller c = search (next-less, rules)
+loop-at-smaller c = next-less c.args.s.now c.in-Some.is c.see.ensures c.in_ok-seen.was c.next_past-at.ensures
 
 pub loop-at-preserved : goal.loop-at-preserved
-loop-at-preserved c = search (going, rules)
+loop-at-preserved c =
+    going_on c.loop-at.invariant c.in-Some.is c.see.ensures c.in_ok-seen.was c.counted-t.ensures c.next_past-at.ensures
+
+pub returns : goal.returns
+returns c = going_done c.loop-at.invariant c.in_default.is

@@ -1,8 +1,7 @@
-use borrow.Author.Rules.{rules}
 use Rattle.report_read.specs.Entry.{elements_of}
 use Rattle.list_read.specs.Server.{in_servers}
 use Rattle.list_read.proofs.Items.{fuel}
-use Rattle.list_read.proofs.Tallying.{Going, going-low, going-few, going, next-less}
+use Rattle.list_read.proofs.Tallying.{Going}
 use Rattle.list_read.proofs.tallies.tally.Given as goal
 
 abbrev pub invariant-loop-at : goal.invariant-loop-at

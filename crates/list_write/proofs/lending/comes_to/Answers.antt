@@ -8,16 +8,16 @@ use Rattle.list_write.specs.Lent.{total}
 use Rattle.list_write.proofs.Lends.{total-over, total-turn, total-end}
 use Rattle.list_write.proofs.lending.comes_to.Goals as goal
 
-pub loop-i-init : goal.loop-i-init
-loop-i-init c = refl
+pub loop-length-init : goal.loop-length-init
+loop-length-init c = refl
 
 pub returns-then-left-k : goal.returns-then-left-k
 returns-then-left-k c =
-    total-over _ _ c.loop-i-test.true c.wide-k.ensures c.if-left-k.true ∙ c.loop-i.invariant
+    total-over _ _ c.loop-length-test.true refl c.if-left-k.true ∙ c.loop-length.invariant
 
-pub loop-i-preserved : goal.loop-i-preserved
-loop-i-preserved c =
-    total-turn _ _ c.loop-i-test.true c.wide-k.ensures c.if-left-k.false ∙ c.loop-i.invariant
+pub loop-length-preserved : goal.loop-length-preserved
+loop-length-preserved c =
+    total-turn _ _ c.loop-length-test.true refl c.if-left-k.false ∙ c.loop-length.invariant
 
 pub returns : goal.returns
-returns c = total-end _ _ _ c.loop-i-test.false ∙ c.loop-i.invariant
+returns c = total-end _ _ _ c.loop-length-test.false ∙ c.loop-length.invariant

@@ -8,9 +8,6 @@ use Rattle.list_write.specs.Lent.{total}
 use Rattle.list_write.proofs.Lends.{total-over, total-turn, total-end}
 use Rattle.list_write.proofs.lending.comes_to.Given as goal
 
-abbrev pub invariant-loop-i : goal.invariant-loop-i
-invariant-loop-i l =
-    eqb (total (drop l.i l.lengths)) l.left ≡ eqb (total l.lengths) l.n
-
-abbrev pub decreases-loop-i : goal.decreases-loop-i
-decreases-loop-i l = length l.lengths - l.i
+abbrev pub invariant-loop-length : goal.invariant-loop-length
+invariant-loop-length l =
+    eqb (total (drop l.length-index l.lengths)) l.left ≡ eqb (total l.lengths) l.n

@@ -1,18 +1,16 @@
--- `list_write::many::put_servers` meets its contract: the servers from i on are left to put.
-use native.Mathlib.Omega.{arith}
-use Prim.Native.Nat.{◌-◌}
-use lib.ListN.{length}
-use Rattle.list_write.specs.Lent.{lent}
-use Rattle.list_write.proofs.Lends.{place-fits, place-long, lending-name, lending-lines, lending-key}
-use Rattle.json_quote.proofs.Putting.{putting-length}
-use Rattle.list_write.proofs.Flats.{piece-fits, piece-next, pieces-last}
-use Rattle.list_write.proofs.Walks.{Serving, serving-first, serving-separator, serving-room, serving-turn}
-use Rattle.list_write.proofs.Walks.{serving-end}
+-- The servers that are still to come are left to put.
+use mathlib.Core.Bool.{true}
+use mathlib.Core.Path.{◌≡◌}
+use Rattle.list_write.specs.Lent.{all_servers}
+use Rattle.list_write.specs.Facts.{given_left}
+use Rattle.list_write.specs.Texts.{row, server_text}
+use Rattle.list_write.proofs.Arrays.{Rowing}
 use Rattle.list_write.proofs.many.put_servers.Given as goal
 
-abbrev pub invariant-loop-i : goal.invariant-loop-i
-invariant-loop-i l =
-    Serving (lent l.keys l.versions l.names l.name_lengths l.addresses l.address_lengths) l.initial.out l.at l.i l.p l.q l.out l.j
-
-abbrev pub decreases-loop-i : goal.decreases-loop-i
-decreases-loop-i l = length l.versions - l.i
+abbrev pub invariant-loop-server : goal.invariant-loop-server
+invariant-loop-server l =
+    (goal.iterator-loop-server).can_next l.server-iterator
+    × (goal.iterator-loop-server).is_finite l.server-iterator
+    × (all_servers (given_left l.server-iterator) ≡ true)
+    × Rowing server_text (row server_text true (given_left l.fn.servers)) l.initial.out l.fn.at
+    (given_left l.server-iterator) l.before l.out l.j

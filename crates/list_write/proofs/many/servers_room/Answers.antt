@@ -1,86 +1,28 @@
--- `list_write::many::servers_room` meets its contract: room is taken for the servers before i.
+use mathlib.Core.Path.{◌≡◌}
 use borrow.Author.Rules.{rules}
-use native.Mathlib.Omega.{arith}
-use Prim.Native.Nat.{◌-◌}
-use lib.ListN.{length}
-use Rattle.list_write.specs.Lent.{lent}
-use Rattle.list_write.proofs.Lends.{place-fits, place-long, lending-name, lending-lines, lending-key}
-use Rattle.list_write.proofs.Walks.{Seating, seating-first, seating-good, seating-turn, seating-last}
+use Rattle.list_write.specs.Texts.{server_text, servers_text}
+use Rattle.list_write.proofs.Arrays.{roomed-first, roomed-turn, roomed-last}
+use Rattle.list_write.proofs.Lends.{servers-first, good-lines}
 use Rattle.list_write.proofs.many.servers_room.Goals as goal
 
-pub loop-i-init : goal.loop-i-init
-loop-i-init c =
-    seating-first _ _ c.requires.address_lengths_value c.requires.address_lengths_value_2
-
-pub offset_bounds-name_lengths-i : goal.offset_bounds-name_lengths-i
-offset_bounds-name_lengths-i c =
-    let h = lending-name c.loop-i.invariant.lending c.loop-i-test.true in
-    omega (arith, c.well_formed)
-
-pub bounds-name_lengths-i : goal.bounds-name_lengths-i
-bounds-name_lengths-i c = lending-name c.loop-i.invariant.lending c.loop-i-test.true
-
-pub piece-name-requires : goal.piece-name-requires
-piece-name-requires c =
-    place-fits c.loop-i.invariant.lending.walk.name
-    (lending-name c.loop-i.invariant.lending c.loop-i-test.true)
-
-pub offset_bounds-address_lengths-i : goal.offset_bounds-address_lengths-i
-offset_bounds-address_lengths-i c =
-    let h = lending-lines c.loop-i.invariant.lending c.loop-i-test.true in
-    omega (arith, c.well_formed)
-
-pub bounds-address_lengths-i : goal.bounds-address_lengths-i
-bounds-address_lengths-i c = lending-lines c.loop-i.invariant.lending c.loop-i-test.true
-
-pub piece-lines-requires : goal.piece-lines-requires
-piece-lines-requires c =
-    place-fits c.loop-i.invariant.lending.walk.lines
-    (lending-lines c.loop-i.invariant.lending c.loop-i-test.true)
-
-pub overflow_mul-i : goal.overflow_mul-i
-overflow_mul-i c =
-    let h = lending-key c.loop-i.invariant.lending c.loop-i-test.true in
-    omega (arith, c.well_formed)
-
-pub piece-key-requires : goal.piece-key-requires
-piece-key-requires c = lending-key c.loop-i.invariant.lending c.loop-i-test.true
-
-pub bounds-versions-i : goal.bounds-versions-i
-bounds-versions-i c = c.loop-i-test.true
+pub loop-server-init : goal.loop-server-init
+loop-server-init c =
+    let e : c.into_iter-server-iterator.result ≡ c.args.servers = search rules in
+    rw e (search rules, search rules, c.requires, roomed-first server_text _ _)
 
 pub server_room-left-requires : goal.server_room-left-requires
 server_room-left-requires c =
-    seating-good _ _ _ _ c.loop-i-test.true c.piece-name.ensures c.piece-lines.ensures
-    c.piece-key.ensures c.loop-i.invariant
+    good-lines _ _ (servers-first _ _ c.in-Some.ensures.steps c.loop-server.invariant.2).0
 
-pub overflow_add-p : goal.overflow_add-p
-overflow_add-p c =
-    let h = place-long c.piece-name.ensures (place-fits c.loop-i.invariant.lending.walk.name
-    (lending-name c.loop-i.invariant.lending c.loop-i-test.true)) in
-    omega (arith, c.well_formed)
-
-pub overflow_add-q : goal.overflow_add-q
-overflow_add-q c =
-    let h = place-long c.piece-lines.ensures (place-fits c.loop-i.invariant.lending.walk.lines
-    (lending-lines c.loop-i.invariant.lending c.loop-i-test.true)) in
-    omega (arith, c.well_formed)
-
-pub loop-i-preserved : goal.loop-i-preserved
-loop-i-preserved c =
-    seating-turn _ _ _ _ c.loop-i-test.true c.piece-name.ensures c.piece-lines.ensures
-    c.piece-key.ensures c.loop-i.invariant c.separator_size.ensures c.spend-more.ensures
-    c.server_room-left.ensures
+pub loop-server-preserved : goal.loop-server-preserved
+loop-server-preserved c = (
+  search rules,
+  search rules,
+  (servers-first _ _ c.in-Some.ensures.steps c.loop-server.invariant.2).1,
+  roomed-turn _ c.loop-server.invariant.3 _ _ c.in-Some.ensures.steps c.spend.ensures c.server_room-left.ensures,
+)
 
 pub returns : goal.returns
+unfolding servers_text
 returns c =
-    seating-last _ _ c.loop-i.invariant c.loop-i-test.false c.spend.ensures
-
-pub offset_bounds-versions-i : goal.offset_bounds-versions-i
-offset_bounds-versions-i c = omega arith
-
-pub overflow_add-i : goal.overflow_add-i
-overflow_add-i c = omega arith
-
-pub loop-i-smaller : goal.loop-i-smaller
-loop-i-smaller c = omega arith
+    roomed-last _ c.loop-server.invariant.3 (rw c.in-None.is at c.next.ensures.steps).0 c.spend-2.ensures

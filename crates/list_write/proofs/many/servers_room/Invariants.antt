@@ -1,16 +1,17 @@
--- `list_write::many::servers_room` meets its contract: room is taken for the servers before i.
-use borrow.Author.Rules.{rules}
-use native.Mathlib.Omega.{arith}
-use Prim.Native.Nat.{◌-◌}
+-- Room for the servers that are still to come is left to take.
+use mathlib.Core.Bool.{true}
+use mathlib.Core.Path.{◌≡◌}
 use lib.ListN.{length}
-use Rattle.list_write.specs.Lent.{lent}
-use Rattle.list_write.proofs.Lends.{place-fits, place-long, lending-name, lending-lines, lending-key}
-use Rattle.list_write.proofs.Walks.{Seating, seating-first, seating-good, seating-turn, seating-last}
+use Rattle.list_write.specs.Lent.{all_servers}
+use Rattle.list_write.specs.Facts.{given_left}
+use Rattle.list_write.specs.Texts.{row, server_text}
+use Rattle.list_write.proofs.Arrays.{Roomed}
 use Rattle.list_write.proofs.many.servers_room.Given as goal
 
-abbrev pub invariant-loop-i : goal.invariant-loop-i
-invariant-loop-i l =
-    Seating (lent l.keys l.versions l.names l.name_lengths l.addresses l.address_lengths) l.initial.left l.i l.p l.q l.left
-
-abbrev pub decreases-loop-i : goal.decreases-loop-i
-decreases-loop-i l = length l.versions - l.i
+abbrev pub invariant-loop-server : goal.invariant-loop-server
+invariant-loop-server l =
+    (goal.iterator-loop-server).can_next l.server-iterator
+    × (goal.iterator-loop-server).is_finite l.server-iterator
+    × (all_servers (given_left l.server-iterator) ≡ true)
+    × Roomed server_text (length (row server_text true (given_left l.fn.servers))) l.fn.room
+    (given_left l.server-iterator) l.before l.left

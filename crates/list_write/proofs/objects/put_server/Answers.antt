@@ -9,14 +9,14 @@ pub put_head-a-requires : goal.put_head-a-requires
 put_head-a-requires c =
     let a = c.args in
     let put0 = server-first a.out.now a.at
-    (given a.name.now a.version a.key.now a.addresses.now) c.requires.1 in
+    (given a.server.name.now a.server.version a.server.key.now a.server.addresses.now) c.requires.1 in
     piece-fits _ _ put0
 
 pub put_key-b-requires : goal.put_key-b-requires
 put_key-b-requires c =
     let a = c.args in
     let put0 = server-first a.out.now a.at
-    (given a.name.now a.version a.key.now a.addresses.now) c.requires.1 in
+    (given a.server.name.now a.server.version a.server.key.now a.server.addresses.now) c.requires.1 in
     let put1 = piece-next _ _ put0 c.put_head-a.ensures in
     piece-fits _ _ put1
 
@@ -24,7 +24,7 @@ pub put_items-c-requires : goal.put_items-c-requires
 put_items-c-requires c =
     let a = c.args in
     let put0 = server-first a.out.now a.at
-    (given a.name.now a.version a.key.now a.addresses.now) c.requires.1 in
+    (given a.server.name.now a.server.version a.server.key.now a.server.addresses.now) c.requires.1 in
     let put1 = piece-next _ _ put0 c.put_head-a.ensures in
     let put2 = piece-next _ _ put1 c.put_key-b.ensures in
     (c.requires.0, piece-fits _ _ put2)
@@ -33,7 +33,7 @@ pub put_byte-requires : goal.put_byte-requires
 put_byte-requires c =
     let a = c.args in
     let put0 = server-first a.out.now a.at
-    (given a.name.now a.version a.key.now a.addresses.now) c.requires.1 in
+    (given a.server.name.now a.server.version a.server.key.now a.server.addresses.now) c.requires.1 in
     let put1 = piece-next _ _ put0 c.put_head-a.ensures in
     let put2 = piece-next _ _ put1 c.put_key-b.ensures in
     let put3 = piece-next _ _ put2 c.put_items-c.ensures in
@@ -43,7 +43,7 @@ pub returns : goal.returns
 returns c =
     let a = c.args in
     let put0 = server-first a.out.now a.at
-    (given a.name.now a.version a.key.now a.addresses.now) c.requires.1 in
+    (given a.server.name.now a.server.version a.server.key.now a.server.addresses.now) c.requires.1 in
     let put1 = piece-next _ _ put0 c.put_head-a.ensures in
     let put2 = piece-next _ _ put1 c.put_key-b.ensures in
     let put3 = piece-next _ _ put2 c.put_items-c.ensures in

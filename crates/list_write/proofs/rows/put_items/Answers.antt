@@ -1,76 +1,45 @@
--- `list_write::rows::put_items` meets its contract: the lines from k on are left to put.
-use borrow.Author.Rules.{rules}
+use mathlib.Core.Path.{◌≡◌}
 use native.Mathlib.Omega.{arith}
-use Prim.Native.Nat.{◌-◌}
-use lib.ListN.{length}
-use Rattle.json_quote.proofs.Putting.{putting-length}
-use Rattle.list_write.proofs.Arrays.{Rowing, rowing-first, rowing-separator, rowing-good, rowing-item}
-use Rattle.list_write.proofs.Arrays.{rowing-turn, rowing-end, line-past}
-use Rattle.list_write.proofs.Flats.{piece-fits, piece-next, pieces-last}
+use borrow.Author.Rules.{rules}
+use Rattle.list_write.specs.Texts.{element_text, items_text}
+use Rattle.list_write.proofs.Arrays.{rowing-first, rowing-length, rowing-mark, rowing-item, rowing-turn, rowing-close, rowing-done}
+use Rattle.list_write.proofs.Feeds.{good-first}
 use Rattle.list_write.proofs.rows.put_items.Goals as goal
 
-pub loop-k-init : goal.loop-k-init
-loop-k-init c = rowing-first _ _ _ _ c.requires.0 c.requires.1
+pub loop-line-init : goal.loop-line-init
+unfolding items_text
+loop-line-init c =
+    let e : c.into_iter-line-iterator.result.0.now ≡ c.args.s.now = search rules in
+    rw e (search rules, search rules, c.requires.0, rowing-first (element_text c.args.item) _ _ _ c.requires.1)
 
-pub put_separator-a-requires : goal.put_separator-a-requires
-put_separator-a-requires c =
-    let a = c.args in
-    rowing-separator a.url a.s.now c.loop-k.k c.loop-k-test.true c.past_line-e.ensures
-    c.loop-k.invariant
-
-pub overflow_sub-e : goal.overflow_sub-e
-overflow_sub-e c =
-    let a = c.args in
-    let h = line-past a.url a.s.now c.loop-k.k c.loop-k-test.true c.past_line-e.ensures in
-    search rules
-
-pub slice_bounds-put_item-count : goal.slice_bounds-put_item-count
-slice_bounds-put_item-count c =
-    let a = c.args in
-    let h = line-past a.url a.s.now c.loop-k.k c.loop-k-test.true c.past_line-e.ensures in
-    search rules
-
-pub slice_bounds-put_item-start : goal.slice_bounds-put_item-start
-slice_bounds-put_item-start c =
-    let a = c.args in
-    let h = line-past a.url a.s.now c.loop-k.k c.loop-k-test.true c.past_line-e.ensures in
-    search rules
-
-pub slice_bounds-put_item-end : goal.slice_bounds-put_item-end
-slice_bounds-put_item-end c =
-    let a = c.args in
-    let h = line-past a.url a.s.now c.loop-k.k c.loop-k-test.true c.past_line-e.ensures in
-    search rules
+pub put_word-a-requires : goal.put_word-a-requires
+put_word-a-requires c = rowing-mark _ c.loop-line.invariant.3 _ _ c.in-Some.ensures.steps
 
 pub put_item-j-requires : goal.put_item-j-requires
+unfolding element_text
 put_item-j-requires c =
-    let a = c.args in
-    let k = c.loop-k.k in
-    let h = c.loop-k-test.true in
-    let e = c.past_line-e.ensures in (
-      rowing-good a.url a.s.now k h e c.loop-k.invariant,
-      rowing-item a.url a.s.now k h e c.loop-k.invariant c.put_separator-a.ensures,
+    rw c.line_text.ensures (
+      (good-first _ _ _ c.in-Some.ensures.steps c.loop-line.invariant.2).0,
+      rowing-item _ c.loop-line.invariant.3 _ _ c.in-Some.ensures.steps c.put_word-a.ensures,
     )
 
-pub loop-k-smaller : goal.loop-k-smaller
-loop-k-smaller c =
-    let a = c.args in
-    let h = line-past a.url a.s.now c.loop-k.k c.loop-k-test.true c.past_line-e.ensures in
-    omega (arith, h.0)
-
-pub loop-k-preserved : goal.loop-k-preserved
-loop-k-preserved c =
-    let a = c.args in
-    rowing-turn a.url a.s.now c.loop-k.k c.loop-k-test.true c.past_line-e.ensures
-    c.loop-k.invariant c.put_separator-a.ensures c.put_item-j.ensures
+pub loop-line-preserved : goal.loop-line-preserved
+unfolding element_text
+loop-line-preserved c = (
+  search rules,
+  search rules,
+  (good-first _ _ _ c.in-Some.ensures.steps c.loop-line.invariant.2).1,
+  rowing-turn _ c.loop-line.invariant.3 _ _ c.in-Some.ensures.steps c.put_word-a.ensures
+      (rw c.line_text.ensures at c.put_item-j.ensures),
+)
 
 pub put_byte-requires : goal.put_byte-requires
-put_byte-requires c =
-    piece-fits _ _ (rowing-end c.loop-k.invariant c.loop-k-test.false)
+put_byte-requires c = rowing-close _ c.loop-line.invariant.3 (rw c.in-None.is at c.next.ensures.steps).0
 
 pub shape_of-out : goal.shape_of-out
-shape_of-out c = omega (arith, putting-length c.loop-k.invariant.put)
+shape_of-out c = omega (arith, rowing-length _ c.loop-line.invariant.3)
 
 pub returns : goal.returns
+unfolding items_text
 returns c =
-    pieces-last (piece-next _ _ (rowing-end c.loop-k.invariant c.loop-k-test.false) c.put_byte.ensures)
+    rowing-done _ c.loop-line.invariant.3 (rw c.in-None.is at c.next.ensures.steps).0 c.put_byte.ensures

@@ -1,16 +1,16 @@
--- `list_write::rows::put_items` meets its contract: the lines from k on are left to put.
-use borrow.Author.Rules.{rules}
-use native.Mathlib.Omega.{arith}
-use Prim.Native.Nat.{◌-◌}
-use lib.ListN.{length}
-use Rattle.json_quote.proofs.Putting.{putting-length}
-use Rattle.list_write.proofs.Arrays.{Rowing, rowing-first, rowing-separator, rowing-good, rowing-item}
-use Rattle.list_write.proofs.Arrays.{rowing-turn, rowing-end, line-past}
-use Rattle.list_write.proofs.Flats.{piece-fits, piece-next, pieces-last}
+-- The lines that are still to come are left to put.
+use mathlib.Core.Bool.{true}
+use mathlib.Core.Path.{◌≡◌}
+use Rattle.list_write.specs.Lines.{lines_of, all_good}
+use Rattle.list_write.specs.Texts.{row, element_text}
+use Rattle.list_write.specs.Facts.{lines_left}
+use Rattle.list_write.proofs.Arrays.{Rowing}
 use Rattle.list_write.proofs.rows.put_items.Given as goal
 
-abbrev pub invariant-loop-k : goal.invariant-loop-k
-invariant-loop-k l = Rowing l.url l.s l.initial.out l.at l.k l.out l.j
-
-abbrev pub decreases-loop-k : goal.decreases-loop-k
-decreases-loop-k l = length l.s - l.k
+abbrev pub invariant-loop-line : goal.invariant-loop-line
+invariant-loop-line l =
+    (goal.iterator-loop-line).can_next l.line-iterator
+    × (goal.iterator-loop-line).is_finite l.line-iterator
+    × (all_good l.fn.item (lines_left l.line-iterator) ≡ true)
+    × Rowing (element_text l.fn.item) (row (element_text l.fn.item) true (lines_of l.fn.s)) l.initial.out l.fn.at
+    (lines_left l.line-iterator) l.before l.out l.j

@@ -1,56 +1,30 @@
--- `list_write::sizing::items_room` meets its contract: room for the lines from k on is left to take.
+use mathlib.Core.Path.{◌≡◌}
 use borrow.Author.Rules.{rules}
-use native.Mathlib.Omega.{arith}
-use Prim.Native.Nat.{◌-◌}
-use lib.ListN.{length}
-use Rattle.list_write.proofs.Arrays.{Roomed, roomed-first, roomed-good, roomed-turn, roomed-last, line-past}
+use Rattle.list_write.specs.Texts.{element_text, items_text}
+use Rattle.list_write.proofs.Arrays.{roomed-first, roomed-turn, roomed-last}
+use Rattle.list_write.proofs.Feeds.{good-first}
 use Rattle.list_write.proofs.sizing.items_room.Goals as goal
 
-pub loop-k-init : goal.loop-k-init
-loop-k-init c = roomed-first _ _ _ c.requires
-
-pub overflow_sub-e : goal.overflow_sub-e
-overflow_sub-e c =
-    let a = c.args in
-    let h = line-past a.url a.s.now c.loop-k.k c.loop-k-test.true c.past_line-e.ensures in
-    search rules
-
-pub slice_bounds-item_room-count : goal.slice_bounds-item_room-count
-slice_bounds-item_room-count c =
-    let a = c.args in
-    let h = line-past a.url a.s.now c.loop-k.k c.loop-k-test.true c.past_line-e.ensures in
-    search rules
-
-pub slice_bounds-item_room-start : goal.slice_bounds-item_room-start
-slice_bounds-item_room-start c =
-    let a = c.args in
-    let h = line-past a.url a.s.now c.loop-k.k c.loop-k-test.true c.past_line-e.ensures in
-    search rules
-
-pub slice_bounds-item_room-end : goal.slice_bounds-item_room-end
-slice_bounds-item_room-end c =
-    let a = c.args in
-    let h = line-past a.url a.s.now c.loop-k.k c.loop-k-test.true c.past_line-e.ensures in
-    search rules
+pub loop-line-init : goal.loop-line-init
+loop-line-init c =
+    let e : c.into_iter-line-iterator.result.0.now ≡ c.args.s.now = search rules in
+    rw e (search rules, search rules, c.requires, roomed-first (element_text c.args.item) _ _)
 
 pub item_room-left-requires : goal.item_room-left-requires
 item_room-left-requires c =
-    let a = c.args in
-    roomed-good a.url a.s.now c.loop-k.k c.loop-k-test.true c.past_line-e.ensures
-    c.loop-k.invariant
+    rw c.line_text.ensures (good-first _ _ _ c.in-Some.ensures.steps c.loop-line.invariant.2).0
 
-pub loop-k-smaller : goal.loop-k-smaller
-loop-k-smaller c =
-    let a = c.args in
-    let h = line-past a.url a.s.now c.loop-k.k c.loop-k-test.true c.past_line-e.ensures in
-    omega (arith, h.0)
-
-pub loop-k-preserved : goal.loop-k-preserved
-loop-k-preserved c =
-    let a = c.args in
-    roomed-turn a.url a.s.now c.loop-k.k c.loop-k-test.true c.past_line-e.ensures
-    c.loop-k.invariant c.separator_size.ensures c.spend-more.ensures c.item_room-left.ensures
+pub loop-line-preserved : goal.loop-line-preserved
+unfolding element_text
+loop-line-preserved c = (
+  search rules,
+  search rules,
+  (good-first _ _ _ c.in-Some.ensures.steps c.loop-line.invariant.2).1,
+  roomed-turn _ c.loop-line.invariant.3 _ _ c.in-Some.ensures.steps c.spend.ensures
+      (rw c.line_text.ensures at c.item_room-left.ensures),
+)
 
 pub returns : goal.returns
+unfolding items_text
 returns c =
-    roomed-last _ _ c.loop-k.invariant c.loop-k-test.false c.spend.ensures
+    roomed-last _ c.loop-line.invariant.3 (rw c.in-None.is at c.next.ensures.steps).0 c.spend-2.ensures

@@ -1,13 +1,17 @@
--- `list_write::sizing::items_room` meets its contract: room for the lines from k on is left to take.
-use borrow.Author.Rules.{rules}
-use native.Mathlib.Omega.{arith}
-use Prim.Native.Nat.{◌-◌}
+-- Room for the lines that are still to come is left to take.
+use mathlib.Core.Bool.{true}
+use mathlib.Core.Path.{◌≡◌}
 use lib.ListN.{length}
-use Rattle.list_write.proofs.Arrays.{Roomed, roomed-first, roomed-good, roomed-turn, roomed-last, line-past}
+use Rattle.list_write.specs.Lines.{lines_of, all_good}
+use Rattle.list_write.specs.Texts.{row, element_text}
+use Rattle.list_write.specs.Facts.{lines_left}
+use Rattle.list_write.proofs.Arrays.{Roomed}
 use Rattle.list_write.proofs.sizing.items_room.Given as goal
 
-abbrev pub invariant-loop-k : goal.invariant-loop-k
-invariant-loop-k l = Roomed l.url l.s l.initial.left l.k l.left
-
-abbrev pub decreases-loop-k : goal.decreases-loop-k
-decreases-loop-k l = length l.s - l.k
+abbrev pub invariant-loop-line : goal.invariant-loop-line
+invariant-loop-line l =
+    (goal.iterator-loop-line).can_next l.line-iterator
+    × (goal.iterator-loop-line).is_finite l.line-iterator
+    × (all_good l.fn.item (lines_left l.line-iterator) ≡ true)
+    × Roomed (element_text l.fn.item) (length (row (element_text l.fn.item) true (lines_of l.fn.s))) l.fn.room
+    (lines_left l.line-iterator) l.before l.left

@@ -1,46 +1,34 @@
--- `list_write::whole::put_list` meets its contract.
 use borrow.Author.Rules.{rules}
-use Rattle.list_write.specs.Lent.{lent, givens}
+use Rattle.list_write.specs.Facts.{given_left}
 use Rattle.list_write.proofs.Answering.{list-first}
 use Rattle.list_write.proofs.Flats.{piece-fits, piece-next, pieces-last}
 use Rattle.list_write.proofs.whole.put_list.Goals as goal
 
 pub put_word-a-requires : goal.put_word-a-requires
 put_word-a-requires c =
-    let a = c.args in
-    let l = lent a.keys.now a.versions.now a.names.now a.name_lengths.now a.addresses.now
-    a.address_lengths.now in
-    let put0 = list-first (givens l) a.sources.now a.reports.now a.out.now
-    c.requires.reports_in_bounds in
+    let l = c.args.list in
+    let put0 = list-first (given_left l.servers) l.sources.now l.reports.now c.args.out.now c.requires.room in
     piece-fits _ _ put0
 
 pub put_servers-b-requires : goal.put_servers-b-requires
 put_servers-b-requires c =
-    let a = c.args in
-    let l = lent a.keys.now a.versions.now a.names.now a.name_lengths.now a.addresses.now
-    a.address_lengths.now in
-    let put0 = list-first (givens l) a.sources.now a.reports.now a.out.now
-    c.requires.reports_in_bounds in
-    let put1 = piece-next _ _ put0 c.put_word-a.ensures in record { address_lengths_value = c.requires.ready.whole; address_lengths_value_2 = c.requires.ready.servers; address_lengths_in_bounds = piece-fits _ _ put1 }
+    let l = c.args.list in
+    let put0 = list-first (given_left l.servers) l.sources.now l.reports.now c.args.out.now c.requires.room in
+    let put1 = piece-next _ _ put0 c.put_word-a.ensures in
+    record { good = c.requires.ready.servers; room = piece-fits _ _ put1 }
 
 pub put_sources-c-requires : goal.put_sources-c-requires
 put_sources-c-requires c =
-    let a = c.args in
-    let l = lent a.keys.now a.versions.now a.names.now a.name_lengths.now a.addresses.now
-    a.address_lengths.now in
-    let put0 = list-first (givens l) a.sources.now a.reports.now a.out.now
-    c.requires.reports_in_bounds in
+    let l = c.args.list in
+    let put0 = list-first (given_left l.servers) l.sources.now l.reports.now c.args.out.now c.requires.room in
     let put1 = piece-next _ _ put0 c.put_word-a.ensures in
     let put2 = piece-next _ _ put1 c.put_servers-b.ensures in
     (c.requires.ready.lines, piece-fits _ _ put2)
 
 pub put_reports-d-requires : goal.put_reports-d-requires
 put_reports-d-requires c =
-    let a = c.args in
-    let l = lent a.keys.now a.versions.now a.names.now a.name_lengths.now a.addresses.now
-    a.address_lengths.now in
-    let put0 = list-first (givens l) a.sources.now a.reports.now a.out.now
-    c.requires.reports_in_bounds in
+    let l = c.args.list in
+    let put0 = list-first (given_left l.servers) l.sources.now l.reports.now c.args.out.now c.requires.room in
     let put1 = piece-next _ _ put0 c.put_word-a.ensures in
     let put2 = piece-next _ _ put1 c.put_servers-b.ensures in
     let put3 = piece-next _ _ put2 c.put_sources-c.ensures in
@@ -48,11 +36,8 @@ put_reports-d-requires c =
 
 pub put_byte-requires : goal.put_byte-requires
 put_byte-requires c =
-    let a = c.args in
-    let l = lent a.keys.now a.versions.now a.names.now a.name_lengths.now a.addresses.now
-    a.address_lengths.now in
-    let put0 = list-first (givens l) a.sources.now a.reports.now a.out.now
-    c.requires.reports_in_bounds in
+    let l = c.args.list in
+    let put0 = list-first (given_left l.servers) l.sources.now l.reports.now c.args.out.now c.requires.room in
     let put1 = piece-next _ _ put0 c.put_word-a.ensures in
     let put2 = piece-next _ _ put1 c.put_servers-b.ensures in
     let put3 = piece-next _ _ put2 c.put_sources-c.ensures in
@@ -61,11 +46,8 @@ put_byte-requires c =
 
 pub returns : goal.returns
 returns c =
-    let a = c.args in
-    let l = lent a.keys.now a.versions.now a.names.now a.name_lengths.now a.addresses.now
-    a.address_lengths.now in
-    let put0 = list-first (givens l) a.sources.now a.reports.now a.out.now
-    c.requires.reports_in_bounds in
+    let l = c.args.list in
+    let put0 = list-first (given_left l.servers) l.sources.now l.reports.now c.args.out.now c.requires.room in
     let put1 = piece-next _ _ put0 c.put_word-a.ensures in
     let put2 = piece-next _ _ put1 c.put_servers-b.ensures in
     let put3 = piece-next _ _ put2 c.put_sources-c.ensures in

@@ -1,33 +1,28 @@
--- `octets::compare::all_zero` meets its contract. The loop keeps: what is left is all zeros exactly where the
--- whole is; and what is left after it is lent whole.
-use mathlib.Core.Path.{◌≡◌, refl, sym, ap, ◌∙◌}
-use Prim.Native.Nat.{◌≤◌, ◌-◌}
-use native.Mathlib.Omega.{arith}
-use lib.ListN.{length, drop, length-drop}
-use lib.Seq.{take_all}
-use Rattle.laws.specs.Zeros.{zeros}
-use Rattle.laws.proofs.Zeros.{zeros-skip, zeros-halt}
+-- `octets::compare::all_zero` meets its contract: what each of the two tests says, and then both.
+use Prim.Native.Nat.{◌*◌, ◌/◌}
+use lib.Dec.{eqb}
+use lib.ListN.{length, drop}
+use mathlib.Core.Path.{sym, ◌∙◌}
 use borrow.Author.Rules.{rules}
+use borrow.Author.Tests.{tests}
+use Rattle.std.specs.Simd.{first_chunks}
+use Rattle.std.proofs.lemmas.Iterator.{YieldsList-from_slice}
+use Rattle.std.proofs.lemmas.Iterator.Search.{all_from_yields_List}
+use Rattle.octets.proofs.Zeros.{none, tests_zeros}
 use Rattle.octets.proofs.compare.all_zero.Goals as goal
 
-pub returns-then-le64-ne0 : goal.returns-then-le64-ne0
-returns-then-le64-ne0 c =
-    let l = c.loop-i in
+pub returns-then-all : goal.returns-then-all
+returns-then-all c =
     let s = c.args.s.now in
-    sym (l.invariant.1 ∙ zeros-halt s l.i 8 (omega arith) (λ e. c.if-le64-ne0.true (c.le64.ensures ∙ e)))
+    let front = YieldsList-from_slice (first_chunks 8 (length s / 8) s) cc in
+    let back = YieldsList-from_slice (drop (length s / 8 * 8) s) cc in
+    let known = all_from_yields_List none _ _ _ c.all.ensures.ran front (λ x b q k. search (rules, tests)) in
+    all_from_yields_List (λ x. eqb x 0) _ _ _ c.all-then-all.ensures.ran back (λ x b q k. search (rules, tests))
+    ∙ tests_zeros s _ (sym c.if-all.true ∙ known)
 
-pub loop-i-preserved : goal.loop-i-preserved
-loop-i-preserved c =
-    let l = c.loop-i in
+pub returns-else-all : goal.returns-else-all
+returns-else-all c =
     let s = c.args.s.now in
-    (omega arith, l.invariant.1 ∙ zeros-skip s l.i 8 (omega arith) (sym c.le64.ensures ∙ c.if-le64-ne0.false))
-
-pub returns : goal.returns
-returns c =
-    let l = c.loop-i in
-    let s = c.args.s.now in
-    let rest = take_all (length s - l.i) (drop l.i s) (omega (arith, length-drop l.i s)) in
-    c.rest_zero.ensures ∙ ap zeros rest ∙ sym l.invariant.1
-
-pub loop-i-init : goal.loop-i-init
-loop-i-init c = (omega arith, refl)
+    let front = YieldsList-from_slice (first_chunks 8 (length s / 8) s) cc in
+    let known = all_from_yields_List none _ _ _ c.all.ensures.ran front (λ x b q k. search (rules, tests)) in
+    c.if-all.false ∙ tests_zeros s _ (sym c.if-all.false ∙ known)

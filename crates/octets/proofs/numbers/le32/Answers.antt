@@ -1,8 +1,7 @@
 -- `octets::numbers::le32` meets its contract.
-use native.Mathlib.Omega.{arith}
-use Rattle.laws.proofs.Numbers.{le_four}
-use borrow.Author.Rules.{rules}
+use mathlib.Core.Path.{◌∙◌}
+use Rattle.octets.proofs.InBytes.{le_4}
 use Rattle.octets.proofs.numbers.le32.Goals as goal
 
 pub returns : goal.returns
-returns c = rw le_four (omega arith)
+returns c = c.from_le_bytes.ensures ∙ le_4 _ _ _ c.copy.ensures

@@ -1,7 +1,6 @@
 -- `old_stamp::ends::high_end` meets its contract.
 use native.Mathlib.Omega.{arith}
 use Rattle.old_stamp.specs.Window.{high_at}
-use borrow.Author.Rules.{rules}
 use Rattle.old_stamp.proofs.ends.high_end.Goals as goal
 
 pub returns : goal.returns

@@ -8,17 +8,12 @@ use lib.Seq.{take_all}
 use Rattle.laws.specs.Zeros.{zeros}
 use Rattle.pile.specs.Layout.{AREA}
 use Rattle.pile.specs.Valid.{area_bad}
-use Rattle.laws.proofs.Rows.{hit-lt, past-lt, only}
-use borrow.Author.Rules.{rules}
+use Rattle.laws.proofs.Rows.{past-lt, only}
 use Rattle.pile.proofs.damage.area_bad.Goals as goal
 
-pub returns-then-n-gt-AREA : goal.returns-then-n-gt-AREA
+pub returns-else-n-gt-AREA : goal.returns-else-n-gt-AREA
 unfolding area_bad
-returns-then-n-gt-AREA c = hit-lt AREA c.args.n _ refl (omega arith)
-
-pub returns : goal.returns
-unfolding area_bad
-returns c =
+returns-else-n-gt-AREA c =
     let a = c.args in
     let l = drop a.n a.area.now in
     let rest = take_all (length a.area.now - a.n) l (omega (arith, length-drop a.n a.area.now)) in

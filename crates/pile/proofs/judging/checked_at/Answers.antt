@@ -1,8 +1,7 @@
 -- `pile::judging::checked_at` meets its contract.
-use borrow.Author.Rules.{rules}
 use Rattle.pile.proofs.judging.checked_at.Goals as goal
 
 pub returns : goal.returns
 returns c =
-    rw (c.record_at.ensures.0, c.said_yes-signature.ensures, c.said_yes-delegation.ensures)
+    rw (c.record_at-r.ensures, c.said_yes-signature.ensures, c.said_yes-delegation.ensures)
     at c.checked_on.ensures

@@ -1,7 +1,6 @@
 -- `pile::judging::judge` meets its contract.
 use Rattle.pile.proofs.Wholes.{judged-there}
 use Rattle.pile.proofs.Judges.{judge-nothing, judge-record}
-use borrow.Author.Rules.{rules}
 use Rattle.pile.proofs.judging.judge.Goals as goal
 
 pub returns-then-nothing_at : goal.returns-then-nothing_at

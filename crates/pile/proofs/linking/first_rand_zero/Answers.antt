@@ -4,7 +4,6 @@ use Rattle.laws.specs.Zeros.{zeros}
 use Rattle.pile.specs.Pile.{rand_in}
 use Rattle.pile.specs.Links.{first_rand_zero}
 use Rattle.pile.proofs.Wholes.{first-there}
-use borrow.Author.Rules.{rules}
 use Rattle.pile.proofs.linking.first_rand_zero.Goals as goal
 
 pub returns-then-length_bad : goal.returns-then-length_bad
@@ -17,7 +16,7 @@ record_at-r-requires c = first-there _ c.length_bad.ensures c.if-length_bad.fals
 pub returns : goal.returns
 unfolding first_rand_zero
 returns c =
-    let r = c.record_at-r.result.now in
+    let r = c.record_at-r.result.bytes.now in
     let e : c.all_zero.result ≡ zeros (rand_in r) =
-    c.all_zero.ensures ∙ ap zeros c.rand_of.ensures in
-    rw (sym c.length_bad.ensures ∙ c.if-length_bad.false, ← c.record_at-r.ensures.0) e
+    c.all_zero.ensures ∙ ap zeros c.rand.ensures in
+    rw (sym c.length_bad.ensures ∙ c.if-length_bad.false, ← c.record_at-r.ensures) e

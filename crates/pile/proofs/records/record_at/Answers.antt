@@ -1,12 +1,9 @@
 -- `pile::records::record_at` meets its contract.
 use native.Mathlib.Nat.{add-sub_cancel_left}
-use native.Mathlib.Omega.{arith}
-use lib.ListN.{length-take, length-drop}
 use Rattle.pile.specs.Pile.{record_at}
-use borrow.Author.Rules.{rules}
 use Rattle.pile.proofs.records.record_at.Goals as goal
 
 pub returns : goal.returns
 unfolding record_at
 returns c =
-    (rw add-sub_cancel_left, rw add-sub_cancel_left (simp (length-take, length-drop) (omega arith)))
+    rw add-sub_cancel_left

@@ -1,37 +1,35 @@
 -- `pile_report::checking::check_report` meets its contract. What is said of the arrays is said of the pile.
-use mathlib.Core.Path.{◌≡◌}
-use mathlib.Core.List.{List}
-use Prim.Native.Nat.{ℕ}
-use Rattle.laws.proofs.First.{quiet_of}
-use Rattle.refusal.specs.Refusal.{refusals}
-use Rattle.refusal.specs.declared.Refusal.{Refusal}
-use Rattle.pile.specs.Meaning.{GoodPile}
-use Rattle.pile.specs.Pile.{records_in, pile_code}
-use Rattle.pile.proofs.Exactly.{pile-exactly}
-use Rattle.pile_runs.specs.Convict.{verdict_in}
-use Rattle.pile_report.specs.Report.{judged, joined}
-use Rattle.pile_report.proofs.Says.{good-says, pile-bad}
-use Rattle.pile_report.proofs.Stopping.{says-until}
+use Prim.Native.Nat.{◌+◌, ◌*◌, ◌≤◌}
+use native.Mathlib.Omega.{arith}
+use borrow.Author.Rules.{rules}
+use lib.ListN.{length}
+use Rattle.pile.specs.Layout.{RECORD}
+use Rattle.pile_report.specs.Report.{judged}
+use Rattle.refusal.proofs.Passing.{error-is, error-refuses}
+use Rattle.pile_report.proofs.Says.{good-says, pile-bad, good_of}
+use Rattle.pile_report.proofs.Runs.{judged-told}
 use Rattle.pile_report.proofs.checking.check_report.Goals as goal
 
--- where code 15 does not apply
-good_of : (pile answers : List ℕ) {x : Refusal} → x ≡ pile_code pile answers → x.code ≡ 0 → GoodPile pile answers
-good_of pile answers e z = (pile-exactly pile answers).0 (quiet_of refusals e z)
+pub returns-in-Err : goal.returns-in-Err
+returns-in-Err c = pile-bad _ _ (error-is _ c.pile_code.ensures c.in-Err.is) (error-refuses _ c.pile_code.ensures c.in-Err.is)
 
-pub returns-then-bad-ne0 : goal.returns-then-bad-ne0
-returns-then-bad-ne0 c = pile-bad _ _ c.pile_code-bad.ensures c.if-bad-ne0.true
+pub said_by-requires-clause-most : goal.said_by-requires-clause-most
+said_by-requires-clause-most c =
+    (good_of c.args.pile.now c.args.answers.now c.pile_code.ensures c.in-Ok.is).pile-whole.to
 
-pub verdicts_of-verdicts-requires : goal.verdicts_of-verdicts-requires
-verdicts_of-verdicts-requires c = good_of _ _ c.pile_code-bad.ensures c.if-bad-ne0.false
-
-pub said_of-requires : goal.said_of-requires
-said_of-requires c =
-    (good_of c.args.pile.now c.args.answers.now c.pile_code-bad.ensures c.if-bad-ne0.false).pile-whole.to
-
-pub returns : goal.returns
-returns c =
+pub said_by-requires-clause-callable : goal.said_by-requires-clause-callable
+said_by-requires-clause-callable c = λ k h.
     let p = c.args.pile.now in
     let a = c.args.answers.now in
-    good-says p a (good_of p a c.pile_code-bad.ensures c.if-bad-ne0.false) c.said_of.result
-    (says-until (verdict_in c.verdicts_of-verdicts.result) (judged p a) (joined p) (records_in p)
-    c.verdicts_of-verdicts.ensures.early c.said_of.result c.said_of.ensures)
+    let good = good_of p a c.pile_code.ensures c.in-Ok.is in
+    let there : RECORD * k + RECORD ≤ length p = omega (arith, good.pile-whole.exact) in
+    let answered : 2 * k + 2 ≤ length a = omega (arith, good.two) in
+    search rules
+
+pub returns-in-Ok : goal.returns-in-Ok
+returns-in-Ok c =
+    let p = c.args.pile.now in
+    let a = c.args.answers.now in
+    let good = good_of p a c.pile_code.ensures c.in-Ok.is in
+    good-says p a good c.said_by.result
+    (c.said_by.ensures (judged p a) (λ k h r e. judged-told p a good k h (search rules)))

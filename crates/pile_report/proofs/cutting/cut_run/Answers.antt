@@ -1,46 +1,42 @@
 -- `pile_report::cutting::cut_run` meets its contract. Each return knows which tests led to it.
 use mathlib.Core.Path.{◌≡◌}
-use mathlib.Core.List.{List}
-use Prim.Native.Nat.{ℕ}
-use native.Mathlib.Omega.{arith}
-use Rattle.laws.proofs.First.{quiet_of}
 use Rattle.laws.proofs.Written.{written-whole}
-use Rattle.refusal.specs.Refusal.{refusals}
-use Rattle.refusal.specs.declared.Refusal.{Refusal}
-use Rattle.pile.specs.Meaning.{GoodPile}
-use Rattle.pile.specs.Pile.{pile_code}
-use Rattle.pile.proofs.Exactly.{pile-exactly}
 use Rattle.pile_report.specs.Taking.{code-19, code-18}
+use Rattle.std.specs.Prelude.{Err}
+use Rattle.refusal.proofs.Passing.{error-is, error-refuses}
+use Rattle.pile_report.proofs.Says.{good_of}
+use borrow.Author.Rules.{rules}
 use Rattle.pile_report.proofs.Runs.{cut-bad}
 use Rattle.pile_report.proofs.cutting.cut_run.Goals as goal
 
--- where code 15 does not apply
-good_of : (pile answers : List ℕ) {x : Refusal} → x ≡ pile_code pile answers → x.code ≡ 0 → GoodPile pile answers
-good_of pile answers e z = (pile-exactly pile answers).0 (quiet_of refusals e z)
+pub returns-in_err-pile_code-clause-takes : goal.returns-in_err-pile_code-clause-takes
+returns-in_err-pile_code-clause-takes c =
+    let e = c.in_err-pile_code.field-0.0 in
+    let told : c.pile_code.result ≡ Err e = search rules in
+    let handed : c.from_residual.result ≡ Err e = search rules in
+    let why = error-is _ c.pile_code.ensures told in
+    rw handed (cut-bad _ _ _ c.args.out.now why (error-refuses _ c.pile_code.ensures told)).0
 
-pub returns-then-bad-ne0-clause-takes : goal.returns-then-bad-ne0-clause-takes
-returns-then-bad-ne0-clause-takes c = (cut-bad _ _ _ c.args.out.now c.pile_code-bad.ensures c.if-bad-ne0.true).0
-
-pub returns-then-short-clause-takes : goal.returns-then-short-clause-takes
-returns-then-short-clause-takes c =
+pub returns-then-out-pile-clause-takes : goal.returns-then-out-pile-clause-takes
+returns-then-out-pile-clause-takes c =
     rw c.refuse.ensures
-    (code-19 (good_of _ _ c.pile_code-bad.ensures c.if-bad-ne0.false) c.if-short.true)
+    (code-19 (good_of _ _ c.pile_code.ensures (search rules)) c.if-out-pile.true)
 
 pub run_in-requires : goal.run_in-requires
-run_in-requires c = good_of _ _ c.pile_code-bad.ensures c.if-bad-ne0.false
+run_in-requires c = good_of _ _ c.pile_code.ensures (search rules)
 
-pub returns-in-Nothing-clause-takes : goal.returns-in-Nothing-clause-takes
-returns-in-Nothing-clause-takes c =
-    rw c.refuse-in-Nothing.ensures
-    (code-18 (good_of _ _ c.pile_code-bad.ensures c.if-bad-ne0.false) c.if-short.false
-    c.in-Nothing.ensures)
+pub returns-in-None-clause-takes : goal.returns-in-None-clause-takes
+returns-in-None-clause-takes c =
+    rw c.refuse-in-None.ensures
+    (code-18 (good_of _ _ c.pile_code.ensures (search rules)) c.if-out-pile.false
+    c.in-None.ensures)
 
-pub returns-in-Places-clause-takes : goal.returns-in-Places-clause-takes
-returns-in-Places-clause-takes c = (
-  good_of _ _ c.pile_code-bad.ensures c.if-bad-ne0.false,
-  c.if-short.false,
-  c.in-Places.ensures,
+pub returns-in-Some-clause-takes : goal.returns-in-Some-clause-takes
+returns-in-Some-clause-takes c = (
+  good_of _ _ c.pile_code.ensures (search rules),
+  c.if-out-pile.false,
+  c.in-Some.ensures,
 )
 
-pub returns-in-Places-clause-out_after : goal.returns-in-Places-clause-out_after
-returns-in-Places-clause-out_after c = written-whole c.put_run.ensures
+pub returns-in-Some-clause-out_after : goal.returns-in-Some-clause-out_after
+returns-in-Some-clause-out_after c = written-whole c.put_run.ensures

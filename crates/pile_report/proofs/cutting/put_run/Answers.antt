@@ -7,7 +7,6 @@ use Rattle.laws.specs.Pasted.{part}
 use Rattle.laws.proofs.Pasted.{length_part}
 use Rattle.laws.proofs.Written.{puts_one, puts-over}
 use Rattle.pile_report.specs.Taking.{run_bytes}
-use borrow.Author.Rules.{rules}
 use Rattle.pile_report.proofs.cutting.put_run.Goals as goal
 
 pub returns : goal.returns

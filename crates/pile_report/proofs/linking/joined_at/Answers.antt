@@ -1,7 +1,6 @@
 -- `pile_report::linking::joined_at` meets its contract. The first record by its rand, every other by its link.
 use borrow.Author.Tests.{eq-eqb, ne_eqb}
 use Rattle.pile_report.specs.Report.{joined}
-use borrow.Author.Rules.{rules}
 use Rattle.pile_report.proofs.linking.joined_at.Goals as goal
 
 pub returns-then-k-eq0 : goal.returns-then-k-eq0

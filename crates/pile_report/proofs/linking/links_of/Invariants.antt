@@ -1,15 +1,10 @@
 -- `pile_report::linking::links_of` meets its contract. Each place passed holds its link; the first record has none.
-use mathlib.Core.Path.{◌≡◌, refl}
-use mathlib.Core.Bool.{false}
+use mathlib.Core.Path.{◌≡◌}
 use Prim.Native.Nat.{ℕ, ◌-◌, ◌≤◌, ◌<◌}
-use native.Mathlib.Omega.{arith}
-use lib.ListN.{length, length-set}
-use borrow.Author.Tests.{ne_eqb}
-use Rattle.laws.proofs.Fill.{fill-next}
+use lib.ListN.{length}
 use Rattle.pile.specs.Links.{linked_of}
 use Rattle.pile_runs.specs.Convict.{verdict_in, flag_in}
 use Rattle.pile_report.specs.Promises.{between}
-use borrow.Author.Rules.{rules}
 use Rattle.pile_report.proofs.linking.links_of.Given as goal
 
 abbrev pub invariant-loop-k : goal.invariant-loop-k

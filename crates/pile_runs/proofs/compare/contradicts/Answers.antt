@@ -5,7 +5,6 @@ use mathlib.Core.Path.{sym}
 use native.Mathlib.Omega.{arith}
 use borrow.Author.Tests.{le-ltb}
 use Rattle.pile_runs.proofs.Told.{ltb-same}
-use borrow.Author.Rules.{rules}
 use Rattle.pile_runs.proofs.compare.contradicts.Goals as goal
 
 pub returns-then-midp-later_midp : goal.returns-then-midp-later_midp

@@ -1,7 +1,7 @@
 -- `pile_signed::cutting::cut_signed_run` meets its contract. Each return knows which tests led to it.
 use Prim.Native.Nat.{ℕ}
 use mathlib.Core.Path.{◌≡◌, sym, ◌∙◌}
-use mathlib.Core.Bool.{Bool, true, false, true≢false}
+use mathlib.Core.Bool.{Bool, false, true≢false}
 use mathlib.Core.List.{List}
 use Rattle.laws.proofs.Written.{written-whole}
 use Rattle.pile.specs.Pile.{length_bad}
@@ -32,14 +32,14 @@ returns-then-short-clause-takes c =
 pub signed_run-requires : goal.signed_run-requires
 signed_run-requires c = whole_of _ c.length_bad-bad.ensures c.if-bad.false
 
-pub returns-in-Nothing-clause-takes : goal.returns-in-Nothing-clause-takes
-returns-in-Nothing-clause-takes c =
-    rw c.refuse-in-Nothing.ensures
-    (code-18 (good_of _ c.length_bad-bad.ensures c.if-bad.false) c.if-short.false c.in-Nothing.ensures)
+pub returns-in-None-clause-takes : goal.returns-in-None-clause-takes
+returns-in-None-clause-takes c =
+    rw c.refuse-in-None.ensures
+    (code-18 (good_of _ c.length_bad-bad.ensures c.if-bad.false) c.if-short.false c.in-None.ensures)
 
-pub returns-in-Places-clause-takes : goal.returns-in-Places-clause-takes
-returns-in-Places-clause-takes c =
-    (good_of _ c.length_bad-bad.ensures c.if-bad.false, c.if-short.false, c.in-Places.ensures)
+pub returns-in-Some-clause-takes : goal.returns-in-Some-clause-takes
+returns-in-Some-clause-takes c =
+    (good_of _ c.length_bad-bad.ensures c.if-bad.false, c.if-short.false, c.in-Some.ensures)
 
-pub returns-in-Places-clause-out_after : goal.returns-in-Places-clause-out_after
-returns-in-Places-clause-out_after c = written-whole c.put_run.ensures
+pub returns-in-Some-clause-out_after : goal.returns-in-Some-clause-out_after
+returns-in-Some-clause-out_after c = written-whole c.put_run.ensures

@@ -1,7 +1,6 @@
 -- `pile_signed::judging::judge_signed` meets its contract.
 use Rattle.pile.proofs.Wholes.{judged-there}
 use Rattle.pile.proofs.Judges.{judge-nothing, judge-record}
-use borrow.Author.Rules.{rules}
 use Rattle.pile_signed.proofs.judging.judge_signed.Goals as goal
 
 pub returns-then-nothing_at : goal.returns-then-nothing_at

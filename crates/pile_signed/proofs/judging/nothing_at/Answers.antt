@@ -3,7 +3,6 @@
 use Rattle.laws.proofs.Rows.{row}
 use Rattle.pile.specs.Valid.{nothing_at}
 use Rattle.pile_signed.proofs.Own.{own-bad-exactly}
-use borrow.Author.Rules.{rules}
 use Rattle.pile_signed.proofs.judging.nothing_at.Goals as goal
 
 pub returns-then-length_bad : goal.returns-then-length_bad

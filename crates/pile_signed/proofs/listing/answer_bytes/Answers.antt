@@ -1,14 +1,13 @@
 -- `pile_signed::listing::answer_bytes` meets its contract. The answers of the records passed stand in their places.
 use mathlib.Core.Path.{◌≡◌, refl, sym, ap, ◌∙◌}
 use mathlib.Core.List.{List}
-use Prim.Native.Nat.{ℕ, ◌+◌, ◌-◌, ◌*◌, ◌≤◌, ◌<◌}
+use Prim.Native.Nat.{ℕ, ◌+◌, ◌*◌, ◌≤◌, ◌<◌}
 use native.Mathlib.Omega.{arith}
 use lib.ListN.{length, get_or, set, length-set}
 use Rattle.laws.proofs.Fill.{fill-next}
 use Rattle.pile_signed.specs.OwnAnswers.{delegated_at, responded_at, answer_byte}
 use Rattle.check_signatures.specs.declared.Verified.{Verified}
 use Rattle.pile_signed.proofs.Own.{own_answer, own-delegation, own-response, own-front}
-use borrow.Author.Rules.{rules}
 use Rattle.pile_signed.proofs.listing.answer_bytes.Goals as goal
 
 -- one record more: its two answers are put behind those of the records before it
@@ -24,11 +23,8 @@ pair-next pile bytes k d s h old e f i l =
 pub loop-k-init : goal.loop-k-init
 loop-k-init c = (omega arith, refl, λ i l. absurd (omega arith))
 
-pub record_at-requires : goal.record_at-requires
-record_at-requires c = omega (arith, c.requires.exact)
-
-pub answers_in-a-requires : goal.answers_in-a-requires
-answers_in-a-requires c = c.record_at.ensures.1
+pub record_at-r-requires : goal.record_at-r-requires
+record_at-r-requires c = omega (arith, c.requires.exact)
 
 pub bounds-bytes-k : goal.bounds-bytes-k
 bounds-bytes-k c = omega (arith, c.requires.to)
@@ -51,7 +47,7 @@ loop-k-preserved c =
     let p = c.args.pile.now in
     let k = loop.k in
     let a : c.answers_in-a.result ≡ record { delegation = delegated_at p k; signature = responded_at p k } =
-    rw c.record_at.ensures.0 at c.answers_in-a.ensures in (
+    rw c.record_at-r.ensures at c.answers_in-a.ensures in (
       omega arith,
       simp length-set loop.invariant.1,
       pair-next p loop.bytes k c.answer_byte.result c.answer_byte-in-loop-k.result

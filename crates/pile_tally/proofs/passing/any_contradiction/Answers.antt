@@ -1,34 +1,28 @@
--- `pile_tally::passing::any_contradiction` meets its contract. No two of the records before record k contradict, and
+-- `pile_tally::passing::any_contradiction` meets its contract. No two of the records before this one contradict, and
 -- the state is what is kept of them.
-use Prim.Native.Nat.{◌-◌, ◌≤◌}
+use mathlib.Core.Path.{ap, ◌∙◌}
 use native.Mathlib.Omega.{arith}
-use Rattle.pile_runs.specs.Convict.{verdict_in}
-use Rattle.pile_tally.proofs.Turns.{Quiet, begin, caught, quiet-on, quiet-end}
-use borrow.Author.Rules.{rules}
+use Rattle.pile_runs.proofs.Past.{reads}
+use Rattle.pile_tally.specs.Kept.{tallied}
+use Rattle.pile_tally.proofs.Turns.{begin, caught, quiet-on, quiet-end}
 use Rattle.pile_tally.proofs.passing.any_contradiction.Goals as goal
 
-pub loop-k-init : goal.loop-k-init
-loop-k-init c = (omega arith, begin _ c.start-tally.ensures)
+pub loop-verdict-init : goal.loop-verdict-init
+loop-verdict-init c = (omega arith, begin _ c.start-tally.ensures)
 
 pub returns-then-next : goal.returns-then-next
 returns-then-next c =
-    caught c.loop-k.invariant.1 c.take_verdict-next.result c.take_verdict-next.ensures _
-    (rw (← c.capped-m.ensures) (omega arith)) c.if-next.true
+    let loop = c.loop-verdict in
+    let here = reads c.args.verdicts.now loop.verdict-index _ (omega arith) in
+    let next = c.take_verdict-next.ensures ∙ ap (tallied loop.tally) here in
+    caught loop.invariant.1 c.take_verdict-next.result next _ (omega arith) c.if-next.true
 
-pub loop-k-preserved : goal.loop-k-preserved
-loop-k-preserved c = (
-  omega arith,
-  quiet-on c.loop-k.invariant.1 c.take_verdict-next.result c.take_verdict-next.ensures
-      c.if-next.false,
-)
+pub loop-verdict-preserved : goal.loop-verdict-preserved
+loop-verdict-preserved c =
+    let loop = c.loop-verdict in
+    let here = reads c.args.verdicts.now loop.verdict-index _ (omega arith) in
+    let next = c.take_verdict-next.ensures ∙ ap (tallied loop.tally) here in
+    (omega arith, quiet-on loop.invariant.1 c.take_verdict-next.result next c.if-next.false)
 
 pub returns : goal.returns
-returns c =
-    let capped = c.capped-m.ensures in
-    quiet-end c.loop-k.invariant.1 _ (rw (← capped) c.loop-k.invariant.0) (rw (← capped) c.loop-k-test.false)
-
-pub offset_bounds-verdicts-k : goal.offset_bounds-verdicts-k
-offset_bounds-verdicts-k c = omega arith
-
-pub bounds-verdicts-k : goal.bounds-verdicts-k
-bounds-verdicts-k c = omega arith
+returns c = let loop = c.loop-verdict in quiet-end loop.invariant.1 _ loop.invariant.0 (omega arith)

@@ -41,8 +41,8 @@ returns c =
     let m = c.members-m.ensures in
     entry-fine _ _ _ _ refl (sym c.byte-b.ensures ∙ c.if-b-ne123.false)
     m.a_value m.b_value m.c_value m.d_value
-    (rw c.in-Past-rand_part.is at c.rand_part.ensures)
-    (rw c.in-Past-part_32.is at c.part_32.ensures)
-    (rw c.in-Text.is at c.part.ensures)
-    (rw c.in-Text-part.is at c.part-2.ensures)
-    m.end_value c.in-Past.is
+    (rw c.in-Some-rand_part.is at c.rand_part.ensures)
+    (rw c.in-Some-part_32.is at c.part_32.ensures)
+    (rw c.in-Some-part.is at c.part.ensures)
+    (rw c.in-Some-part-2.is at c.part-2.ensures)
+    m.end_value c.in-Some.is

@@ -4,11 +4,11 @@ use Rattle.report_read.proofs.entries.part_32.Goals as goal
 
 pub returns-then-n-eq32 : goal.returns-then-n-eq32
 returns-then-n-eq32 c =
-    exact-32 (rw c.in-Text.is at c.part.ensures) c.if-n-eq32.true
+    exact-32 (rw c.in-Some.is at c.part.ensures) c.if-n-eq32.true
 
 pub returns-else-n-eq32 : goal.returns-else-n-eq32
 returns-else-n-eq32 c =
-    exact-other (rw c.in-Text.is at c.part.ensures) c.if-n-eq32.false
+    exact-other (rw c.in-Some.is at c.part.ensures) c.if-n-eq32.false
 
-pub returns-in-Else : goal.returns-in-Else
-returns-in-Else c = exact_none _ _ (rw c.in-Else.is at c.part.ensures)
+pub returns-in-None : goal.returns-in-None
+returns-in-None c = exact_none _ _ (rw c.in-None.is at c.part.ensures)

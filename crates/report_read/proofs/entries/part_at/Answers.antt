@@ -12,12 +12,12 @@ overflow_add-v c = search (picks, rules)
 pub overflow_add-result : goal.overflow_add-result
 overflow_add-result c = search (picks, rules)
 
-pub returns-in-Of : goal.returns-in-Of
-returns-in-Of c =
+pub returns-in-Some : goal.returns-in-Some
+returns-in-Some c =
     part-good _ _ c.byte-b.ensures
-    c.if-b-ne34.false c.size_of.ensures c.in-Of.is
+    c.if-b-ne34.false c.size_of.ensures c.in-Some.is
 
-pub returns-in-Bad : goal.returns-in-Bad
-returns-in-Bad c =
+pub returns-in-None : goal.returns-in-None
+returns-in-None c =
     part-bad _ _ c.byte-b.ensures c.if-b-ne34.false
-    c.size_of.ensures c.in-Bad.is
+    c.size_of.ensures c.in-None.is

@@ -22,35 +22,35 @@ loop-e-init c =
 
 pub returns-in_default : goal.returns-in_default
 returns-in_default c =
-    rw c.none.ensures (listing-unfit c.loop-e.invariant
+    (listing-unfit c.loop-e.invariant
     (rw c.in_default.is at c.entry.ensures))
 
 pub overflow_add-n : goal.overflow_add-n
 overflow_add-n c =
     let l = c.loop-e.invariant in
-    let i = listing-inside l (rw c.in-Good.is at c.entry.ensures) in
+    let i = listing-inside l (rw c.in-Some.is at c.entry.ensures) in
     let m = l.low in
     search rules
 
 pub loop-e-smaller : goal.loop-e-smaller
 loop-e-smaller c =
-    listing-less c.loop-e.invariant (rw c.in-Good.is at c.entry.ensures)
+    listing-less c.loop-e.invariant (rw c.in-Some.is at c.entry.ensures)
     c.after_item.ensures c.in-More.is
 
 pub loop-e-preserved : goal.loop-e-preserved
 loop-e-preserved c =
-    listing-more c.loop-e.invariant (rw c.in-Good.is at c.entry.ensures)
+    listing-more c.loop-e.invariant (rw c.in-Some.is at c.entry.ensures)
     c.after_item.ensures c.is_big-big.ensures (elim c.if-n-lt16.branch [ then-n-lt16 w ↦ stored-early _ _ _ w.if-n-lt16.true w.spots-is | else-n-lt16 w ↦ stored-late _ _ _ w.if-n-lt16.false w.spots-is ])
     c.in-More.is
 
 pub returns-in-End : goal.returns-in-End
 returns-in-End c =
-    listing-end c.loop-e.invariant (rw c.in-Good.is at c.entry.ensures)
+    listing-end c.loop-e.invariant (rw c.in-Some.is at c.entry.ensures)
     c.after_item.ensures c.is_big-big.ensures (elim c.if-n-lt16.branch [ then-n-lt16 w ↦ stored-early _ _ _ w.if-n-lt16.true w.spots-is | else-n-lt16 w ↦ stored-late _ _ _ w.if-n-lt16.false w.spots-is ]) _
     c.in-End.is refl refl refl
 
 pub returns-in-Wrong : goal.returns-in-Wrong
 returns-in-Wrong c =
-    rw c.none-in-Wrong.ensures (listing-wrong c.loop-e.invariant
-    (rw c.in-Good.is at c.entry.ensures) c.after_item.ensures
+    (listing-wrong c.loop-e.invariant
+    (rw c.in-Some.is at c.entry.ensures) c.after_item.ensures
     c.in-Wrong.is)

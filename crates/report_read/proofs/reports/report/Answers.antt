@@ -5,7 +5,7 @@ use Rattle.report_read.proofs.reports.report.Goals as goal
 
 pub returns-then-b-ne123 : goal.returns-then-b-ne123
 returns-then-b-ne123 c =
-    rw c.none.ensures (unread-brace c.args.s.now c.blanks-root.ensures
+    (unread-brace c.args.s.now c.blanks-root.ensures
     c.byte-b.ensures c.if-b-ne123.true)
 
 pub overflow_add-root : goal.overflow_add-root
@@ -13,12 +13,12 @@ overflow_add-root c = search (picks, rules)
 
 pub returns-then-a-eq125 : goal.returns-then-a-eq125
 returns-then-a-eq125 c =
-    rw c.none-then-a-eq125.ensures (unread-none c.args.s.now c.blanks-root.ensures
+    (unread-none c.args.s.now c.blanks-root.ensures
     c.blanks-first.ensures c.byte-a.ensures c.if-a-eq125.true)
 
 pub returns-in_default : goal.returns-in_default
 returns-in_default c =
-    rw c.none-in_default.ensures (unread-sought c.args.s.now c.blanks-root.ensures
+    (unread-sought c.args.s.now c.blanks-root.ensures
     c.byte-b.ensures c.if-b-ne123.false c.blanks-first.ensures c.byte-a.ensures
     c.if-a-eq125.false (rw c.in_default.is at c.seek.ensures))
 
@@ -26,7 +26,7 @@ pub report_at-requires : goal.report_at-requires
 report_at-requires c =
     opened c.args.s.now c.blanks-root.ensures c.byte-b.ensures
     c.if-b-ne123.false c.blanks-first.ensures c.byte-a.ensures c.if-a-eq125.false
-    (rw c.in-Past.is at c.seek.ensures)
+    (rw c.in-Some.is at c.seek.ensures)
 
 pub returns : goal.returns
 returns c = c.report_at.ensures

@@ -9,19 +9,19 @@ pub put_report-requires : goal.put_report-requires
 put_report-requires c =
     let a = c.args in
     pair-writable a.pile.now (own_answers a.pile.now)
-    c.check_signed_report.ensures c.in-Pair.is
+    c.check_signed_report.ensures c.in-Ok.is
 
-pub returns-in-Pair : goal.returns-in-Pair
-returns-in-Pair c =
+pub returns-in-Ok : goal.returns-in-Ok
+returns-in-Ok c =
     let a = c.args in
     let h = c.check_signed_report.ensures in
     let p = c.put_report.ensures in record {
       publishes = publishes-by a.pile.now (own_answers a.pile.now) h _
-          c.in-Pair.is p.value;
+          c.in-Ok.is p.value;
       out_after = pair_left a.pile.now a.out.now p.value p.out_after;
     }
 
-pub returns-in-Refused : goal.returns-in-Refused
-returns-in-Refused c =
+pub returns-in-Err : goal.returns-in-Err
+returns-in-Err c =
     let a = c.args in
-    let h = c.check_signed_report.ensures in record { publishes = publishes-by a.pile.now (own_answers a.pile.now) h _ c.in-Refused.is refl; out_after = refused-left c.in-Refused.why a.out.now }
+    let h = c.check_signed_report.ensures in record { publishes = publishes-by a.pile.now (own_answers a.pile.now) h _ c.in-Err.is refl; out_after = refused-left c.in-Err.why a.out.now }

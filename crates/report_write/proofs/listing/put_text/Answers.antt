@@ -1,6 +1,5 @@
 -- `report_write::listing::put_text` meets its contract: the list follows the opening.
 use borrow.Author.Rules.{rules}
-use native.Mathlib.Omega.{arith}
 use Rattle.report_write.proofs.Lists.{text-fits, list-fits, text-done}
 use Rattle.report_write.proofs.listing.put_text.Goals as goal
 

@@ -2,10 +2,9 @@
 use borrow.Author.Rules.{rules}
 use native.Mathlib.Omega.{arith}
 use Prim.Native.Nat.{◌+◌, ◌*◌, ◌/◌, ◌≤◌}
-use mathlib.Core.Path.{◌≡◌, sym}
+use mathlib.Core.Path.{sym}
 use lib.ListN.{length}
 use Rattle.laws.proofs.Pasted.{length_part}
-use Rattle.base64_strict.specs.Encode.{encode64}
 use Rattle.base64_strict.proofs.Encodes.{encode-length}
 use Rattle.report_write.proofs.Puts.{code-back}
 use Rattle.report_write.proofs.pieces.put_code.Goals as goal

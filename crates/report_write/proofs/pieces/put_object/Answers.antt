@@ -1,7 +1,6 @@
 -- `report_write::pieces::put_object` meets its contract: the packets follow the head, and two bytes the packets.
 use borrow.Author.Rules.{rules}
 use native.Mathlib.Omega.{arith}
-use Prim.Native.Nat.{◌+◌}
 use mathlib.Core.Path.{refl}
 use mathlib.Core.List.{[], ◌∷◌, ◌++◌}
 use Rattle.laws.proofs.Written.{puts-more, puts-put}
@@ -14,16 +13,16 @@ pub put_head-h-requires : goal.put_head-h-requires
 unfolding object_text
 put_head-h-requires c =
     let a = c.args in
-    let e = entry_of a.r.now in
+    let e = entry_of a.r.now.bytes.now in
     let l =
     left-fits a.at (head_of a.first e ++ packets_of e) (34 ∷ 125 ∷ []) c.requires.1 in
-    (c.requires.0.long, left-fits a.at (head_of a.first e) (packets_of e) l)
+    left-fits a.at (head_of a.first e) (packets_of e) l
 
 pub put_packets-k-requires : goal.put_packets-k-requires
 unfolding object_text
 put_packets-k-requires c =
     let a = c.args in
-    let e = entry_of a.r.now in
+    let e = entry_of a.r.now.bytes.now in
     let l =
     left-fits a.at (head_of a.first e
     ++ packets_of e) (34 ∷ 125 ∷ []) c.requires.1 in (
@@ -35,7 +34,7 @@ pub put-requires : goal.put-requires
 unfolding object_text
 put-requires c =
     let a = c.args in
-    let e = entry_of a.r.now in
+    let e = entry_of a.r.now.bytes.now in
     let p =
     puts-more c.put_head-h.ensures
     c.put_packets-k.ensures in
@@ -48,7 +47,7 @@ unfolding object_text
 overflow_add-result c =
     let a =
     c.args in
-    let e = entry_of a.r.now in
+    let e = entry_of a.r.now.bytes.now in
     let p =
     puts-more
     c.put_head-h.ensures
@@ -64,7 +63,7 @@ unfolding object_text
 returns c =
     let a =
     c.args in
-    let e = entry_of a.r.now in
+    let e = entry_of a.r.now.bytes.now in
     let p =
     puts-more
     c.put_head-h.ensures

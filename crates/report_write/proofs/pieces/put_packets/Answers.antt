@@ -1,35 +1,31 @@
 -- `report_write::pieces::put_packets` meets its contract.
-use borrow.Author.Rules.{rules}
-use native.Mathlib.Omega.{arith}
 use Rattle.report_write.proofs.Heads.{packets-left, packets-right, packets-done}
 use Rattle.report_write.proofs.pieces.put_packets.Goals as goal
 
-pub request_of-requires : goal.request_of-requires
-request_of-requires c = let f = c.requires.0 in (f.long, f.request)
+pub request-requires : goal.request-requires
+request-requires c = c.requires.0.request
 
 pub put_piece-k-requires : goal.put_piece-k-requires
 put_piece-k-requires c =
     let a = c.args in
-    packets-left a.r.now a.at c.request_of.ensures c.requires.1
+    packets-left a.r.now.bytes.now a.at c.request.ensures c.requires.1
 
-pub response_of-requires : goal.response_of-requires
-response_of-requires c =
-    let f = c.requires.0 in
-    (f.long, f.response)
+pub response-requires : goal.response-requires
+response-requires c = c.requires.0.response
 
 pub put_piece-requires : goal.put_piece-requires
 put_piece-requires c =
     let a = c.args in
-    packets-right a.r.now a.at c.request_of.ensures
-    c.response_of.ensures c.put_piece-k.ensures
+    packets-right a.r.now.bytes.now a.at c.request.ensures
+    c.response.ensures c.put_piece-k.ensures
     c.requires.1
 
 pub returns : goal.returns
 returns c =
     let a =
     c.args in
-    packets-done a.r.now a.at
-    c.request_of.ensures
-    c.response_of.ensures
+    packets-done a.r.now.bytes.now a.at
+    c.request.ensures
+    c.response.ensures
     c.put_piece-k.ensures
     c.put_piece.ensures

@@ -1,6 +1,4 @@
 -- `report_write::pieces::put_piece` meets its contract: base64 follows the word.
-use borrow.Author.Rules.{rules}
-use native.Mathlib.Omega.{arith}
 use Prim.Native.Nat.{◌+◌}
 use mathlib.Core.Path.{refl}
 use lib.ListN.{length}

@@ -1,5 +1,4 @@
 -- `report_write::publishing::put_report` meets its contract.
-use borrow.Author.Rules.{rules}
 use native.Mathlib.Omega.{arith}
 use Rattle.report_write.specs.Entries.{text_of}
 use Rattle.report_write.proofs.Piles.{report-short, report-done}

@@ -1,6 +1,6 @@
 -- `server_batch::batch::answer_all` meets its contract. What is known on the way stands in Finished, and what is left
 -- in Ended.
-use mathlib.Core.Path.{◌≡◌, sym, ap, ◌∙◌}
+use mathlib.Core.Path.{sym, ap, ◌∙◌}
 use Prim.Native.Nat.{ℕ, ◌+◌, ◌*◌}
 use native.Mathlib.Omega.{arith}
 use lib.ListN.{length}
@@ -10,6 +10,7 @@ use Rattle.tree.specs.Tree.{depth_of}
 use Rattle.tree_build.proofs.Depths.{depth-holds}
 use Rattle.server_batch.specs.Batch.{batch}
 use Rattle.server_batch.proofs.Ended.{ended-none, ended_some}
+use Rattle.server_batch.proofs.Depths.{depth-fits}
 use Rattle.server_batch.proofs.Finished.{held, same, long, counted, longest-is, can-serve, some-short}
 use Rattle.server_batch.proofs.batch.answer_all.Goals as goal
 
@@ -17,54 +18,56 @@ pub shortest-least-requires : goal.shortest-least-requires
 shortest-least-requires c =
     let a = c.args in
     let s = c.requires in
-    let b = batch a.packets.now a.slot a.lengths.now a.srv in (
+    let b = batch a.packets.slots.now a.packets.slot a.packets.lengths.now a.service.now.srv in (
       s.0,
       s.1,
       long b _ _ _ s.1 s.2 c.mark.ensures,
-      omega (arith, s.2.of_room),
+      omega (arith, depth-fits _ _ s.2.of-rows (omega arith)),
     )
+
+pub invariant_of-chosen : goal.invariant_of-chosen
+invariant_of-chosen c =
+    let a = c.args in
+    let s = c.requires in
+    let b = batch a.packets.slots.now a.packets.slot a.packets.lengths.now a.service.now.srv in
+    record { held = held b _ _ _ s.1 s.2 c.mark.ensures }
 
 pub put_leaves-k-requires : goal.put_leaves-k-requires
 put_leaves-k-requires c =
     let a = c.args in
     let s = c.requires in
-    let b = batch a.packets.now a.slot a.lengths.now a.srv in
-    let n = length a.lengths.now in (
-      held b _ _ _ s.1 s.2 c.mark.ensures,
-      omega (arith, depth-holds n s.0 s.1, s.2.of-rows, pow_pos (depth_of n)),
-    )
+    let b = batch a.packets.slots.now a.packets.slot a.packets.lengths.now a.service.now.srv in
+    let n = length a.packets.lengths.now in
+    omega (arith, depth-holds n s.0 s.1, s.2.of-rows, pow_pos (depth_of n))
 
 pub returns-then-k-eq0 : goal.returns-then-k-eq0
 returns-then-k-eq0 c =
     let a = c.args in
     let s = c.requires in
-    let b = batch a.packets.now a.slot a.lengths.now a.srv in
+    let b = batch a.packets.slots.now a.packets.slot a.packets.lengths.now a.service.now.srv in
     let made = c.mark.ensures in
     let least-is = longest-is b _ _ _ s.1 s.2 made c.shortest-least.ensures in
     let put = c.put_leaves-k.ensures in
     let is = put.many ∙ counted b _ _ _ s.1 s.2 made _ in
     rw (sym least-is)
-    (ended-none b _ a.cert.now a.seed a.midp a.radi a.room _ _ a.rows.now a.out.now made
+    (ended-none b _ a.service.now.cert.now a.service.now.seed a.service.now.midp a.service.now.radi a.service.now.room _ _ a.rows.now a.out.now made
     (same b _ _ _ s.1 s.2 made _) put is c.if-k-eq0.true c.put_lengths.ensures)
 
 pub serve-requires : goal.serve-requires
 serve-requires c =
     let a = c.args in
     let s = c.requires in
-    let b = batch a.packets.now a.slot a.lengths.now a.srv in
+    let b = batch a.packets.slots.now a.packets.slot a.packets.lengths.now a.service.now.srv in
     let made = c.mark.ensures in
-    let least-is = longest-is b _ _ _ s.1 s.2 made c.shortest-least.ensures in (
-      held b _ _ _ s.1 s.2 made,
-      rw (puts-length c.put_leaves-k.ensures.puts)
-          (can-serve b _ _ _ s.1 s.2 made least-is c.put_leaves-k.ensures.many c.if-k-eq0.false),
-      s.3,
-    )
+    let least-is = longest-is b _ _ _ s.1 s.2 made c.shortest-least.ensures in
+    rw (puts-length c.put_leaves-k.ensures.puts)
+    (can-serve b _ _ _ s.1 s.2 made least-is c.put_leaves-k.ensures.many c.if-k-eq0.false)
 
 pub depth-requires : goal.depth-requires
 depth-requires c =
     let a = c.args in
     let s = c.requires in
-    let b = batch a.packets.now a.slot a.lengths.now a.srv in
+    let b = batch a.packets.slots.now a.packets.slot a.packets.lengths.now a.service.now.srv in
     let made = c.mark.ensures in
     let least-is = longest-is b _ _ _ s.1 s.2 made c.shortest-least.ensures in
     let fine = can-serve b _ _ _ s.1 s.2 made least-is c.put_leaves-k.ensures.many c.if-k-eq0.false in
@@ -74,7 +77,7 @@ pub answer_length-size-requires : goal.answer_length-size-requires
 answer_length-size-requires c =
     let a = c.args in
     let s = c.requires in
-    let b = batch a.packets.now a.slot a.lengths.now a.srv in
+    let b = batch a.packets.slots.now a.packets.slot a.packets.lengths.now a.service.now.srv in
     let made = c.mark.ensures in
     let least-is = longest-is b _ _ _ s.1 s.2 made c.shortest-least.ensures in
     let fine = can-serve b _ _ _ s.1 s.2 made least-is c.put_leaves-k.ensures.many c.if-k-eq0.false in
@@ -84,13 +87,13 @@ pub overflow_cast-size : goal.overflow_cast-size
 overflow_cast-size c =
     let a = c.args in
     let s = c.requires in
-    let b = batch a.packets.now a.slot a.lengths.now a.srv in
+    let b = batch a.packets.slots.now a.packets.slot a.packets.lengths.now a.service.now.srv in
     let made = c.mark.ensures in
     let least-is = longest-is b _ _ _ s.1 s.2 made c.shortest-least.ensures in
     let fine = can-serve b _ _ _ s.1 s.2 made least-is c.put_leaves-k.ensures.many c.if-k-eq0.false in
     let whole = held b _ _ _ s.1 s.2 made in
     let short =
-    some-short _ _ _ _ whole c.shortest-least.result (length a.lengths.now) (omega arith)
+    some-short _ _ _ _ whole c.shortest-least.result (length a.packets.lengths.now) (omega arith)
     (rw (← fine.all) fine.some) in
     omega (arith, c.answer_length-size.ensures, c.depth.ensures.0, fine.longest, short)
 
@@ -98,21 +101,21 @@ pub put_lengths-requires-2 : goal.put_lengths-requires-2
 put_lengths-requires-2 c =
     let a = c.args in
     let s = c.requires in
-    let b = batch a.packets.now a.slot a.lengths.now a.srv in
+    let b = batch a.packets.slots.now a.packets.slot a.packets.lengths.now a.service.now.srv in
     long b _ _ _ s.1 s.2 c.mark.ensures
 
 pub returns : goal.returns
 returns c =
     let a = c.args in
     let s = c.requires in
-    let b = batch a.packets.now a.slot a.lengths.now a.srv in
+    let b = batch a.packets.slots.now a.packets.slot a.packets.lengths.now a.service.now.srv in
     let made = c.mark.ensures in
     let least-is = longest-is b _ _ _ s.1 s.2 made c.shortest-least.ensures in
     let put = c.put_leaves-k.ensures in
     let is = put.many ∙ counted b _ _ _ s.1 s.2 made _ in
     let fine = can-serve b _ _ _ s.1 s.2 made least-is put.many c.if-k-eq0.false in
     let size =
-    c.answer_length-size.ensures ∙ ap (λ (d : ℕ). 264 + 32 * d + length a.cert.now) c.depth.ensures.0 in
+    c.answer_length-size.ensures ∙ ap (λ (d : ℕ). 264 + 32 * d + length a.service.now.cert.now) c.depth.ensures.0 in
     rw (sym least-is)
-    (ended_some b _ a.cert.now a.seed a.midp a.radi a.room _ _ a.rows.now a.out.now made
+    (ended_some b _ a.service.now.cert.now a.service.now.seed a.service.now.midp a.service.now.radi a.service.now.room _ _ a.rows.now a.out.now made
     (same b _ _ _ s.1 s.2 made _) put is fine.some fine.few fine.held c.serve.ensures size c.put_lengths-2.ensures)

@@ -6,7 +6,6 @@ use lib.ListN.{length}
 use Rattle.laws.proofs.Least.{least-le}
 use Rattle.tree.specs.Tree.{depth_of}
 use Rattle.server_batch.specs.Steps.{enough_in}
-use borrow.Author.Rules.{rules}
 use Rattle.server_batch.proofs.fitting.shortest.Goals as goal
 
 pub answer_length-requires : goal.answer_length-requires

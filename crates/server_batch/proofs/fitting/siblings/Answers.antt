@@ -1,30 +1,19 @@
--- `server_batch::fitting::siblings` meets its contract. The loop keeps: fewer than `d` siblings are not enough.
-use mathlib.Core.Path.{◌≡◌, sym, ◌∙◌}
-use Prim.Native.Nat.{◌-◌, ◌≤◌}
-use native.Mathlib.Omega.{arith}
+-- `server_batch::fitting::siblings` meets its contract: `find` answers the first number that is enough.
+use mathlib.Core.Bool.{true, false}
+use mathlib.Core.Path.{◌≡◌, ap, ◌∙◌}
+use Rattle.std.proofs.lemmas.Iterator.{first_from_Range}
 use Rattle.laws.specs.Least.{least}
-use Rattle.laws.proofs.Least.{least_zero, least-hit, least-miss, least-end}
 use Rattle.server_batch.specs.Steps.{enough_in}
+use Rattle.server_batch.proofs.Fits.{found-first}
 use borrow.Author.Rules.{rules}
 use Rattle.server_batch.proofs.fitting.siblings.Goals as goal
 
-pub loop-d-init : goal.loop-d-init
-loop-d-init c = (omega arith, least_zero _)
-
-pub enough_with-requires : goal.enough_with-requires
-enough_with-requires c =
-    (c.requires.1, c.requires.2, omega (arith, c.requires.3, c.depth-last.ensures.0))
-
-pub returns-then-enough_with : goal.returns-then-enough_with
-returns-then-enough_with c =
-    least-hit _ c.loop-d.d _ _ c.loop-d.invariant.1 c.enough_with.ensures c.if-enough_with.true
-    (omega (arith, c.depth-last.ensures.0))
-
-pub loop-d-preserved : goal.loop-d-preserved
-loop-d-preserved c =
-    (omega arith, least-miss _ c.loop-d.d _ c.loop-d.invariant.1 c.enough_with.ensures c.if-enough_with.false)
-
 pub returns : goal.returns
 returns c =
-    let last = c.depth-last.ensures.0 in
-    least-end _ c.loop-d.d _ c.loop-d.invariant.1 (omega (arith, last)) (omega (arith, last))
+    let a = c.args in
+    let p = enough_in a.marks.now a.lengths.now a.c in
+    let m = first_from_Range _ _ _ c.find.result (λ d. p d ≡ true) (λ d. p d ≡ false) c.find.ensures.ran
+    (λ x q k. search rules) (λ x q k. search rules) in
+    c.unwrap_or.ensures
+    ∙ found-first p c.depth-last.result c.find.result m
+    ∙ ap (least p) c.depth-last.ensures.0

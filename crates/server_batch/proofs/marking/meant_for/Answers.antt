@@ -7,7 +7,6 @@ use Rattle.wire_message.specs.Tags.{SRV}
 use Rattle.wire_message.specs.Values.{has, value_of}
 use Rattle.wire_packet.proofs.RequestCodes.{lent-body}
 use Rattle.server_batch.proofs.Meant.{meant-bad, meant-same, meant-bare}
-use borrow.Author.Rules.{rules}
 use Rattle.server_batch.proofs.marking.meant_for.Goals as goal
 
 pub returns-then-request_bad : goal.returns-then-request_bad

@@ -1,6 +1,5 @@
 -- `server_batch::measuring::length_of` meets its contract.
 use mathlib.Core.Path.{sym, ◌∙◌}
-use borrow.Author.Rules.{rules}
 use Rattle.server_batch.proofs.measuring.length_of.Goals as goal
 
 pub returns-then-stays : goal.returns-then-stays

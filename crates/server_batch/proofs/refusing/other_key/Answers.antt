@@ -7,7 +7,6 @@ use Rattle.laws.specs.Same.{same}
 use Rattle.wire_message.specs.Tags.{PUBK}
 use Rattle.wire_message.specs.Values.{value_of}
 use Rattle.server_batch.specs.Answering.{other_key}
-use borrow.Author.Rules.{rules}
 use Rattle.server_batch.proofs.refusing.other_key.Goals as goal
 
 pub value32-theirs-requires : goal.value32-theirs-requires
@@ -17,6 +16,6 @@ value32-theirs-requires c =
 
 pub returns : goal.returns
 unfolding other_key
-returns c seed e =
+returns c =
     let theirs = c.value32-theirs.ensures ∙ ap (λ (m : List ℕ). value_of m PUBK) c.value_of.ensures in
-    ap not (c.equal.ensures ∙ ap₂ same e theirs)
+    ap not (c.equal.ensures ∙ ap₂ same c.args.service.now.own theirs)

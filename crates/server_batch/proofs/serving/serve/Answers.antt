@@ -11,19 +11,18 @@ fill_rows-requires c =
     record {
       few = c.depth-d.ensures.2;
       deep = c.depth-d.ensures.1;
-      held = rw c.depth-d.ensures.0 c.requires.1.held;
+      held = rw c.depth-d.ensures.0 c.requires.held;
     }
 
 pub say-said-requires : goal.say-said-requires
 say-said-requires c =
-    let held : 32 * nodes_of c.depth-d.result ≤ length c.args.rows.now = rw c.depth-d.ensures.0 c.requires.1.held in
-    (c.depth-d.ensures.1, omega (arith, held, puts-length c.fill_rows.ensures), c.requires.2)
+    let held : 32 * nodes_of c.depth-d.result ≤ length c.args.rows.now = rw c.depth-d.ensures.0 c.requires.held in
+    (c.depth-d.ensures.1, omega (arith, held, puts-length c.fill_rows.ensures))
 
 pub answer_each-requires : goal.answer_each-requires
 answer_each-requires c =
-    let held : 32 * nodes_of c.depth-d.result ≤ length c.args.rows.now = rw c.depth-d.ensures.0 c.requires.1.held in
-    let can = c.requires.1 in (
-      c.requires.0,
+    let held : 32 * nodes_of c.depth-d.result ≤ length c.args.rows.now = rw c.depth-d.ensures.0 c.requires.held in
+    let can = c.requires in (
       record {
         whole = c.say-said.ensures.1;
         deep = c.depth-d.ensures.1;

@@ -10,14 +10,14 @@ use Rattle.server_parts.proofs.wording.put_words.Goals as goal
 
 pub loop-i-init : goal.loop-i-init
 loop-i-init c =
-    (omega arith, refl, worded-none _ _ c.args.ws.now (omega arith))
+    (refl, worded-none _ _ c.args.ws.now (omega arith))
 
 pub loop-i-preserved : goal.loop-i-preserved
 loop-i-preserved c =
     let l = c.loop-i in
     let w =
-    worded-more _ _ _ l.invariant.2 (omega arith) (omega arith) c.le32_bytes-word.ensures refl c.put.ensures in
-    (omega arith, puts-length w, w)
+    worded-more _ _ _ l.invariant.1 (omega arith) (omega arith) c.le32_bytes.ensures refl c.put.ensures in
+    (puts-length w, w)
 
 pub returns : goal.returns
-returns c = worded-all _ _ _ c.loop-i.invariant.2 (omega arith)
+returns c = worded-all _ _ _ c.loop-i.invariant.1 (omega arith)

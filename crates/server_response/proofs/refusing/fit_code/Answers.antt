@@ -1,30 +1,30 @@
 -- `server_response::refusing::fit_code` meets its contract. Each return is the first refusal of the row.
 use mathlib.Core.Path.{refl}
 use Prim.Native.Nat.{◌+◌}
+use borrow.Author.Tests.{lt-ltb, le-ltb}
 use lib.ListN.{length}
-use Rattle.laws.proofs.First.{test-true, test-false, less, at_most, is-empty}
-use Rattle.refusal.specs.Refusal.{refusals}
+use Rattle.refusal.proofs.Passing.{test-on, test-refuses, none-left}
 use Rattle.server_response.specs.Steps.{fit_code}
 use borrow.Author.Rules.{rules}
 use Rattle.server_response.proofs.refusing.fit_code.Goals as goal
 
-pub returns-then-outside : goal.returns-then-outside
+pub returns-then-midp_outside : goal.returns-then-midp_outside
 unfolding fit_code
-returns-then-outside c =
-    test-true refusals _ _ c.refuse.ensures tt c.midp_outside-outside.ensures c.if-outside.true
+returns-then-midp_outside c =
+    test-refuses _ _ c.refuse.ensures tt c.midp_outside.ensures c.if-midp_outside.true
 
-pub returns-then-longer : goal.returns-then-longer
+pub returns-then-request-p : goal.returns-then-request-p
 unfolding fit_code
-returns-then-longer c =
+returns-then-request-p c =
     let q = length c.args.request.now in
     let n = 264 + c.args.p + length c.args.cert.now in
-    test-false refusals _ _ c.midp_outside-outside.ensures c.if-outside.false
-    (less refusals q n _ _ c.refuse-then-longer.ensures tt c.if-longer.true)
+    test-on _ _ c.midp_outside.ensures c.if-midp_outside.false
+    (test-refuses _ _ c.refuse-then-request-p.ensures tt refl (lt-ltb q n c.if-request-p.true))
 
 pub returns : goal.returns
 unfolding fit_code
 returns c =
     let q = length c.args.request.now in
     let n = 264 + c.args.p + length c.args.cert.now in
-    test-false refusals _ _ c.midp_outside-outside.ensures c.if-outside.false
-    (at_most refusals q n _ _ c.if-longer.false (is-empty refusals refl))
+    test-on _ _ c.midp_outside.ensures c.if-midp_outside.false
+    (test-on _ _ refl (le-ltb q n c.if-request-p.false) none-left)

@@ -1,6 +1,5 @@
 -- `sha512::last_blocks::end` meets its contract.
 use Rattle.sha512.proofs.LastBlocks.{ended_is}
-use Rattle.std.proofs.Common.{rules}
 use Rattle.sha512.proofs.last_blocks.end.Goals as goal
 
 pub returns : goal.returns

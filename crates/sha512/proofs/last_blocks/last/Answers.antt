@@ -1,5 +1,5 @@
 -- `sha512::last_blocks::last` meets its contract.
-use Rattle.std.proofs.Common.{ℕ, List, ap, ◌∙◌, ap₂, rules}
+use Rattle.std.proofs.Common.{ℕ, List, ap, ◌∙◌, ap₂}
 use Rattle.sha512_block.specs.HashValue.{hashed}
 use Rattle.sha512.specs.LastBlocks.{ended_with}
 use Rattle.sha512.proofs.LastBlocks.{last_one, last-two}

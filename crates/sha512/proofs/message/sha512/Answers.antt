@@ -1,5 +1,5 @@
 -- `sha512::message::sha512` meets its contract.
-use Rattle.std.proofs.Common.{ℕ, ◌-◌, ◌%◌, List, ◌++◌, length, take, drop, refl, ap, ◌∙◌, rules}
+use Rattle.std.proofs.Common.{ℕ, ◌-◌, ◌%◌, List, ◌++◌, length, take, drop, refl, ap, ◌∙◌}
 use Rattle.sha512_block.specs.HashValue.{hashed}
 use Rattle.sha512_block.proofs.HashValue.{hashed-rest}
 use Rattle.sha512.specs.Computation.{digest, Sha512}

@@ -1,5 +1,5 @@
 -- `sha512::pieces::finish` meets its contract.
-use Rattle.std.proofs.Common.{◌≡◌, length, ap, ◌∙◌, arith, length-take, rules}
+use Rattle.std.proofs.Common.{ap, ◌∙◌}
 use Rattle.sha512.specs.Computation.{digest}
 use Rattle.sha512.specs.State.{state_digest}
 use Rattle.sha512.proofs.pieces.finish.Goals as goal

@@ -1,5 +1,5 @@
 -- `sha512::pieces::take_piece` meets its contract.
-use Rattle.std.proofs.Common.{◌-◌, ◌^◌, ◌≤◌, arith, rules}
+use Rattle.std.proofs.Common.{arith}
 use Rattle.sha512.proofs.State.{fed-refused, fed-passed}
 use Rattle.sha512.proofs.pieces.take_piece.Goals as goal
 

@@ -1,5 +1,5 @@
 -- `sha512::tagging::sha512_tagged` meets its contract.
-use Rattle.std.proofs.Common.{refl, ap, ◌∙◌, arith, length-take, rules}
+use Rattle.std.proofs.Common.{refl, ap, ◌∙◌, arith, length-take}
 use Rattle.sha512.specs.Computation.{digest, Sha512}
 use Rattle.sha512.specs.InitialHash.{H0}
 use Rattle.sha512.proofs.Tagged.{tagged-short, tagged-long}

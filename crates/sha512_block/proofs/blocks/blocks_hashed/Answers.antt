@@ -1,31 +1,20 @@
--- `sha512_block::blocks::blocks_hashed` meets its contract.
--- With no whole block the hash value stays.
--- The loop keeps: the table is that of the constants, and the hash value is that after i blocks.
-use Rattle.std.proofs.Common.{◌≡◌, ℕ, ◌+◌, ◌-◌, ◌*◌, ◌/◌, ◌≤◌, List, length, take, drop, refl, ap, ◌∙◌, add-one, arith, rules}
-use Rattle.sha512_block.specs.Constants.{K}
-use Rattle.sha512_block.specs.HashValue.{compress, hash_after, hashed}
-use Rattle.sha512_block.proofs.HashValue.{hashed-short}
+-- `sha512_block::blocks::blocks_hashed` meets its contract. The loop keeps: the hash value is that after the blocks so
+-- far.
+use Rattle.std.proofs.Common.{◌≡◌, ◌/◌, length, sym, ap, ◌∙◌, arith}
+use Rattle.sha512_block.specs.HashValue.{hash_after, hashed}
+use Rattle.sha512_block.proofs.HashValue.{hash_none, hash_more}
 use Rattle.sha512_block.proofs.blocks.blocks_hashed.Goals as goal
 
-pub returns-then-n-eq0 : goal.returns-then-n-eq0
-returns-then-n-eq0 c = hashed-short _ _ c.if-n-eq0.true
+pub loop-block-init : goal.loop-block-init
+loop-block-init g c = sym (hash_none _ _)
 
-pub loop-i-init : goal.loop-i-init
-unfolding hash_after
-loop-i-init c = (omega arith, refl, search rules, refl)
-
-pub loop-i-preserved : goal.loop-i-preserved
-unfolding hash_after
-loop-i-preserved c =
-    let i = c.loop-i.i in
-    let s : List ℕ = c.args.s.now in
-    let size : 128 * i + 128 - 128 * i ≡ 128 = omega arith in
-    let so_far = ap (λ (h : List ℕ). compress h (take 128 (drop (128 * i) s))) c.loop-i.invariant.3 in
-    (omega arith, search rules, c.loop-i.invariant.2, rw add-one ((rw size at c.compress-y.ensures) ∙ so_far))
+pub loop-block-preserved : goal.loop-block-preserved
+loop-block-preserved g c =
+    hash_more _ c.args.s.now _ _ c.as_chunks.result.0.now (length c.args.s.now / 128) c.loop-block.block-index _
+    c.as_chunks.ensures.front (omega (arith, c.as_chunks.ensures.front_len)) c.loop-block.invariant c.compress-next.ensures
 
 pub returns : goal.returns
 unfolding hashed
-returns c =
-    let s : List ℕ = c.args.s.now in
-    let all : c.loop-i.i ≡ length s / 128 = omega arith in
-    rw all at c.loop-i.invariant.3
+returns g c =
+    let all : c.loop-block.block-index ≡ length c.args.s.now / 128 = omega (arith, c.as_chunks.ensures.front_len) in
+    c.loop-block.invariant ∙ ap (hash_after c.args.h c.args.s.now) all

@@ -1,13 +1,12 @@
 -- `sha512_block::rounding::sixteen_rounds` meets its contract. Each call is one step more.
 use Rattle.sha512_block.specs.Rolling.{round_step}
 use Rattle.sha512_block.proofs.Steps.{step-none, step-more}
-use Rattle.std.proofs.Common.{rules}
 use Rattle.sha512_block.proofs.rounding.sixteen_rounds.Goals as goal
 
 pub returns : goal.returns
 returns c =
     let a = c.args in
-    let s0 = step-none (round_step a.k.now a.w.now) 64 a.s in
+    let s0 = step-none (round_step a.w.now) a.t a.s in
     let s1 = step-more s0 c.one_round-s1.ensures in
     let s2 = step-more s1 c.one_round-s2.ensures in
     let s3 = step-more s2 c.one_round-s3.ensures in

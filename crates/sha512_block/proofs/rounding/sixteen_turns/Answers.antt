@@ -1,13 +1,12 @@
 -- `sha512_block::rounding::sixteen_turns` meets its contract. Each call is one step more.
 use Rattle.sha512_block.specs.Rolling.{turning, turn_step}
 use Rattle.sha512_block.proofs.Steps.{step-none, step-more}
-use Rattle.std.proofs.Common.{rules}
 use Rattle.sha512_block.proofs.rounding.sixteen_turns.Goals as goal
 
 pub returns : goal.returns
 returns c =
     let a = c.args in
-    let s0 = step-none (turn_step a.k.now) a.t (turning a.s a.w.now) in
+    let s0 = step-none turn_step a.t (turning a.s a.w.now) in
     let s1 = step-more s0 c.turn-s1.ensures.w_after in
     let s2 = step-more s1 c.turn-s2.ensures.w_after in
     let s3 = step-more s2 c.turn-s3.ensures.w_after in

@@ -1,24 +1,14 @@
--- `sha512_block::scheduling::block_words` meets its contract.
-use Rattle.std.proofs.Common.{ℕ, [], ◌∷◌, ap, ap₂, rules}
-use Rattle.sha512_block.specs.Schedule.{first_words}
+-- `sha512_block::scheduling::block_words` meets its contract: word t is made at place t.
+use Rattle.std.proofs.Common.{ext_get_or, sym, ◌∙◌, arith, rules}
+use Rattle.laws.proofs.Made.{made}
+use Rattle.sha512_block.specs.Schedule.{block_word, first_words}
+use Rattle.sha512_block.proofs.Schedule.{words_long, own_word}
 use Rattle.sha512_block.proofs.scheduling.block_words.Goals as goal
 
 pub returns : goal.returns
-unfolding first_words
 returns c =
-    let w16 = ap (λ (x : ℕ). x ∷ []) c.be64-16.ensures in
-    let w15 = ap₂ ◌∷◌ c.be64-15.ensures w16 in
-    let w14 = ap₂ ◌∷◌ c.be64-14.ensures w15 in
-    let w13 = ap₂ ◌∷◌ c.be64-13.ensures w14 in
-    let w12 = ap₂ ◌∷◌ c.be64-12.ensures w13 in
-    let w11 = ap₂ ◌∷◌ c.be64-11.ensures w12 in
-    let w10 = ap₂ ◌∷◌ c.be64-10.ensures w11 in
-    let w9 = ap₂ ◌∷◌ c.be64-9.ensures w10 in
-    let w8 = ap₂ ◌∷◌ c.be64-8.ensures w9 in
-    let w7 = ap₂ ◌∷◌ c.be64-7.ensures w8 in
-    let w6 = ap₂ ◌∷◌ c.be64-6.ensures w7 in
-    let w5 = ap₂ ◌∷◌ c.be64-5.ensures w6 in
-    let w4 = ap₂ ◌∷◌ c.be64-4.ensures w5 in
-    let w3 = ap₂ ◌∷◌ c.be64-3.ensures w4 in
-    let w2 = ap₂ ◌∷◌ c.be64-2.ensures w3 in
-    ap₂ ◌∷◌ c.be64.ensures w2
+    let b = c.args.b.now in
+    let out = c.from_fn.ensures.items in
+    let each = made _ (block_word b) _ 0 c.from_fn.result (λ i y q k. search rules) 16 out in
+    ext_get_or 0 c.from_fn.result (first_words b 16) (out.long ∙ sym (words_long b 16))
+    (λ t h. each t (omega (arith, out.long)) ∙ sym (own_word b t (omega (arith, out.long))))

@@ -2,7 +2,6 @@
 use borrow.Author.Tests.{eq-eqb, ne_eqb, le-leb, lt-leb, lt-ltb, le-ltb}
 use Rattle.tree.proofs.Width.{bits_fit, bits-over}
 use Rattle.tree.specs.PathCheck.{leads_of}
-use borrow.Author.Rules.{rules}
 use Rattle.tree.proofs.check.leads.Goals as goal
 
 pub returns-then-path-ne0 : goal.returns-then-path-ne0

@@ -1,7 +1,6 @@
 -- `tree::check::step` meets its contract.
 use mathlib.Core.Path.{sym, ◌∙◌}
 use Rattle.tree.proofs.Climbs.{step-zero, step-one}
-use borrow.Author.Rules.{rules}
 use Rattle.tree.proofs.check.step.Goals as goal
 
 pub returns-then-bit-eq0 : goal.returns-then-bit-eq0

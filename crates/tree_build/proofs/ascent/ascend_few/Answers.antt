@@ -16,12 +16,12 @@ loop-left-init c =
     ascending-first c.width-n.ensures (omega arith) c.requires.0 (level-itself _ _ (omega arith), size) c.requires.1
 
 pub put_part-at-requires : goal.put_part-at-requires
-put_part-at-requires c = ascending-can c.loop-left.invariant c.loop-left-test.true
+put_part-at-requires c = ascending-can c.loop-left.invariant (omega arith)
 
 pub loop-left-preserved : goal.loop-left-preserved
 loop-left-preserved c =
-    ascending-next c.loop-left.invariant c.loop-left-test.true c.put_part-at.ensures (omega arith)
-    c.halved_few-up.ensures
+    ascending-next c.loop-left.invariant (omega arith) c.put_part-at.ensures (omega arith)
+    c.halved-up.ensures
 
 pub returns : goal.returns
 returns c = ascending-done c.loop-left.invariant (omega arith)

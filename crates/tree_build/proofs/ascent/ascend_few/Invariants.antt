@@ -12,7 +12,4 @@ use Rattle.tree_build.proofs.ascent.ascend_few.Given as goal
 
 abbrev pub invariant-loop-left : goal.invariant-loop-left
 invariant-loop-left l =
-    Ascending l.initial.row l.initial.left l.wanted l.initial.j l.initial.out l.initial.at few l.left l.n l.row l.j l.at l.out
-
-abbrev pub decreases-loop-left : goal.decreases-loop-left
-decreases-loop-left l = l.left
+    Ascending l.initial.row l.d l.wanted l.initial.j l.initial.out l.initial.at few l.left l.n l.row l.j l.at l.out

@@ -37,13 +37,13 @@ returns-then-n-le-FEW c =
     let l = c.loop-n in
     ascending-rest
     (ascending-next l.invariant.0 l.invariant.1 c.put_part-at.ensures c.if-n-le-FEW.true
-    c.narrowed-next.ensures)
+    c.halved-next.ensures)
     c.ascend_few.ensures
 
 pub loop-n-preserved : goal.loop-n-preserved
 loop-n-preserved c =
     let l = c.loop-n in
-    let up = c.halved_many-up.ensures in
+    let up = c.halved-up.ensures in
     let r = ascending-next l.invariant.0 l.invariant.1 c.put_part-at.ensures (omega arith) up in
     (r, above-one r (omega arith))
 

@@ -9,15 +9,15 @@ use borrow.Author.Rules.{rules}
 use Rattle.tree_build.proofs.row.parents.Goals as goal
 
 pub loop-i-init : goal.loop-i-init
-loop-i-init c = (omega arith, halved-first _ _)
+loop-i-init c = halved-first _ _
 
 pub loop-i-preserved : goal.loop-i-preserved
 loop-i-preserved c =
     let l = c.loop-i in
-    (omega arith, halved-next _ l.invariant.1 (omega (arith, l.invariant.1.size)) c.parent.ensures)
+    halved-next _ l.invariant (omega (arith, l.invariant.size)) c.parent.ensures
 
 pub returns : goal.returns
 returns c =
     let l = c.loop-i in
     let all : l.i ≡ c.args.n = omega arith in
-    rw all at l.invariant.1
+    rw all at l.invariant

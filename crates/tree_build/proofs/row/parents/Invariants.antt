@@ -9,7 +9,5 @@ use borrow.Author.Rules.{rules}
 use Rattle.tree_build.proofs.row.parents.Given as goal
 
 abbrev pub invariant-loop-i : goal.invariant-loop-i
-invariant-loop-i l = (l.i ≤ l.n) × Halved l.row l.i (length l.initial.up) l.up
-
-abbrev pub decreases-loop-i : goal.decreases-loop-i
-decreases-loop-i l = l.n - l.i
+invariant-loop-i l =
+    Halved l.row l.i (length l.initial.up) l.up

@@ -14,23 +14,23 @@ use Rattle.tree_build.proofs.row.put_row.Goals as goal
 
 pub loop-i-init : goal.loop-i-init
 unfolding upto flat
-loop-i-init c = (omega arith, rw add-zero (puts_none _ _ (omega arith)))
+loop-i-init c = rw add-zero (puts_none _ _ (omega arith))
 
 pub put_node-requires : goal.put_node-requires
 put_node-requires c =
-    let size = puts-length c.loop-i.invariant.1 in
+    let size = puts-length c.loop-i.invariant in
     search rules
 
 pub loop-i-preserved : goal.loop-i-preserved
 loop-i-preserved c =
     let l = c.loop-i in
-    (omega arith, row_next c.args.row.now l.i l.invariant.1 c.put_node.ensures)
+    row_next c.args.row.now l.i l.invariant c.put_node.ensures
 
 pub returns : goal.returns
 returns c =
     let l = c.loop-i in
     let all : l.i ≡ c.args.n = omega arith in
-    rw all at l.invariant.1
+    rw all at l.invariant
 
 pub shape_of-out : goal.shape_of-out
-shape_of-out c = puts-length c.loop-i.invariant.1
+shape_of-out c = puts-length c.loop-i.invariant

@@ -14,7 +14,4 @@ use Rattle.tree_build.proofs.row.put_row.Given as goal
 
 abbrev pub invariant-loop-i : goal.invariant-loop-i
 invariant-loop-i l =
-    (l.i ≤ l.n) × Puts l.initial.out l.at (bytes_of l.row l.i) l.out (l.at + 32 * l.i)
-
-abbrev pub decreases-loop-i : goal.decreases-loop-i
-decreases-loop-i l = l.n - l.i
+    Puts l.initial.out l.at (bytes_of l.row l.i) l.out (l.at + 32 * l.i)

@@ -11,29 +11,28 @@ use Rattle.tree_build.proofs.Reading.{rows_next, rows-beside, rows-put}
 use borrow.Author.Rules.{rules}
 use Rattle.tree_build.proofs.siblings.read_path.Goals as goal
 
-pub loop-d-init : goal.loop-d-init
-loop-d-init c =
+pub loop-left-init : goal.loop-left-init
+loop-left-init c =
     let enough = c.requires.enough in
     (omega arith, writing-first c.width-n.ensures (record { inside = c.requires.inside; enough = omega arith }))
 
 pub copy32-requires : goal.copy32-requires
 copy32-requires c =
-    let l = c.loop-d in
-    rows-beside _ _ l.invariant.1 l.invariant.0 c.loop-d-test.true c.other.ensures c.requires.held
+    let l = c.loop-left in
+    rows-beside _ _ l.invariant.1 l.invariant.0 (omega arith) c.other.ensures c.requires.held
 
-pub loop-d-preserved : goal.loop-d-preserved
+pub loop-left-preserved : goal.loop-left-preserved
 unfolding node_in
-loop-d-preserved c =
-    let l = c.loop-d in
-    let live = c.loop-d-test.true in
+loop-left-preserved c =
+    let l = c.loop-left in
     let is = c.copy32.ensures in (
-      rows_next _ _ l.invariant.1 l.invariant.0 live,
-      rows-put _ _ l.invariant.1 l.invariant.0 live c.other.ensures is c.put_node.ensures,
+      rows_next _ _ l.invariant.1 l.invariant.0 (omega arith),
+      rows-put _ _ l.invariant.1 l.invariant.0 (omega arith) c.other.ensures is c.put_node.ensures,
     )
 
 pub returns : goal.returns
 returns c =
-    path-puts _ _ _ (writing-done c.loop-d.invariant.1 (omega arith))
+    path-puts _ _ _ (writing-done c.loop-left.invariant.1 (omega arith))
 
 pub shape_of-out : goal.shape_of-out
 shape_of-out c = puts-length (returns c)

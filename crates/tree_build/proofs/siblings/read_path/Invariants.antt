@@ -11,9 +11,6 @@ use Rattle.tree_build.proofs.Reading.{rows_next, rows-beside, rows-put}
 use borrow.Author.Rules.{rules}
 use Rattle.tree_build.proofs.siblings.read_path.Given as goal
 
-abbrev pub invariant-loop-d : goal.invariant-loop-d
-invariant-loop-d l =
-    (l.first + 2 * l.n ≡ 2 * 2 ^ l.initial.d) × Writing Sibling (laid_at l.rows l.initial.d) l.initial.d l.initial.place l.initial.out 0 l.n l.d l.place l.at l.out
-
-abbrev pub decreases-loop-d : goal.decreases-loop-d
-decreases-loop-d l = l.d
+abbrev pub invariant-loop-left : goal.invariant-loop-left
+invariant-loop-left l =
+    (l.first + 2 * l.n ≡ 2 * 2 ^ l.d) × Writing Sibling (laid_at l.rows l.d) l.d l.initial.place l.initial.out 0 l.n l.left l.place l.at l.out

@@ -10,7 +10,6 @@ use Rattle.laws.proofs.Written.{puts_one, puts-put, written-whole}
 use Rattle.pile.specs.Layout.{REQUEST-LENGTH, RESPONSE-LENGTH, ZEROS, REQUEST}
 use Rattle.pile.specs.Recording.{head_bytes}
 use Rattle.walk.specs.State.{ASKED}
-use borrow.Author.Rules.{rules}
 use Rattle.walk.proofs.recording.heading.Goals as goal
 
 pub returns : goal.returns

@@ -11,7 +11,6 @@ use Rattle.pile.specs.Recording.{head_bytes, record_bytes}
 use Rattle.walk.specs.State.{ASKED}
 use Rattle.pile.proofs.Recorded.{length-heading, length-record}
 use Rattle.walk.proofs.RecordLaid.{laid}
-use borrow.Author.Rules.{rules}
 use Rattle.walk.proofs.recording.lay.Goals as goal
 
 pub returns : goal.returns

@@ -3,7 +3,6 @@ use native.Mathlib.Nat.{zero-add}
 use lib.ListN.{length}
 use Rattle.laws.proofs.Written.{puts_one, written-whole}
 use Rattle.walk.specs.Starting.{begun_walk}
-use borrow.Author.Rules.{rules}
 use Rattle.walk.proofs.starting.begun.Goals as goal
 
 pub returns : goal.returns

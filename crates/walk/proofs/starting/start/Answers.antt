@@ -1,33 +1,28 @@
 -- `walk::starting::start` meets its contract.
-use mathlib.Core.Path.{sym}
+use mathlib.Core.Path.{◌≡◌, refl}
 use native.Mathlib.Omega.{arith}
-use borrow.Author.Tests.{eq-eqb, ne_eqb}
-use lib.ListN.{length}
-use Rattle.laws.proofs.First.{quiet_of}
-use Rattle.refusal.specs.Refusal.{refusals}
-use Rattle.walk.specs.Starting.{start_code, started_of}
+use Rattle.std.specs.Prelude.{Err}
+use Rattle.refusal.proofs.Passing.{goes-on, error-is, error-refuses}
+use Rattle.walk.specs.Starting.{started_of}
 use Rattle.walk.proofs.Accepting.{begun}
+use Rattle.walk.proofs.Passed.{refused, given}
 use borrow.Author.Rules.{rules}
 use Rattle.walk.proofs.starting.start.Goals as goal
 
-pub returns-then-c-ne0 : goal.returns-then-c-ne0
+pub returns-in_err-start_code : goal.returns-in_err-start_code
 unfolding started_of
-returns-then-c-ne0 c =
-    let a = c.args in
-    let e = c.start_code-c.ensures in
-    let why = start_code a.keys.now (length a.pile.now) in
-    let n = ne_eqb why.code 0 (λ z. c.if-c-ne0.true (quiet_of refusals (sym e) z)) in
-    rw (n, e, c.blank-b.ensures)
+returns-in_err-start_code c =
+    let e = c.in_err-start_code.field-0.0 in
+    let told : c.start_code.result ≡ Err e = search rules in
+    let handed : c.from_residual.result ≡ Err e = search rules in
+    rw handed
+    (refused _ _ (error-is _ c.start_code.ensures told) (error-refuses _ c.start_code.ensures told))
 
-pub begun-w-requires : goal.begun-w-requires
-begun-w-requires c =
-    let b = begun _ _ c.start_code-c.ensures c.if-c-ne0.false in
+pub begun-requires : goal.begun-requires
+begun-requires c =
+    let b = begun _ _ refl (goes-on _ c.start_code.ensures (search rules)) in
     omega (arith, b.whole, b.to)
 
 pub returns : goal.returns
 unfolding started_of
-returns c =
-    let a = c.args in
-    let why = start_code a.keys.now (length a.pile.now) in
-    let n = eq-eqb why.code 0 (quiet_of refusals c.start_code-c.ensures c.if-c-ne0.false) in
-    rw (n, c.begun-w.ensures)
+returns c = given _ _ (goes-on _ c.start_code.ensures (search rules)) c.begun.ensures

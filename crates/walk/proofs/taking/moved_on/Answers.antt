@@ -1,6 +1,5 @@
 -- `walk::taking::moved_on` meets its contract.
 use Rattle.walk.specs.Taking.{moved_on}
-use borrow.Author.Rules.{rules}
 use Rattle.walk.proofs.taking.moved_on.Goals as goal
 
 pub returns : goal.returns

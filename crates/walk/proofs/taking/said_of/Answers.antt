@@ -4,7 +4,6 @@ use mathlib.Core.Path.{refl}
 use native.Mathlib.Omega.{arith}
 use lib.ListN.{length-take}
 use Rattle.walk.proofs.Taken.{ends}
-use borrow.Author.Rules.{rules}
 use Rattle.walk.proofs.taking.said_of.Goals as goal
 
 pub returns-then-w-n : goal.returns-then-w-n

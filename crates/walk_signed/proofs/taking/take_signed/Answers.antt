@@ -1,13 +1,13 @@
 -- `walk_signed::taking::take_signed` meets its contract: the laws of the walk's taker, of what our own Ed25519 answers.
+use Rattle.std.specs.Prelude.{Err, Ok}
 use Prim.Native.Nat.{ℕ}
-use mathlib.Core.Path.{◌≡◌, sym, ap, ap₂, subst, ◌∙◌}
+use mathlib.Core.Path.{◌≡◌, refl, sym, ap, ap₂, subst, ◌∙◌}
 use mathlib.Core.Bool.{true}
 use mathlib.Core.List.{List}
 use lib.ListN.{length, drop}
 use Rattle.refusal.specs.declared.Refusal.{Refusal}
 use Rattle.check_response.specs.Check.{verdict_of, checked_of, window_in}
 use Rattle.check_response.specs.declared.Checked.{Checked}
-use Rattle.check_response.specs.declared.Verdict.TheVariants.{Valid, Refused}
 use Rattle.check_response.specs.declared.Window.{Window}
 use Rattle.check_signatures.specs.SignatureAnswers.{delegated, responded}
 use Rattle.walk.specs.State.{request_now, key_of}
@@ -20,6 +20,8 @@ use Rattle.walk.proofs.Taken.{untaken}
 use Rattle.walk_signed.specs.Heard.{own_heard}
 use Rattle.walk_signed.proofs.Last.{heard_with, step-whatever, took-as}
 use Rattle.walk_signed.proofs.Verified.{heard-both}
+use Rattle.refusal.proofs.Passing.{goes-on, error-is, error-refuses}
+use borrow.Author.Rules.{rules}
 use Rattle.walk_signed.proofs.taking.take_signed.Goals as goal
 
 module _ (w : Walk) (sent received : ℕ) (rand x : List ℕ) (room : ℕ) {c : Refusal}
@@ -41,11 +43,11 @@ module _ (w : Walk) (sent received : ℕ) (rand x : List ℕ) (room : ℕ) {c : 
         ∙ ap₂ (λ (q key : List ℕ). verdict_of q x (delegated key x) (responded x)) f g
 
     module _ (z : c.code ≡ 0) where
-      refused-told : {why : Refusal} → r.verdict ≡ Refused why
+      refused-told : {why : Refusal} → r.verdict ≡ Err why
           → (why ≡ take_code w heard x room) × (why.code ≡ 0 → ⊥)
       refused-told v = refused-by-check _ _ _ _ before z told v
 
-      module _ {window : Window} (v : r.verdict ≡ Valid window) where
+      module _ {window : Window} (v : r.verdict ≡ Ok window) where
         passed-told : ((take_code w heard x room).code ≡ 0) × (window ≡ window_in (drop 12 x))
         passed-told = passed-check _ _ _ _ before z told v
 
@@ -53,57 +55,70 @@ module _ (w : Walk) (sent received : ℕ) (rand x : List ℕ) (room : ℕ) {c : 
         both : heard_with sent received rand true true ≡ heard
         both = heard-both w sent received rand x room passed-told.0
 
-pub returns-then-c-ne0 : goal.returns-then-c-ne0
-returns-then-c-ne0 c =
-    let a = c.args in
-    let x = a.response.now in
-    let t =
-    untaken a.w (own_heard a.w a.sent a.received a.rand x) x a.pile.now c.refused.ensures
-    (refused-before _ _ _ _ (before a.w a.sent a.received a.rand x _ c.step_code-c.ensures) c.if-c-ne0.true)
-    c.if-c-ne0.true in
+pub returns-in_err-step_code : goal.returns-in_err-step_code
+returns-in_err-step_code c =
+    let w = c.args.w in
+    let e = c.args.e in
+    let x = c.args.response.now in
+    let pile = c.args.pile.now in
+    let why = c.in_err-step_code.field-0.0 in
+    let said : c.step_code.result ≡ Err why = search rules in
+    let handed : c.from_residual.result ≡ Err why = search rules in
+    let n = error-refuses _ c.step_code.ensures said in
+    let is = before w e.sent e.received e.rand x (length pile) (error-is _ c.step_code.ensures said) in
+    let t = untaken w (own_heard w e.sent e.received e.rand x) x pile handed (refused-before _ _ _ _ is n) n in
     record { said_value = t.0; takes = t.1.0; walk_value = t.1.1.0; pile_after = t.1.1.1 }
 
 pub request_now-q-requires : goal.request_now-q-requires
-request_now-q-requires c = step-goes _ _ _ c.step_code-c.ensures c.if-c-ne0.false
+request_now-q-requires c = step-goes _ _ _ refl (goes-on _ c.step_code.ensures (search rules))
 
 pub key_of-key-requires : goal.key_of-key-requires
-key_of-key-requires c = step-goes _ _ _ c.step_code-c.ensures c.if-c-ne0.false
+key_of-key-requires c = step-goes _ _ _ refl (goes-on _ c.step_code.ensures (search rules))
+
+pub returns-in_err-window : goal.returns-in_err-window
+returns-in_err-window c =
+    let w = c.args.w in
+    let e = c.args.e in
+    let x = c.args.response.now in
+    let pile = c.args.pile.now in
+    let why = c.in_err-window.field-0.0 in
+    let said : c.check_signed-checked.result.verdict ≡ Err why = search rules in
+    let handed : c.from_residual-in_err-window.result ≡ Err why = search rules in
+    let z = goes-on _ c.step_code.ensures (search rules) in
+    let check = c.check_signed-checked.ensures.value in
+    let no =
+    refused-told w e.sent e.received e.rand x (length pile) refl c.request_now-q.ensures c.key_of-key.ensures check z said in
+    let t = untaken w (own_heard w e.sent e.received e.rand x) x pile handed no.0 no.1 in
+    record { said_value = t.0; takes = t.1.0; walk_value = t.1.1.0; pile_after = t.1.1.1 }
 
 pub accept-requires : goal.accept-requires
 accept-requires c =
-    let a = c.args in
-    let x = a.response.now in
-    let room = length a.pile.now in
+    let w = c.args.w in
+    let e = c.args.e in
+    let x = c.args.response.now in
+    let room = length c.args.pile.now in
     let q = c.request_now-q.ensures in
     let key = c.key_of-key.ensures in
     let s = c.check_signed-checked.ensures.value in
-    let e = c.step_code-c.ensures in
-    let z = c.if-c-ne0.false in
-    let yes = passed-told a.w a.sent a.received a.rand x room e q key s z c.in-Valid.is in
-    let b = both a.w a.sent a.received a.rand x room e q key s z c.in-Valid.is in
-    (subst (λ (h : Heard). (take_code a.w h x room).code ≡ 0) (sym b) yes.0, q, yes.1)
+    let z = goes-on _ c.step_code.ensures (search rules) in
+    let said : c.check_signed-checked.result.verdict ≡ Ok c.in_ok-window.window = search rules in
+    let yes = passed-told w e.sent e.received e.rand x room refl q key s z said in
+    let b = both w e.sent e.received e.rand x room refl q key s z said in
+    (subst (λ (h : Heard). (take_code w h x room).code ≡ 0) (sym b) yes.0, q, yes.1)
 
-pub returns-in-Refused : goal.returns-in-Refused
-returns-in-Refused c =
-    let a = c.args in
-    let x = a.response.now in
-    let no =
-    refused-told a.w a.sent a.received a.rand x (length a.pile.now) c.step_code-c.ensures
-    c.request_now-q.ensures c.key_of-key.ensures c.check_signed-checked.ensures.value c.if-c-ne0.false
-    c.in-Refused.is in
-    let t =
-    untaken a.w (own_heard a.w a.sent a.received a.rand x) x a.pile.now c.refused-in-Refused.ensures no.0 no.1 in
-    record { said_value = t.0; takes = t.1.0; walk_value = t.1.1.0; pile_after = t.1.1.1 }
-
-pub returns-in-Valid : goal.returns-in-Valid
-returns-in-Valid c =
-    let a = c.args in
-    let x = a.response.now in
+pub returns : goal.returns
+returns c =
+    let w = c.args.w in
+    let e = c.args.e in
+    let x = c.args.response.now in
+    let pile = c.args.pile.now in
+    let passing = c.check_signed-checked.ensures.value in
+    let z = goes-on _ c.step_code.ensures (search rules) in
+    let given : c.check_signed-checked.result.verdict ≡ Ok c.in_ok-window.window = search rules in
     let b =
-    both a.w a.sent a.received a.rand x (length a.pile.now) c.step_code-c.ensures c.request_now-q.ensures
-    c.key_of-key.ensures c.check_signed-checked.ensures.value c.if-c-ne0.false c.in-Valid.is in
+    both w e.sent e.received e.rand x (length pile) refl c.request_now-q.ensures c.key_of-key.ensures passing z given in
     let m = c.accept.ensures in
     let t =
-    took-as a.w (own_heard a.w a.sent a.received a.rand x) x a.pile.now c.accept.result b
+    took-as w (own_heard w e.sent e.received e.rand x) x pile (Ok c.accept.result.said) c.accept.result.walk b
     (m.said_value, (m.takes, (m.walk_value, m.pile_after))) in
     record { said_value = t.0; takes = t.1.0; walk_value = t.1.1.0; pile_after = t.1.1.1 }

@@ -1,20 +1,17 @@
+-- wire_message/proofs/frame/length_bad/Answers.antt
 -- `wire_message::frame::length_bad` meets its contract. The two tests of a length.
 use native.Mathlib.Omega.{arith}
-use mathlib.Core.Path.{sym}
 use mathlib.Core.Bool.{or-false}
 use borrow.Author.Tests.{lt-ltb, le-ltb}
 use lib.ListN.{length}
-use Rattle.laws.proofs.Any.{any_here}
 use Rattle.laws.specs.Any.{any}
 use Rattle.wire_message.specs.Frame.{length_bad}
 use Rattle.wire_message.proofs.frame.length_bad.Goals as goal
 
 pub returns-then-m-lt4 : goal.returns-then-m-lt4
-unfolding length_bad
-returns-then-m-lt4 c =
-    sym (any_here _ (lt-ltb (length c.args.m.now) 4 (omega arith)))
-
-pub returns : goal.returns
 unfolding length_bad any
-returns c =
-    simp (le-ltb (length c.args.m.now) 4 (omega arith), or-false)
+returns-then-m-lt4 c = rw (lt-ltb (length c.args.m.now) 4 (omega arith))
+
+pub returns-else-m-lt4 : goal.returns-else-m-lt4
+unfolding length_bad any
+returns-else-m-lt4 c = simp (le-ltb (length c.args.m.now) 4 (omega arith), or-false)

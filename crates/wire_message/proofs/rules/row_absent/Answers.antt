@@ -1,13 +1,11 @@
--- `wire_message::rules::row_absent` meets its contract. From what its callees ensure.
-use borrow.Author.Tests.{eq-eqb, ne_eqb}
+-- `wire_message::rules::row_absent` meets its contract. From what its callee ensures.
 use Rattle.wire_message.specs.Rules.{absent}
-use borrow.Author.Rules.{rules}
 use Rattle.wire_message.proofs.rules.row_absent.Goals as goal
 
-pub returns-then-needed-eq-MAY : goal.returns-then-needed-eq-MAY
+pub returns-then-row : goal.returns-then-row
 unfolding absent
-returns-then-needed-eq-MAY c = rw (eq-eqb _ _ c.if-needed-eq-MAY.true)
+returns-then-row c = rw (c.if-row.true, c.has_tag.ensures)
 
-pub returns : goal.returns
+pub returns-else-row : goal.returns-else-row
 unfolding absent
-returns c = rw (ne_eqb _ _ c.if-needed-eq-MAY.false, c.has_tag.ensures)
+returns-else-row c = rw c.if-row.false

@@ -1,42 +1,23 @@
--- `wire_message::rules::value_bad` meets its contract. From what its callees ensure.
-use borrow.Author.Tests.{eq-eqb, ne_eqb}
-use Rattle.wire_message.specs.Numbered.{rule_in}
+-- `wire_message::rules::value_bad` meets its contract: an arm for each rule.
 use Rattle.wire_message.specs.Rules.{value_bad}
-use borrow.Author.Rules.{rules}
 use Rattle.wire_message.proofs.rules.value_bad.Goals as goal
 
-pub returns-then-rule-eq-VERSIONS : goal.returns-then-rule-eq-VERSIONS
-unfolding rule_in value_bad
-returns-then-rule-eq-VERSIONS c =
-    simp (eq-eqb _ _ c.if-rule-eq-VERSIONS.true) c.versions_bad.ensures
+pub returns-in-Length : goal.returns-in-Length
+unfolding value_bad
+returns-in-Length c = rw c.in-Length.is
 
-pub returns-then-rule-eq-SIBLINGS : goal.returns-then-rule-eq-SIBLINGS
-unfolding rule_in value_bad
-returns-then-rule-eq-SIBLINGS c =
-    simp (ne_eqb _ _ c.if-rule-eq-VERSIONS.false, eq-eqb _ _ c.if-rule-eq-SIBLINGS.true) c.siblings_bad.ensures
+pub returns-in-Nonzero : goal.returns-in-Nonzero
+unfolding value_bad
+returns-in-Nonzero c = rw c.in-Nonzero.is c.nonzero_bad.ensures
 
-pub returns-then-rule-eq-MESSAGE : goal.returns-then-rule-eq-MESSAGE
-unfolding rule_in value_bad
-returns-then-rule-eq-MESSAGE c =
-    simp (ne_eqb _ _ c.if-rule-eq-VERSIONS.false, ne_eqb _ _ c.if-rule-eq-SIBLINGS.false, eq-eqb _ _ c.if-rule-eq-MESSAGE.true)
+pub returns-in-Versions : goal.returns-in-Versions
+unfolding value_bad
+returns-in-Versions c = rw c.in-Versions.is c.versions_bad.ensures
 
-pub returns-then-rule-eq-NONZERO : goal.returns-then-rule-eq-NONZERO
-unfolding rule_in value_bad
-returns-then-rule-eq-NONZERO c =
-    simp (
-      ne_eqb _ _ c.if-rule-eq-VERSIONS.false,
-      ne_eqb _ _ c.if-rule-eq-SIBLINGS.false,
-      ne_eqb _ _ c.if-rule-eq-MESSAGE.false,
-      eq-eqb _ _ c.if-rule-eq-NONZERO.true,
-    )
-    c.nonzero_bad.ensures
+pub returns-in-Siblings : goal.returns-in-Siblings
+unfolding value_bad
+returns-in-Siblings c = rw c.in-Siblings.is c.siblings_bad.ensures
 
-pub returns : goal.returns
-unfolding rule_in value_bad
-returns c =
-    simp (
-      ne_eqb _ _ c.if-rule-eq-VERSIONS.false,
-      ne_eqb _ _ c.if-rule-eq-SIBLINGS.false,
-      ne_eqb _ _ c.if-rule-eq-MESSAGE.false,
-      ne_eqb _ _ c.if-rule-eq-NONZERO.false,
-    )
+pub returns-in-Message : goal.returns-in-Message
+unfolding value_bad
+returns-in-Message c = rw c.in-Message.is

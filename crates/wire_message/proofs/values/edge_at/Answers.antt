@@ -3,7 +3,6 @@ use native.Mathlib.Omega.{arith}
 use mathlib.Core.Path.{◌≡◌}
 use Rattle.wire_message.proofs.Edges.{offset_word, edge-first, edge-inner, edge-last}
 use Rattle.wire_message.specs.Frame.{count}
-use borrow.Author.Rules.{rules}
 use Rattle.wire_message.proofs.values.edge_at.Goals as goal
 
 pub returns-then-k-eq0 : goal.returns-then-k-eq0

@@ -1,6 +1,5 @@
 -- `wire_message::values::has_tag` meets its contract. The tag stands below the count.
 use Rattle.wire_message.specs.Values.{has}
-use borrow.Author.Rules.{rules}
 use Rattle.wire_message.proofs.values.has_tag.Goals as goal
 
 pub returns : goal.returns

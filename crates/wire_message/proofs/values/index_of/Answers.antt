@@ -1,32 +1,22 @@
--- `wire_message::values::index_of` meets its contract. The scan has not met the tag below k.
+-- `wire_message::values::index_of` meets its contract: `position` answers the first place at which the tag stands.
+use mathlib.Core.Path.{refl, ap, ◌∙◌}
 use native.Mathlib.Omega.{arith}
-use Prim.Native.Nat.{◌-◌, ◌≤◌}
-use mathlib.Core.Path.{◌≡◌}
-use borrow.Author.Tests.{eq-eqb, ne_eqb}
-use Rattle.laws.proofs.Least.{least_zero, least_more, least-found, least-end}
-use Rattle.laws.specs.Least.{least}
-use Rattle.wire_message.specs.Frame.{tag_at}
-use Rattle.wire_message.specs.Values.{is_tag, index_of}
 use borrow.Author.Rules.{rules}
+use borrow.Author.Tests.{tests}
+use Rattle.std.proofs.lemmas.Iterator.{YieldsList-from_range}
+use Rattle.std.proofs.lemmas.Iterator.Search.{position_from_yields_List}
+use Rattle.std.specs.Option.{unwrap_or}
+use Rattle.laws.specs.Least.{least}
+use Rattle.laws.proofs.Ranges.{range_least}
+use Rattle.wire_message.specs.Values.{is_tag, index_of}
 use Rattle.wire_message.proofs.values.index_of.Goals as goal
-
-pub loop-k-init : goal.loop-k-init
-loop-k-init c = search (least_zero, rules)
-
-pub returns-then-tag_at-tag : goal.returns-then-tag_at-tag
-unfolding index_of
-returns-then-tag_at-tag c =
-    let a = c.args in
-    let l = c.loop-k in
-    least-found _ l.k _ l.invariant.1 (eq-eqb (tag_at a.m.now l.k) a.tag (omega arith)) (omega arith)
-
-pub loop-k-preserved : goal.loop-k-preserved
-loop-k-preserved c =
-    let a = c.args in
-    let l = c.loop-k in
-    (omega arith, least_more _ l.k l.invariant.1 (ne_eqb (tag_at a.m.now l.k) a.tag (omega arith)))
 
 pub returns : goal.returns
 unfolding index_of
 returns c =
-    least-end _ c.loop-k.k _ c.loop-k.invariant.1 (omega arith) (omega arith)
+    let test = is_tag c.args.m.now c.args.tag in
+    let n = c.le32-n.result in
+    let found =
+    position_from_yields_List test _ _ c.position.result c.position.ensures.ran
+    (YieldsList-from_range 0 n n refl (omega arith)) (λ x b q k. search (rules, tests)) in
+    c.unwrap_or.ensures ∙ ap (λ o. unwrap_or o n) found ∙ range_least test n ∙ ap (least test) c.le32-n.ensures

@@ -1,5 +1,4 @@
 -- `wire_message::values::tag_at` meets its contract. N is the count.
-use borrow.Author.Rules.{rules}
 use Rattle.wire_message.proofs.values.tag_at.Goals as goal
 
 pub returns : goal.returns

@@ -1,35 +1,29 @@
--- `wire_packet::fields::lacks` meets its contract. The scan has not met the version below k.
-use Prim.Native.Nat.{◌*◌, ◌-◌, ◌/◌, ◌≤◌}
-use native.Mathlib.Omega.{arith}
-use mathlib.Core.Path.{◌≡◌, sym, ap}
-use mathlib.Core.Bool.{not}
+-- wire_packet/proofs/fields/lacks/Answers.antt
+-- `wire_packet::fields::lacks` meets its contract.
+use Prim.Native.Nat.{ℕ, ◌/◌}
+use lib.Dec.{eqb}
 use lib.ListN.{length}
-use borrow.Author.Tests.{eq-eqb, ne_eqb}
-use Rattle.laws.specs.Least.{least}
-use Rattle.laws.specs.Numbers.{le}
-use Rattle.laws.proofs.Least.{least_zero, least_more, somewhere-found, somewhere-none}
-use Rattle.wire_packet.specs.Versions.{is_version, lacks_version}
+use mathlib.Core.Bool.{Bool, not}
+use mathlib.Core.List.{List}
+use mathlib.Core.Path.{ap, ◌∙◌}
+use mir.Syntax.{w32}
 use borrow.Author.Rules.{rules}
+use borrow.Author.Tests.{tests}
+use Rattle.std.specs.Int.{from_le_bytes}
+use Rattle.std.specs.Simd.{first_chunks}
+use Rattle.std.proofs.lemmas.Iterator.{YieldsList-from_slice}
+use Rattle.std.proofs.lemmas.Iterator.Search.{any_from_yields_List}
+use Rattle.wire_message.proofs.Scans.{words_somewhere}
+use Rattle.wire_packet.specs.Versions.{lacks_version}
 use Rattle.wire_packet.proofs.fields.lacks.Goals as goal
-
-pub loop-k-init : goal.loop-k-init
-loop-k-init c = search (least_zero, rules)
-
-pub returns-then-le32-x : goal.returns-then-le32-x
-unfolding lacks_version
-returns-then-le32-x c =
-    let a = c.args in
-    let l = c.loop-k in
-    ap not (sym (somewhere-found _ l.k _ l.invariant.1 (eq-eqb (le 4 a.v.now (4 * l.k)) a.x (omega arith))
-    (omega arith)))
-
-pub loop-k-preserved : goal.loop-k-preserved
-loop-k-preserved c =
-    let a = c.args in
-    let l = c.loop-k in
-    (omega arith, least_more _ l.k l.invariant.1 (ne_eqb (le 4 a.v.now (4 * l.k)) a.x (omega arith)))
 
 pub returns : goal.returns
 unfolding lacks_version
 returns c =
-    ap not (sym (somewhere-none _ c.loop-k.k _ c.loop-k.invariant.1 (omega arith) (omega arith)))
+    let v = c.args.v.now in
+    let n = length v / 4 in
+    let test : List ℕ → Bool = λ w. eqb (from_le_bytes w32 w) c.args.x in
+    ap not
+    (any_from_yields_List test _ _ c.any.result c.any.ensures.ran (YieldsList-from_slice (first_chunks 4 n v) cc)
+    (λ x b q k. search (rules, tests))
+    ∙ words_somewhere (λ y. eqb y c.args.x) v n)

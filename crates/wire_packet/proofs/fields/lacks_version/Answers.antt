@@ -1,5 +1,4 @@
 -- `wire_packet::fields::lacks_version` meets its contract.
-use borrow.Author.Rules.{rules}
 use Rattle.wire_packet.proofs.fields.lacks_version.Goals as goal
 
 pub returns : goal.returns

@@ -1,6 +1,5 @@
 -- `wire_packet::fields::number32` meets its contract.
 use native.Mathlib.Omega.{arith}
-use borrow.Author.Rules.{rules}
 use Rattle.wire_packet.proofs.fields.number32.Goals as goal
 
 pub le32-requires : goal.le32-requires

@@ -1,6 +1,5 @@
 -- `wire_packet::fields::number64` meets its contract.
 use native.Mathlib.Omega.{arith}
-use borrow.Author.Rules.{rules}
 use Rattle.wire_packet.proofs.fields.number64.Goals as goal
 
 pub le64-requires : goal.le64-requires

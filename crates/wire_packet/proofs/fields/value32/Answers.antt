@@ -4,7 +4,6 @@ use native.Mathlib.Omega.{arith}
 use lib.ListN.{take}
 use lib.Seq.{take_all}
 use Rattle.wire_message.specs.Values.{value_of}
-use borrow.Author.Rules.{rules}
 use Rattle.wire_packet.proofs.fields.value32.Goals as goal
 
 pub copy32-requires : goal.copy32-requires

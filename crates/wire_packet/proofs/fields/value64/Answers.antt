@@ -3,7 +3,6 @@ use mathlib.Core.Path.{ap, ◌∙◌}
 use native.Mathlib.Omega.{arith}
 use lib.ListN.{length, replicate}
 use Rattle.laws.proofs.Pasted.{pasted-end}
-use borrow.Author.Rules.{rules}
 use Rattle.wire_packet.proofs.fields.value64.Goals as goal
 
 pub put-requires : goal.put-requires

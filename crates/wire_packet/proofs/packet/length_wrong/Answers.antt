@@ -1,6 +1,5 @@
 -- `wire_packet::packet::length_wrong` meets its contract.
 use Rattle.wire_packet.specs.Packet.{length_wrong}
-use borrow.Author.Rules.{rules}
 use Rattle.wire_packet.proofs.packet.length_wrong.Goals as goal
 
 pub returns : goal.returns

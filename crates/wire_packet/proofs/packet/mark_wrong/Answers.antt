@@ -2,7 +2,6 @@
 use native.Mathlib.Omega.{arith}
 use lib.ListN.{length-take}
 use Rattle.wire_packet.specs.Packet.{mark_wrong}
-use borrow.Author.Rules.{rules}
 use Rattle.wire_packet.proofs.packet.mark_wrong.Goals as goal
 
 pub slice_bounds-equal-end : goal.slice_bounds-equal-end

@@ -1,7 +1,6 @@
 -- `wire_packet::responses::good_response` meets its contract.
 use native.Mathlib.Omega.{arith}
 use Rattle.wire_packet.specs.Response.{response_in}
-use borrow.Author.Rules.{rules}
 use Rattle.wire_packet.proofs.responses.good_response.Goals as goal
 
 pub number64-midp-requires : goal.number64-midp-requires

@@ -1,33 +1,29 @@
+-- wire_packet/proofs/responses/read_response/Answers.antt
 -- `wire_packet::responses::read_response` meets its contract.
-use mathlib.Core.Path.{sym, ap, ◌∙◌}
-use borrow.Author.Tests.{eq-eqb, ne_eqb}
-use Rattle.laws.proofs.First.{quiet_of}
-use Rattle.refusal.specs.Refusal.{refusals}
-use Rattle.wire_packet.specs.Response.{response_code, no_response, response_in, response_of}
+use Rattle.std.specs.Prelude.{Err}
+use mathlib.Core.Path.{◌≡◌, refl, ap, ◌∙◌}
+use Rattle.refusal.proofs.Passing.{goes-on, answers-value, answers-refusal}
+use Rattle.wire_packet.specs.Response.{response_in, response_of}
 use Rattle.wire_packet.proofs.ResponseCodes.{response-body}
 use borrow.Author.Rules.{rules}
 use Rattle.wire_packet.proofs.responses.read_response.Goals as goal
 
-pub returns-then-c-ne0 : goal.returns-then-c-ne0
+pub returns-in_err-response_code : goal.returns-in_err-response_code
 unfolding response_of
-returns-then-c-ne0 c =
-    let e = c.response_code-c.ensures in
-    rw (ne_eqb (response_code c.args.p.now).code 0
-    (λ q. c.if-c-ne0.true (quiet_of refusals (sym e) q)))
-    (c.refused_response.ensures ∙ ap no_response e)
+returns-in_err-response_code c =
+    let e = c.in_err-response_code.field-0.0 in
+    let told : c.response_code.result ≡ Err e = search rules in
+    let handed : c.from_residual.result ≡ Err e = search rules in
+    rw handed (answers-refusal _ _ c.response_code.ensures told)
 
 pub body_of-requires : goal.body_of-requires
-body_of-requires c =
-    (response-body _ _ c.response_code-c.ensures c.if-c-ne0.false).0
+body_of-requires c = (response-body _ _ refl (goes-on _ c.response_code.ensures (search rules))).0
 
 pub good_response-requires : goal.good_response-requires
 good_response-requires c =
-    rw c.body_of.ensures
-    (response-body _ _ c.response_code-c.ensures c.if-c-ne0.false).1
+    rw c.body_of.ensures (response-body _ _ refl (goes-on _ c.response_code.ensures (search rules))).1
 
 pub returns : goal.returns
 unfolding response_of
 returns c =
-    rw (eq-eqb (response_code c.args.p.now).code 0
-    (quiet_of refusals c.response_code-c.ensures c.if-c-ne0.false))
-    (c.good_response.ensures ∙ ap response_in c.body_of.ensures)
+    answers-value _ c.response_code.ensures (search rules) (c.good_response.ensures ∙ ap response_in c.body_of.ensures)

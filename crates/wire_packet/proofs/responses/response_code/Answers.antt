@@ -1,33 +1,39 @@
--- `wire_packet::responses::response_code` meets its contract. Each return is the first refusal of the row.
-use mathlib.Core.Path.{ap, ◌∙◌}
+-- wire_packet/proofs/responses/response_code/Answers.antt
+-- `wire_packet::responses::response_code` meets its contract. A place in the message is one in the packet.
+use Rattle.std.specs.Prelude.{Err}
+use Prim.Native.Nat.{ℕ, ◌+◌, ◌^◌, ◌<◌}
+use mathlib.Core.Path.{◌≡◌, refl}
 use native.Mathlib.Omega.{arith}
-use Rattle.laws.proofs.First.{says-0, says-more, is_last}
-use Rattle.refusal.specs.Refusal.{shifted, refusals}
+use Rattle.refusal.specs.Refusal.{passes, shifted}
+use Rattle.refusal.specs.declared.Refusal.{Refusal}
+use Rattle.refusal.proofs.Passing.{Answer, refused-by, shifted-answer}
+use Rattle.wire_packet.specs.Packet.{packet_code, body_start, body}
 use Rattle.wire_packet.specs.Response.{response_message_code, response_code}
-use Rattle.wire_packet.specs.Packet.{body_start}
-use Rattle.wire_packet.proofs.PlacesIn.{response-in, body-fits}
-use Rattle.wire_packet.proofs.RequestCodes.{packet-long}
+use Rattle.wire_packet.proofs.PlacesIn.{response-in, told-fits}
+use Rattle.wire_packet.proofs.RequestCodes.{packet-long, message-answers}
 use borrow.Author.Rules.{rules}
 use Rattle.wire_packet.proofs.responses.response_code.Goals as goal
 
-pub returns-then-c-ne0 : goal.returns-then-c-ne0
+pub returns-in_err-message_in : goal.returns-in_err-message_in
 unfolding response_code
-returns-then-c-ne0 c = says-more refusals _ c.packet_code-c.ensures c.if-c-ne0.true
+returns-in_err-message_in c =
+    let e = c.in_err-message_in.field-0.0 in
+    let told : ◌≡◌ {A = Answer} (Err e) (passes (packet_code c.args.p.now)) = search rules in
+    let handed : c.from_residual.result ≡ Err e = search rules in
+    rw handed (refused-by _ _ told refl)
 
-pub body_of-requires : goal.body_of-requires
-body_of-requires c = search (packet-long, rules)
-
-pub shifted-requires : goal.shifted-requires
-shifted-requires c =
+pub map_err-requires : goal.map_err-requires
+map_err-requires c =
     let p = c.args.p.now in
-    let long = packet-long p _ c.packet_code-c.ensures c.if-c-ne0.false in
-    let fits = body-fits response_message_code response-in p long c.response_message_code-r.ensures in
-    omega (arith, fits c.body_of.ensures)
+    let good : ((packet_code p).code ≡ 0) × (c.in_ok-message_in.field-0.now ≡ body p) = search rules in
+    let fits : (e : Refusal) → c.response_message_code.result ≡ Err e → e.at + body_start < 2 ^ 64 =
+    λ e h. omega (arith, told-fits response_message_code response-in p (packet-long p _ refl good.0) c.response_message_code.ensures good.1 e h) in
+    search (fits, rules)
 
 pub returns : goal.returns
 unfolding response_code
 returns c =
-    says-0 refusals _ _ c.packet_code-c.ensures c.if-c-ne0.false
-    (is_last refusals
-    (c.shifted.ensures
-    ∙ ap (shifted body_start) (c.response_message_code-r.ensures ∙ ap response_message_code c.body_of.ensures)))
+    let p = c.args.p.now in
+    let good : ((packet_code p).code ≡ 0) × (c.in_ok-message_in.field-0.now ≡ body p) = search rules in
+    message-answers response_message_code p good.0 good.1
+    (shifted-answer body_start _ _ c.response_message_code.ensures c.map_err.ensures.cases (λ x y h q. search rules))

@@ -13,7 +13,6 @@ use Rattle.wire_request.proofs.Answered.{writer-short, writer-done}
 use Rattle.wire_request.proofs.RequestPieces.{head, request-is, length-request}
 use Rattle.refusal.specs.Refusal.{passed}
 use Rattle.wire_request.specs.Request.{request_bytes}
-use borrow.Author.Rules.{rules}
 use Rattle.wire_request.proofs.request.write_request.Goals as goal
 
 pub returns-then-out-lt1036 : goal.returns-then-out-lt1036

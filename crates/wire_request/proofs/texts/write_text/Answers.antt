@@ -7,7 +7,6 @@ use lib.ListN.{length, length-append}
 use Rattle.laws.proofs.Written.{puts_one, puts-put}
 use Rattle.wire_request.proofs.Answered.{writer-short, writer-done}
 use Rattle.refusal.specs.Refusal.{passed}
-use borrow.Author.Rules.{rules}
 use Rattle.wire_request.proofs.texts.write_text.Goals as goal
 
 pub returns-then-out-n : goal.returns-then-out-n

@@ -1,5 +1,0 @@
-use borrow.Author.Rules.{rules}
-use Rattle.base64_strict.proofs.encoding.encode_two.Goals as goal
-
-pub returns : goal.returns
-returns c = cc

@@ -1,7 +1,0 @@
-use mathlib.Core.Path.{refl}
-use Rattle.json_strings.specs.Sizes.{is_tail}
-use Rattle.json_strings.proofs.wides.is_tail.Goals as goal
-
-pub returns : goal.returns
-unfolding is_tail
-returns c = refl

@@ -1,9 +1,0 @@
--- `octets::numbers::le64_bytes` meets its contract.
-use mathlib.Core.Path.{refl}
-use Rattle.laws.specs.Numbers.{le_bytes}
-use borrow.Author.Rules.{rules}
-use Rattle.octets.proofs.numbers.le64_bytes.Goals as goal
-
-pub returns : goal.returns
-unfolding le_bytes
-returns c = refl

@@ -1,9 +1,0 @@
--- `wire_packet::shape::root_code` meets its contract. The numbers that the code hands over are the rows of the table.
-use Rattle.laws.specs.Upto.{upto}
-use Rattle.wire_message.specs.Numbered.{rule_in, rows_in}
-use borrow.Author.Rules.{rules}
-use Rattle.wire_packet.proofs.shape.root_code.Goals as goal
-
-pub returns : goal.returns
-unfolding upto rule_in rows_in
-returns c = c.message_code.ensures
